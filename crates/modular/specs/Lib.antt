@@ -1,0 +1,4 @@
+pub mod Prime
+pub mod Modulo
+pub mod Canonical
+pub mod Examples

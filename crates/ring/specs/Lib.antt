@@ -1,0 +1,4 @@
+pub mod Ring
+pub mod Solver
+pub mod Identity
+pub mod Trial

@@ -1,0 +1,1 @@
+// Commutative rings: definitions and laws, in specs/. No code.
