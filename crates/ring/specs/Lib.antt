@@ -1,4 +1,6 @@
 pub mod Ring
 pub mod Solver
 pub mod Identity
-pub mod Trial
+pub mod Combination
+pub mod Sum
+pub mod Examples

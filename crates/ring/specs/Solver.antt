@@ -22,14 +22,6 @@ pub data Ex : Type 0 where
   _:-_ : Ex → Ex → Ex
   :-_ : Ex → Ex
 
-infix 50 _:=_
-pub record Eq : Type 0 where
-  pub lhs : Ex
-  pub rhs : Ex
-
-abbrev pub _:=_ : Ex → Ex → Eq
-a := b = record { lhs = a; rhs = b }
-
 -- ---- normal forms: the integer p - n, or p + x·q with p over the variables after x and q over x and those after it
 pub data H : Type 0 where
   k : ℕ → ℕ → H
@@ -265,10 +257,3 @@ module _ {A : Type 0} (R : Ring A) where
 
   pub solve : (ρ : List A) (a b : Ex) → norm a ≡ norm b → ev ρ a ≡ ev ρ b
   solve ρ a b e = sym (norm-ok a ρ) ∙ ap (λ n. evH n ρ) e ∙ norm-ok b ρ
-
-  -- a goal l ≡ r from hypotheses, as a linear combination of them: the last argument is a ring identity, for ringN
-  pub by1 : (l r : A) {p q : A} (u : A) (e : p ≡ q) → l + u * q ≡ r + u * p → l ≡ r
-  by1 l r {p} {q} u e f = add-cancel R l r (u * q) (f ∙ ap (λ x. r + u * x) e)
-
-  pub by2 : (l r : A) {p q p′ q′ : A} (u : A) (e : p ≡ q) (u′ : A) (e′ : p′ ≡ q′) → l + (u * q + u′ * q′) ≡ r + (u * p + u′ * p′) → l ≡ r
-  by2 l r {p} {q} {p′} {q′} u e u′ e′ f = add-cancel R l r (u * q + u′ * q′) (f ∙ ap₂ (λ x y. r + (u * x + u′ * y)) e e′)

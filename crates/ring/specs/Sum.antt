@@ -1,0 +1,85 @@
+-- Finite sums in a commutative ring, over the indices below n. Vectors are functions of ℕ and matrices functions of two numbers,
+-- with the bounds apart.
+use Prim.Native.Nat.{ℕ, zero, suc, _<_}
+use mathlib.Core.Path.{_≡_, refl, sym, _∙_, ap, ap₂}
+use mathlib.Core.List.{List, [], _∷_}
+use native.Mathlib.Omega.{arith}
+use native.Mathlib.Decide.{ℕ-discrete}
+use Rattle.ring.specs.Ring.{Ring, zero-add, mul-zero, add-add-add-comm, neg-zero, neg-add-distrib}
+
+module _ {A : Type 0} (R : Ring A) where
+  open Ring R using (add as _+_, mul as _*_, neg as -_, zero as 𝟘, add-zero, mul-comm, mul-assoc, mul-add)
+
+  infixl 65 _+_
+  infixl 70 _*_
+  infix 75 -_
+  -- f 0 + .. + f (n - 1)
+  unfoldable pub sum : ℕ → (ℕ → A) → A
+  sum zero f = 𝟘
+  sum (suc n) f = sum n f + f n
+
+  -- equal terms, equal sums
+  pub sum-ext : (n : ℕ) (f g : ℕ → A) → ((i : ℕ) → i < n → f i ≡ g i) → sum n f ≡ sum n g
+  unfolding sum
+  sum-ext zero f g e = refl
+  sum-ext (suc n) f g e = ap₂ _+_ (sum-ext n f g (λ i h. e i (omega arith))) (e n (omega arith))
+
+  pub sum-zero : (n : ℕ) → sum n (λ i. 𝟘) ≡ 𝟘
+  unfolding sum
+  sum-zero zero = refl
+  sum-zero (suc n) = add-zero (sum n (λ i. 𝟘)) ∙ sum-zero n
+
+  -- all terms zero
+  pub sum-none : (n : ℕ) (f : ℕ → A) → ((i : ℕ) → i < n → f i ≡ 𝟘) → sum n f ≡ 𝟘
+  sum-none n f e = sum-ext n f (λ i. 𝟘) e ∙ sum-zero n
+
+  pub sum-add : (n : ℕ) (f g : ℕ → A) → sum n (λ i. f i + g i) ≡ sum n f + sum n g
+  unfolding sum
+  sum-add zero f g = sym (add-zero 𝟘)
+  sum-add (suc n) f g =
+      ap (λ x. x + (f n + g n)) (sum-add n f g) ∙ add-add-add-comm R (sum n f) (sum n g) (f n) (g n)
+
+  pub sum-neg : (n : ℕ) (f : ℕ → A) → sum n (λ i. - f i) ≡ - sum n f
+  unfolding sum
+  sum-neg zero f = sym (neg-zero R)
+  sum-neg (suc n) f = ap (λ x. x + (- f n)) (sum-neg n f) ∙ sym (neg-add-distrib R (sum n f) (f n))
+
+  -- a factor taken out, on the left and on the right
+  pub sum-mul : (n : ℕ) (c : A) (f : ℕ → A) → sum n (λ i. c * f i) ≡ c * sum n f
+  unfolding sum
+  sum-mul zero c f = sym (mul-zero R c)
+  sum-mul (suc n) c f = ap (λ x. x + c * f n) (sum-mul n c f) ∙ sym (mul-add c (sum n f) (f n))
+
+  pub mul-sum : (n : ℕ) (c : A) (f : ℕ → A) → sum n (λ i. f i * c) ≡ sum n f * c
+  mul-sum n c f =
+      sum-ext n (λ i. f i * c) (λ i. c * f i) (λ i h. mul-comm (f i) c) ∙ sum-mul n c f ∙ mul-comm c (sum n f)
+
+  -- two sums exchanged
+  pub sum-swap : (n m : ℕ) (f : ℕ → ℕ → A) → sum n (λ i. sum m (λ j. f i j)) ≡ sum m (λ j. sum n (λ i. f i j))
+  unfolding sum
+  sum-swap zero m f = sym (sum-zero m)
+  sum-swap (suc n) m f =
+      ap (λ x. x + sum m (f n)) (sum-swap n m f) ∙ sym (sum-add m (λ j. sum n (λ i. f i j)) (f n))
+
+  -- only the term at k is not zero
+  pub sum-single : (n k : ℕ) (f : ℕ → A) → k < n → ((i : ℕ) → i < n → ¬ (i ≡ k) → f i ≡ 𝟘) → sum n f ≡ f k
+  unfolding sum
+  sum-single zero k f h e = absurd (omega arith)
+  sum-single (suc n) k f h e = go (λ g. sum-single n k f g) (ℕ-discrete n k)
+    where
+      go : (k < n → ((i : ℕ) → i < n → ¬ (i ≡ k) → f i ≡ 𝟘) → sum n f ≡ f k) → Dec (n ≡ k) → sum n f + f n ≡ f k
+      go rec (yes q) = ap₂ _+_ (sum-none n f (λ i g. e i (omega arith) (omega arith))) (ap f q) ∙ zero-add R (f k)
+      go rec (no q) = ap₂ _+_ (rec (omega arith) (λ i g. e i (omega arith))) (e n (omega arith) q) ∙ add-zero (f k)
+
+  -- Z·(M·x) = (Z·M)·x for a row Z, a matrix M and a column x
+  pub sum-assoc : (n m : ℕ) (Z : ℕ → A) (M : ℕ → ℕ → A) (x : ℕ → A)
+      → sum n (λ i. Z i * sum m (λ j. M i j * x j)) ≡ sum m (λ j. sum n (λ i. Z i * M i j) * x j)
+  sum-assoc n m Z M x =
+      sum-ext n (λ i. Z i * sum m (λ j. M i j * x j)) (λ i. sum m (λ j. Z i * M i j * x j)) (λ i h. inward i)
+      ∙ sum-swap n m (λ i j. Z i * M i j * x j)
+      ∙ sum-ext m (λ j. sum n (λ i. Z i * M i j * x j)) (λ j. sum n (λ i. Z i * M i j) * x j) (λ j h. mul-sum n (x j) (λ i. Z i * M i j))
+    where
+      inward : (i : ℕ) → Z i * sum m (λ j. M i j * x j) ≡ sum m (λ j. Z i * M i j * x j)
+      inward i =
+          sym (sum-mul m (Z i) (λ j. M i j * x j))
+          ∙ sum-ext m (λ j. Z i * (M i j * x j)) (λ j. Z i * M i j * x j) (λ j k. sym (mul-assoc (Z i) (M i j) (x j)))
