@@ -4,6 +4,7 @@ use Prim.Native.Nat.{ℕ, zero, suc, _<_}
 use mathlib.Core.Path.{_≡_, refl, sym, _∙_, ap, ap₂}
 use mathlib.Core.List.{List, [], _∷_}
 use native.Mathlib.Omega.{arith}
+use mathlib.Core.Logic.{ite, if-pos, if-neg}
 use native.Mathlib.Decide.{ℕ-discrete}
 use Rattle.ring.specs.Ring.{Ring, zero-add, mul-zero, add-add-add-comm, neg-zero, neg-add-distrib}
 
@@ -70,6 +71,22 @@ module _ {A : Type 0} (R : Ring A) where
       go : (k < n → ((i : ℕ) → i < n → ¬ (i ≡ k) → f i ≡ 𝟘) → sum n f ≡ f k) → Dec (n ≡ k) → sum n f + f n ≡ f k
       go rec (yes q) = ap₂ _+_ (sum-none n f (λ i g. e i (omega arith) (omega arith))) (ap f q) ∙ zero-add R (f k)
       go rec (no q) = ap₂ _+_ (rec (omega arith) (λ i g. e i (omega arith))) (e n (omega arith) q) ∙ add-zero (f k)
+
+  -- one term taken out: what is left is the sum with zero in its place
+  abbrev pub without : ℕ → (ℕ → A) → ℕ → A
+  without k f i = ite (ℕ-discrete i k) 𝟘 (f i)
+
+  pub sum-out : (n k : ℕ) (f : ℕ → A) → k < n → sum n f ≡ f k + sum n (without k f)
+  sum-out n k f h =
+      sum-ext n f (λ i. only i + without k f i) (λ i g. split i (ℕ-discrete i k))
+      ∙ sum-add n only (without k f)
+      ∙ ap (λ x. x + sum n (without k f)) (sum-single n k only h (λ i g ne. if-neg (ℕ-discrete i k) ne (f i) 𝟘) ∙ if-pos (ℕ-discrete k k) refl (f k) 𝟘)
+    where
+      only : ℕ → A
+      only i = ite (ℕ-discrete i k) (f i) 𝟘
+      split : (i : ℕ) (d : Dec (i ≡ k)) → f i ≡ ite d (f i) 𝟘 + ite d 𝟘 (f i)
+      split i (yes e) = sym (add-zero (f i))
+      split i (no e) = sym (zero-add R (f i))
 
   -- Z·(M·x) = (Z·M)·x for a row Z, a matrix M and a column x
   pub sum-assoc : (n m : ℕ) (Z : ℕ → A) (M : ℕ → ℕ → A) (x : ℕ → A)
