@@ -84,6 +84,7 @@ module _ {A : Type 0} (R : Ring A) where
     where
       only : ℕ → A
       only i = ite (ℕ-discrete i k) (f i) 𝟘
+
       split : (i : ℕ) (d : Dec (i ≡ k)) → f i ≡ ite d (f i) 𝟘 + ite d 𝟘 (f i)
       split i (yes e) = sym (add-zero (f i))
       split i (no e) = sym (zero-add R (f i))
