@@ -1,0 +1,3 @@
+pub mod Barrett
+pub mod Descent
+pub mod Remainder

@@ -1,0 +1,4 @@
+pub mod Modulus
+pub mod Barrett
+pub mod Below
+pub mod Primality

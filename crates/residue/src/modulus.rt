@@ -1,0 +1,97 @@
+// Arithmetic of the numbers below a prime p, with the reciprocal of p computed once.
+ghost use mathlib.Core.Path.{_≡_};
+ghost use Prim.Native.Nat.{_+_, _*_, _%_, _<_, _≤_};
+ghost use Rattle.modular.specs.Prime.{Prime};
+ghost use Rattle.modular.specs.Modulo.{modulo};
+ghost use Rattle.residue.specs.Modulus.{ValidModulus};
+ghost use Rattle.residue.specs.Barrett.{BarrettStep};
+
+// A prime p of at most 65521, and 2^32 / p rounded down, with which a remainder by p takes multiplications only.
+pub struct Modulus {
+    pub p: u64,
+    pub reciprocal: u64,
+}
+
+impl Modulus {
+    // The modulus p, with its reciprocal.
+    pub fn new(p: u64) -> Modulus
+        requires { ⌜ Prime p × (p ≤ 65521) ⌝ }
+        ensures { λ r. ⌜ ValidModulus r × (r .p ≡ p) ⌝ }
+    {
+        Modulus {
+            p,
+            reciprocal: 4294967296 / p,
+        }
+    }
+
+    // a + b modulo p.
+    pub fn add(self, a: u64, b: u64) -> u64
+        requires { ⌜ ValidModulus self × (a < self .p) × (b < self .p) ⌝ }
+        ensures { λ r. ⌜ r ≡ modulo (self .p) .add a b ⌝ }
+    {
+        self.wrap(a + b)
+    }
+
+    // -a modulo p.
+    pub fn neg(self, a: u64) -> u64
+        requires { ⌜ ValidModulus self × (a < self .p) ⌝ }
+        ensures { λ r. ⌜ r ≡ modulo (self .p) .neg a ⌝ }
+    {
+        self.wrap(self.p - a)
+    }
+
+    // a - b modulo p.
+    pub fn sub(self, a: u64, b: u64) -> u64
+        requires { ⌜ ValidModulus self × (a < self .p) × (b < self .p) ⌝ }
+        ensures { λ r. ⌜ r ≡ modulo (self .p) .add a (modulo (self .p) .neg b) ⌝ }
+    {
+        self.wrap(a + (self.p - b))
+    }
+
+    // a b modulo p. By the reciprocal: three multiplications take half the time of `%`.
+    pub fn mul(self, a: u64, b: u64) -> u64
+        requires { ⌜ ValidModulus self × (a < self .p) × (b < self .p) ⌝ }
+        ensures { λ r. ⌜ r ≡ modulo (self .p) .mul a b ⌝ }
+    {
+        self.wrap(self.barrett_step(a * b))
+    }
+
+    // The inverse of a modulo p, by the descent of its definition: it is `factor` times the inverse of `rest` throughout.
+    pub fn inverse(self, a: u64) -> u64
+        requires { ⌜ ValidModulus self × (0 < a) × (a < self .p) ⌝ }
+        ensures { λ r. ⌜ r ≡ modulo (self .p) .inverse a ⌝ }
+    {
+        let p = self.p;
+        let mut factor = 1;
+        let mut rest = a;
+        while 1 < rest {
+            factor = self.mul(factor, p - p / rest);
+            rest = p % rest;
+        }
+        factor
+    }
+
+    // x modulo p, for x below 2^32 p: a sum of products that was left unreduced.
+    pub fn reduce(self, x: u64) -> u64
+        requires { ⌜ ValidModulus self × (x < 4294967296 * self .p) ⌝ }
+        ensures { λ r. ⌜ r ≡ x % self .p ⌝ }
+    {
+        self.wrap(self.barrett_step(self.barrett_step(x)))
+    }
+
+    // x modulo p, for x below 2p.
+    fn wrap(self, x: u64) -> u64
+        requires { ⌜ x < self .p + self .p ⌝ }
+        ensures { λ r. ⌜ r ≡ x % self .p ⌝ }
+    {
+        if x < self.p { x } else { x - self.p }
+    }
+
+    // x less a multiple of p, which the reciprocal estimates.
+    fn barrett_step(self, x: u64) -> u64
+        requires { ⌜ ValidModulus self × (x < 4294967296 * self .p) ⌝ }
+        ensures { λ r. ⌜ BarrettStep (self .p) x r ⌝ }
+    {
+        x - ((x * self.reciprocal) >> 32) * self.p
+    }
+}

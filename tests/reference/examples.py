@@ -1,0 +1,73 @@
+"""The eleven systems to try of document 01, as values, and the words that it prints for the first."""
+
+from words import Absence, Solution, System
+
+SYSTEM_1_WORDS = [0x10110002, 0x20000002, 0x30000000, 0x30000001, 0x20000001, 0x30000001, 0x40000007]
+CERTIFICATE_1_WORDS = [
+    0x50000001, 0x20000002, 0x30000000, 0x30000001, 0x20000001, 0x30000001,
+    0x20000002, 0x30000000, 0x30000001, 0x20000001, 0x30000001, 0x4000000C,
+]
+
+SYSTEM_1 = System(2, [[[0, 1]]], [[1]])
+SYSTEM_3 = System(2, [[[0, 1]], [[0, 1]]], [[1], []])
+WIDE = [[[0, 0, 1], [0, 1, 1]]]
+
+# Number of the case, system, certificate, and what the check says.
+CASES = [
+    (1, SYSTEM_1, Solution([0, 1], [[1]], [0, 1], [[1]]), "accepted"),
+    (2, System(2, [[[0, 1], [1, 1]]], [[1]]), Solution([1], [[1], [1]], [1], [[]]), "accepted"),
+    (3, SYSTEM_3, Absence([[1], [1]]), "accepted"),
+    (4, System(2, [[[]]], [[]]), Solution([1], [[]], [1], [[]]), "accepted"),
+    (5, System(2, [[[]]], [[1]]), Absence([[1]]), "accepted"),
+    (6, System(3, WIDE, [[0, 1]]), Solution([1], [[2], [1]], [1], [[]]), "accepted"),
+    (7, System(3, WIDE, [[1]]), Solution([0, 1], [[2], [1]], [0, 1], [[1]]), "accepted"),
+    (8, System(2, [[[0, 1], [1]], [[], [0, 1]]], [[], [1]]),
+     Solution([0, 0, 1], [[1], [0, 1]], [0, 0, 1], [[0, 1], [1]]), "accepted"),
+    (9, SYSTEM_1, Solution([0, 0, 1], [[0, 1]], [0, 1], [[1]]), "refused 34 at 0"),
+    (10, SYSTEM_1, Solution([0, 1], [[1]], [0, 0, 1], [[0, 1]]), "accepted"),
+]
+
+# The table's examples on certificates: system, certificate, and what the check says.
+TABLE_VERDICTS = [
+    (SYSTEM_1, Solution([], [[1]], [0, 1], [[1]]), "refused 31 at 0"),
+    (SYSTEM_1, Solution([0, 1], [[]], [0, 1], [[1]]), "refused 32 at 0"),
+    (SYSTEM_1, Solution([0, 1], [[1]], [0, 0, 1], [[1]]), "refused 33 at 0"),
+    (SYSTEM_3, Absence([[1], []]), "refused 35 at 0"),
+    (SYSTEM_3, Absence([[], []]), "refused 36 at 0"),
+]
+
+# The table's examples on the reading of systems: words, and what the reader says.
+TABLE_SYSTEMS = [
+    ([0x00110002], "refused 1 at 0"),
+    ([0x10110004], "refused 2 at 0"),
+    ([0x10010002], "refused 3 at 0"),
+    ([0x10110002], "refused 4 at 1"),
+    ([0x10110002, 0x30000001], "refused 5 at 1"),
+    ([0x10110002, 0x20000011], "refused 6 at 1"),
+    ([0x10110002, 0x20000001, 0x30000002], "refused 7 at 2"),
+    ([0x10110002, 0x20000001, 0x30000000], "refused 8 at 2"),
+    (SYSTEM_1_WORDS[:-1] + [0x40000008], "refused 9 at 6"),
+    ([], "refused 4 at 0"),
+]
+
+# The table's examples on the reading of certificates for system 1: words, and what the reader says.
+TABLE_CERTIFICATES = [
+    ([0x50000003], "refused 21 at 0"),
+    ([0x50000001], "refused 24 at 1"),
+    ([], "refused 24 at 0"),
+]
+
+
+def bounds():
+    """Case 11: words of systems at and just beyond each bound, and what the reader says."""
+    for p, says in [(65521, "read 65521 1 1"), (65535, "refused 2 at 0"), (1, "refused 2 at 0"), (0, "refused 2 at 0")]:
+        yield [0x10110000 | p, 0x20000000, 0x20000000, 0x40000004], says
+    yield [0x10180002] + [0x20000000] * 16 + [0x40000012], "read 2 8 1"
+    yield [0x10190002] + [0x20000000] * 18 + [0x40000014], "refused 3 at 0"
+    yield [0x10810002] + [0x20000000] * 9 + [0x4000000B], "read 2 1 8"
+    yield [0x10910002] + [0x20000000] * 10 + [0x4000000C], "refused 3 at 0"
+    for count, says in [(16, "read 2 1 1"), (17, "refused 6 at 1")]:
+        yield [0x10110002, 0x20000000 | count] + [0x30000001] * count + [0x20000000, 0x40000004 + count], says
+    for p in (2, 3, 257, 65521):
+        for a, says in [(p - 1, f"read {p} 1 1"), (p, "refused 7 at 2")]:
+            yield [0x10110000 | p, 0x20000001, 0x30000000 | a, 0x20000000, 0x40000005], says

@@ -1,0 +1,23 @@
+"""The lookup of one polynomial: document 01, "Turned back", the paragraph on the lookup."""
+
+from reading import walk_certificate, walk_system
+from words import Refusal
+
+IN_SYSTEM, IN_CERTIFICATE = 0, 1
+
+
+def look_up(system_words, certificate_words, side, number):
+    """The words of polynomial `number` of the side, from its start word to its last coefficient, or a refusal.
+
+    System and certificate are both read, whichever side is asked for; number 12 is tried after that.
+    """
+    system, system_walk = walk_system(system_words)
+    certificate_walk = walk_certificate(certificate_words, system)[1]
+    if side == IN_SYSTEM:
+        words, parts = system_words, system_walk.parts
+    else:
+        words, parts = certificate_words, certificate_walk.parts
+    if number >= len(parts):
+        raise Refusal(12, 0)
+    first, behind = parts[number]
+    return words[first:behind]

@@ -1,0 +1,75 @@
+"""The stored set `lookup`: a case is three lists, the words of a system, those of a certificate, and two more words: the side
+(0 system, 1 certificate) and the number of the polynomial. The answer is the words shown or a refusal."""
+
+import examples
+import words as form
+from cases import CaseSet
+from damage import damaged
+from draws import Draws
+from lookup import IN_CERTIFICATE, IN_SYSTEM
+from make_certificates import random_certificate
+from samples import STRUCTURES, prime
+from says import says_lookup
+from words import Absence, Solution, System
+from writing import write_certificate, write_system
+
+
+def add(cases, system_words, certificate_words, side, number):
+    """A case."""
+    line = says_lookup(system_words, certificate_words, side, number)
+    cases.add([system_words, certificate_words, [side, number]], line)
+
+
+def all_numbers(cases, system, certificate):
+    """Every polynomial of both sides, the first number that is none, and numbers far beyond."""
+    system_words, certificate_words = write_system(system), write_certificate(certificate, system)
+    for side, values in ((IN_SYSTEM, system), (IN_CERTIFICATE, certificate)):
+        count = len(values.polynomials())
+        for number in list(range(count + 1)) + [256, 65536, 0xFFFFFFFF]:
+            add(cases, system_words, certificate_words, side, number)
+
+
+def random_numbers(cases, draws):
+    """All shapes, one number each: of a polynomial, or sometimes just beyond the last."""
+    for k in range(240):
+        p, n, m = prime(draws), draws.between(1, 8), draws.between(1, 8)
+        system = draws.choose(STRUCTURES)(draws, p, n, m, draws.between(1, 3))
+        certificate = random_certificate(draws, system, draws.between(1, 5))
+        system_words, certificate_words = write_system(system), write_certificate(certificate, system)
+        side = draws.choose([IN_SYSTEM, IN_CERTIFICATE])
+        count = len((certificate if side else system).polynomials())
+        number = draws.between(0, count)
+        if k % 4 == 0:
+            certificate_words = damaged(draws, certificate_words, p, form.CERTIFICATE_LIMIT)
+        if k % 8 == 0:
+            system_words = damaged(draws, system_words, p, form.SYSTEM_LIMIT)
+        add(cases, system_words, certificate_words, side, number)
+
+
+def longest(cases):
+    """The first and last polynomials of the longest system and certificate."""
+    system = System(65521, [[list(range(1, 17))] * 8] * 8, [list(range(2, 18))] * 8)
+    f, g = list(range(1, 122)), list(range(3, 124))
+    certificate = Solution(f, [g] * 8, f, [g] * 8)
+    for side, number in ((IN_SYSTEM, 0), (IN_SYSTEM, 71), (IN_SYSTEM, 72), (IN_CERTIFICATE, 17), (IN_CERTIFICATE, 18)):
+        add(cases, write_system(system), write_certificate(certificate, system), side, number)
+
+
+def main():
+    """Make and store the set."""
+    cases, draws = CaseSet("lookup", 300), Draws(0x0D)
+    for number in (0, 1, 2, 7):
+        all_numbers(cases, *examples.CASES[number][1:3])
+    all_numbers(cases, System(3, [[[], [1]], [[0, 2], []]], [[], [1, 1, 1]]), Absence([[], [0, 0, 1]]))
+    add(cases, [], [], IN_SYSTEM, 0)
+    add(cases, examples.SYSTEM_1_WORDS, [], IN_SYSTEM, 0)
+    add(cases, examples.SYSTEM_1_WORDS, [], IN_SYSTEM, 2)
+    add(cases, examples.SYSTEM_1_WORDS[:-1], examples.CERTIFICATE_1_WORDS[:-1], IN_CERTIFICATE, 9)
+    random_numbers(cases, draws)
+    longest(cases)
+    cases.require([12], 20)
+    cases.store()
+
+
+if __name__ == "__main__":
+    main()

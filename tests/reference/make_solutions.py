@@ -1,0 +1,114 @@
+"""The stored set `solutions`: a case is one list, the bytes of a system's file; the answer is the report on one line.
+
+The lines of the report are joined by `; `. Every certificate behind an answer has passed the check, and its denominator agrees
+with the formula by minors.
+"""
+
+import examples
+import words as form
+from cases import CaseSet
+from check import check_words
+from damage import damaged
+from draws import Draws
+from minors import least_denominator
+from reading import read_certificate
+from report import report_on
+from samples import STRUCTURES, chain, common_factor, generic, low_rank, outside, powers_of_x, prime, shapes
+from says import says_report
+from searched import with_denominator
+from solve import solve_words
+from words import Absence, System, bytes_of_words
+from writing import write_system
+
+
+def add(cases, system):
+    """A case on a system, its answer found in two ways."""
+    words = write_system(system)
+    certificate_words = solve_words(words, form.LONGEST_CERTIFICATE)
+    check_words(words, certificate_words)
+    certificate = read_certificate(certificate_words, system)
+    if least_denominator(system) != (None if isinstance(certificate, Absence) else certificate.d):
+        raise SystemExit(f"two answers for {system}")
+    cases.add([words], "; ".join(report_on(certificate)))
+
+
+def add_bytes(cases, data):
+    """A case on bytes, mostly one that is refused."""
+    cases.add([data], says_report(data))
+
+
+def from_document(cases):
+    """The systems of the cases, and every example that is refused on reading."""
+    for _, system, _, _ in examples.CASES:
+        add(cases, system)
+    for words, _ in examples.TABLE_SYSTEMS + list(examples.bounds()):
+        add_bytes(cases, bytes_of_words(words))
+    add_bytes(cases, bytes(5))
+    add_bytes(cases, bytes(4908))
+
+
+def all_shapes(cases, draws):
+    """Every shape with every structure, and more with denominators."""
+    for n, m in shapes():
+        for structure in STRUCTURES:
+            add(cases, structure(draws, prime(draws), n, m, draws.between(1, 4)))
+        add(cases, with_denominator(draws, n, m, draws.between(2, 4)))
+        add(cases, with_denominator(draws, n, m, draws.between(3, 6)))
+
+
+def long_polynomials(cases, draws):
+    """Few rows and columns, polynomials up to degree 15."""
+    for k in range(120):
+        structure = [generic, low_rank, outside, common_factor, powers_of_x, low_rank][k % 6]
+        add(cases, structure(draws, prime(draws), draws.between(1, 3), draws.between(1, 4), draws.between(8, 16)))
+
+
+def largest(cases, draws):
+    """Eight rows or columns with polynomials up to degree 15."""
+    for p, structure, n, m in (
+        (2, generic, 8, 8), (65521, generic, 8, 8), (2, low_rank, 8, 8), (257, low_rank, 8, 8), (3, outside, 8, 8),
+        (5, common_factor, 8, 8), (2, generic, 8, 7), (2, generic, 7, 8), (257, common_factor, 6, 8), (2, powers_of_x, 8, 8),
+    ):
+        add(cases, structure(draws, p, n, m, 16))
+
+
+def chains(cases):
+    """Denominators that are powers of x up to degree 120, found only from all entries of y together."""
+    for n in range(1, 9):
+        for p, degree in ((2, 1), (3, 2), (257, 7), (65521, 15)):
+            add(cases, chain(p, n, degree))
+    add(cases, chain(2, 8, 15))
+
+
+def slips(cases):
+    """Where the first nonsingular columns give a larger denominator than all columns together (as in case 7)."""
+    for p in (3, 5, 65521):
+        add(cases, System(p, [[[0, 0, 1], [0, 1, 1], [1, 0, 1]]], [[1]]))
+        add(cases, System(p, [[[0, 0, 1], [0, 1, 1]], [[], [0, 1]]], [[1], [1]]))
+        add(cases, System(p, [[[0, 0, 1], [], [0, 1, 1]], [[], [0, 0, 1], [0, 1, 2]]], [[1], [1]]))
+        add(cases, System(p, [[[0, 0, 1], [0, 0, 0, 1], [0, 1]]], [[1]]))
+
+
+def refused(cases, draws):
+    """Damaged systems: the report says what the reader says."""
+    for _ in range(60):
+        p = prime(draws)
+        words = write_system(draws.choose(STRUCTURES)(draws, p, draws.between(1, 2), draws.between(1, 2), 2))
+        add_bytes(cases, bytes_of_words(damaged(draws, words, p, form.SYSTEM_LIMIT)))
+
+
+def main():
+    """Make and store the set."""
+    cases, draws = CaseSet("solutions", 500), Draws(0x0F)
+    from_document(cases)
+    all_shapes(cases, draws)
+    long_polynomials(cases, draws)
+    largest(cases, draws)
+    chains(cases)
+    slips(cases)
+    refused(cases, draws)
+    cases.store()
+
+
+if __name__ == "__main__":
+    main()

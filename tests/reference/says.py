@@ -1,0 +1,57 @@
+"""One line of text for what each call gives: the form of the expected lines of all stored sets."""
+
+from check import check_words
+from lookup import look_up
+from reading import read_both, read_system
+from report import report
+from words import Refusal, Solution, hexadecimal, words_of_file
+
+
+def answer(call, *values):
+    """The text that the call gives, or its refusal."""
+    try:
+        return call(*values)
+    except Refusal as refusal:
+        return str(refusal)
+
+
+def says_system(data):
+    """The reader on a system's bytes: `read P N M`."""
+    def call():
+        system = read_system(words_of_file(data))
+        return f"read {system.p} {system.rows()} {system.columns()}"
+    return answer(call)
+
+
+def says_certificate(system_words, certificate_words):
+    """The readers on a system and a certificate: `solution` or `absence`."""
+    def call():
+        certificate = read_both(system_words, certificate_words)[1]
+        return "solution" if isinstance(certificate, Solution) else "absence"
+    return answer(call)
+
+
+def says_lookup(system_words, certificate_words, side, number):
+    """The lookup: the words shown."""
+    return answer(lambda: hexadecimal(look_up(system_words, certificate_words, side, number)))
+
+
+def says_written(write, *values):
+    """A writer: `wrote COUNT` and the words."""
+    def call():
+        words = write(*values)
+        return f"wrote {len(words)} {hexadecimal(words)}"
+    return answer(call)
+
+
+def says_check(system_words, certificate_words):
+    """The check: `accepted`."""
+    def call():
+        check_words(system_words, certificate_words)
+        return "accepted"
+    return answer(call)
+
+
+def says_report(data):
+    """The report on a system's bytes, its lines joined."""
+    return "; ".join(report(data))

@@ -1,0 +1,161 @@
+"""Every example of document 01 against this implementation, and the laws that its arithmetic must keep.
+
+Prints how many held; stops at the first that does not.
+"""
+
+import examples
+import polynomial as poly
+import residue
+import words as form
+from check import check_values, check_words
+from draws import Draws
+from lookup import IN_SYSTEM
+from minors import least_denominator
+from reading import read_both
+from report import report
+from samples import STRUCTURES, exact, prime, up_to
+from says import answer, says_certificate, says_check, says_lookup, says_system, says_written
+from solve import solve, solve_words
+from words import Solution, bytes_of_words
+from writing import pairs, write_certificate, write_certificate_values, write_system, write_system_values
+
+held = 0
+
+
+def expect(found, wanted):
+    """Count an example that holds; stop at one that does not."""
+    global held
+    if found != wanted:
+        raise SystemExit(f"found {found!r}, expected {wanted!r}")
+    held += 1
+
+
+def cases():
+    """Cases 1 to 10: the check on the printed certificate, and kind and d from the solver where it is right."""
+    for _, system, certificate, says in examples.CASES:
+        system_words = write_system(system)
+        expect(says_check(system_words, write_certificate(certificate, system)), says)
+        if says == "accepted":
+            found = solve(system)
+            expect(type(found), type(certificate))
+            expect(check_words(system_words, write_certificate(found, system)), None)
+            wanted = certificate.d if isinstance(certificate, Solution) else None
+            expect(found.d if isinstance(found, Solution) else None, wanted)
+            expect(least_denominator(system), wanted)
+
+
+def printed_words():
+    """The words that document 01 prints for case 1, from the writers and back."""
+    _, system, certificate, _ = examples.CASES[0]
+    expect(write_system(system), examples.SYSTEM_1_WORDS)
+    expect(write_certificate(certificate, system), examples.CERTIFICATE_1_WORDS)
+    expect(says_certificate(examples.SYSTEM_1_WORDS, examples.CERTIFICATE_1_WORDS), "solution")
+
+
+def bounds():
+    """Case 11, and the lengths of the longest system and certificate."""
+    for words, says in examples.bounds():
+        expect(says_system(bytes_of_words(words)), says)
+    system = form.System(2, [[[1] * 16] * 8] * 8, [[1] * 16] * 8)
+    expect(len(write_system(system)), form.LONGEST_SYSTEM)
+    certificate = Solution([1] * 121, [[1] * 121] * 8, [1] * 121, [[1] * 121] * 8)
+    expect(len(write_certificate(certificate, system)), form.LONGEST_CERTIFICATE)
+
+
+def table():
+    """The examples of the table of refusals."""
+    for words, says in examples.TABLE_SYSTEMS:
+        expect(says_system(bytes_of_words(words)), says)
+    expect(says_system(bytes(5)), "refused 10 at 0")
+    expect(says_system(bytes(4908)), "refused 10 at 0")
+    expect(answer(solve_words, examples.SYSTEM_1_WORDS, 2197), "refused 11 at 0")
+    expect(len(solve_words(examples.SYSTEM_1_WORDS, 2198)), 12)
+    expect(says_lookup(examples.SYSTEM_1_WORDS, examples.CERTIFICATE_1_WORDS, IN_SYSTEM, 2), "refused 12 at 0")
+    expect(says_lookup(examples.SYSTEM_1_WORDS, examples.CERTIFICATE_1_WORDS, IN_SYSTEM, 1), "20000001 30000001")
+    for words, says in examples.TABLE_CERTIFICATES:
+        expect(says_certificate(examples.SYSTEM_1_WORDS, words), says)
+    for system, certificate, says in examples.TABLE_VERDICTS:
+        expect(says_check(write_system(system), write_certificate(certificate, system)), says)
+
+
+def writers():
+    """The writers' order of refusals: 2, 3, the first value at fault, and only then 11."""
+    one = pairs([[0, 1], [1]])
+    expect(says_written(write_system_values, 4, 9, 1, [], 0), "refused 2 at 0")
+    expect(says_written(write_system_values, 2, 9, 1, [], 0), "refused 3 at 0")
+    expect(says_written(write_system_values, 2, 1, 1, [(17, []), (1, [1])], 0), "refused 6 at 1")
+    expect(says_written(write_system_values, 2, 1, 1, pairs([[1], [0, 2]]), 0), "refused 7 at 5")
+    expect(says_written(write_system_values, 2, 1, 1, pairs([[1], [1, 0]]), 0), "refused 8 at 5")
+    expect(says_written(write_system_values, 2, 1, 1, one, 1225), "refused 11 at 0")
+    expect(says_written(write_system_values, 2, 1, 1, one, 1226)[:7], "wrote 7")
+    expect(says_written(write_certificate_values, form.ABSENCE, 2, 1, 1, [(122, [])], 0), "refused 26 at 1")
+    expect(says_written(write_certificate_values, form.ABSENCE, 2, 1, 1, [(1, [1])], 2197), "refused 11 at 0")
+    expect(says_written(write_certificate_values, form.ABSENCE, 2, 1, 1, [(1, [1])], 2198)[:7], "wrote 4")
+
+
+def whole_report():
+    """The report on case 1, whole."""
+    lines = ["answer solution", "denominator 0 1", "feedback 1"]
+    expect(report(bytes_of_words(examples.SYSTEM_1_WORDS)), lines)
+
+
+def primes():
+    """The primes of 16 bits, by a sieve."""
+    marked = [False, False] + [True] * 65534
+    for a in range(2, 256):
+        for b in range(2 * a, 65536, a):
+            marked[b] = False
+    expect([residue.is_prime(a) for a in range(65536)], marked)
+
+
+def packed(f):
+    """A polynomial as one large integer: its value at 2 to the 64th."""
+    return sum(a << 64 * i for i, a in enumerate(f))
+
+
+def unpacked(value, p):
+    """The polynomial whose coefficients are the 64-bit digits of an integer, modulo p."""
+    digits = []
+    while value:
+        digits.append(value % (1 << 64))
+        value >>= 64
+    return poly.canonical(digits, p)
+
+
+def arithmetic():
+    """Sums and products agree with those of large integers; quotient, remainder and gcd keep their laws."""
+    draws = Draws(0x5E1F)
+    for _ in range(200):
+        p = prime(draws)
+        f, g = up_to(draws, p, 40), exact(draws, p, draws.between(1, 30))
+        expect(poly.add(f, g, p), unpacked(packed(f) + packed(g), p))
+        expect(poly.multiply(f, g, p), unpacked(packed(f) * packed(g), p))
+        expect(poly.add(poly.subtract(f, g, p), g, p), f)
+        quotient, rest = poly.divide(f, g, p)
+        expect((poly.add(poly.multiply(quotient, g, p), rest, p), len(rest) < len(g)), (f, True))
+        h = poly.gcd(f, g, p)
+        parts = poly.exact_quotient(f, h, p), poly.exact_quotient(g, h, p)
+        expect((poly.is_monic(h), poly.gcd(*parts, p)), (True, poly.ONE))
+
+
+def solver():
+    """Random systems: the certificate passes the check, survives writing and reading, and d agrees with the formula by minors."""
+    draws = Draws(0x501E)
+    for _ in range(300):
+        structure = draws.choose(STRUCTURES)
+        system = structure(draws, prime(draws), draws.between(1, 5), draws.between(1, 5), draws.between(1, 6))
+        certificate = solve(system)
+        expect(check_values(system, certificate), None)
+        expect(read_both(write_system(system), write_certificate(certificate, system)), (system, certificate))
+        expect(certificate.d if isinstance(certificate, Solution) else None, least_denominator(system))
+
+
+def main():
+    """Run all tests."""
+    for test in (cases, printed_words, bounds, table, writers, whole_report, primes, arithmetic, solver):
+        test()
+    print(f"{held} examples and laws hold")
+
+
+if __name__ == "__main__":
+    main()
