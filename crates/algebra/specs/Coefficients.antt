@@ -79,12 +79,16 @@ module _ {A : Type 0} (o : Operations A) where
   unfolding scale leading
   monic f = scale (o .inverse (leading f)) f
 
-  -- from f = q·d + r to a + x·f: c·d takes the coefficient off a + x·r that stands at d's highest power
+  -- the c for which r - c·d has no coefficient at d's highest power
+  abbrev pub factor : List A → List A → A
+  factor d r = o .mul (coefficient r (length d - 1)) (o .inverse (leading d))
+
+  -- from f = q·d + r to a + x·f
   unfoldable pub extend : List A → A → Division A → Division A
   unfolding subtract scale coefficient leading
   extend d a w =
       let r = cons a (w .remainder) in
-      let c = o .mul (coefficient r (length d - 1)) (o .inverse (leading d)) in
+      let c = factor d r in
       record { quotient = cons c (w .quotient); remainder = subtract r (scale c d) }
 
   -- f by d; by zero, f is left as the remainder
