@@ -1,0 +1,4 @@
+pub mod Step
+pub mod Dividing
+pub mod Values
+pub mod Remainders

@@ -1,0 +1,56 @@
+// Division of polynomials modulo a prime, and what is made of it: remainder, exact quotient and greatest common divisor.
+use polynomial::Polynomial;
+use polynomial::words::zeros;
+use residue::modulus::Modulus;
+ghost use Prim.Native.Nat.{_<_};
+ghost use Rattle.algebra.specs.Coefficients.{quotient, remainder};
+ghost use Rattle.modular.specs.Modulo.{modulo};
+ghost use Rattle.residue.specs.Modulus.{ValidModulus};
+ghost use Rattle.polynomial.specs.Value.{coefficientsOf, ValidPolynomial, Represents};
+
+pub mod euclid;
+pub mod long;
+
+pub use euclid::gcd;
+
+pub struct Division {
+    pub quotient: Polynomial,
+    pub remainder: Polynomial,
+}
+
+// f by d, which is not zero.
+pub fn divide(f: Polynomial, d: Polynomial, m: Modulus) -> Division
+    requires { ⌜ ValidModulus m × ValidPolynomial (m .p) f × ValidPolynomial (m .p) d × (0 < d .size) ⌝ }
+    ensures quotient { λ r. ⌜ Represents (m .p) (r .quotient) (quotient (modulo (m .p)) (coefficientsOf f) (coefficientsOf d)) ⌝ }
+    ensures remainder { λ r. ⌜ Represents (m .p) (r .remainder) (remainder (modulo (m .p)) (coefficientsOf f) (coefficientsOf d)) ⌝ }
+{
+    let inverse = m.inverse(d.leading());
+    let n = f.size;
+    let mut h = f.coefficients;
+    let mut q = zeros();
+    long::divide_words(&mut h, n, &mut q, &d.coefficients, d.size - 1, inverse, m);
+    let quotient = Polynomial::from_words(&q, 0, n, m);
+    let remainder = Polynomial::from_words(&h, 0, n, m);
+    Division {
+        quotient,
+        remainder,
+    }
+}
+
+// The quotient of f by d. Where d divides f, it is f / d.
+pub fn quotient(f: Polynomial, d: Polynomial, m: Modulus) -> Polynomial
+    requires { ⌜ ValidModulus m × ValidPolynomial (m .p) f × ValidPolynomial (m .p) d × (0 < d .size) ⌝ }
+    ensures { λ r. ⌜ Represents (m .p) r (quotient (modulo (m .p)) (coefficientsOf f) (coefficientsOf d)) ⌝ }
+{
+    let w = divide(f, d, m);
+    w.quotient
+}
+
+// The remainder of f by d.
+pub fn remainder(f: Polynomial, d: Polynomial, m: Modulus) -> Polynomial
+    requires { ⌜ ValidModulus m × ValidPolynomial (m .p) f × ValidPolynomial (m .p) d × (0 < d .size) ⌝ }
+    ensures { λ r. ⌜ Represents (m .p) r (remainder (modulo (m .p)) (coefficientsOf f) (coefficientsOf d)) ⌝ }
+{
+    let w = divide(f, d, m);
+    w.remainder
+}

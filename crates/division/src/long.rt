@@ -1,0 +1,35 @@
+// Long division on words. What is left of the dividend is kept in sums that are not reduced.
+use residue::modulus::Modulus;
+use vector::add_scaled;
+ghost use mathlib.Core.Path.{_≡_};
+ghost use Prim.Native.Nat.{ℕ, _+_, _≤_};
+ghost use lib.ListN.{length, getD, take};
+ghost use Rattle.modular.specs.Canonical.{Canonical};
+ghost use Rattle.residue.specs.Modulus.{ValidModulus};
+ghost use Rattle.vector.specs.Bound.{AtMost};
+ghost use Rattle.division.specs.Long.{Divisor, Divided};
+
+// Takes multiples of d, which has e + 1 coefficients, off n words of h until only e places are left; the factors go to q.
+pub fn divide_words(
+    h: &mut [u64],
+    n: usize,
+    q: &mut [u64],
+    d: &[u64],
+    e: usize,
+    inverse: u64,
+    m: Modulus,
+)
+    requires { ⌜ ValidModulus m × (n ≤ 256) × (n ≤ length (now h)) × (n ≤ length (now q)) ⌝ }
+    requires dividend { ⌜ Canonical (m .p) (take n (now h)) × AtMost (m .p) (now h) ⌝ }
+    requires divisor { ⌜ Divisor (m .p) (now d) e inverse ⌝ }
+    requires zero { ⌜ AtMost 0 (now q) ⌝ }
+    ensures { λ _. ⌜ Divided (m .p) (take n (now (h .entry))) n (take (e + 1) (now (d .entry))) (now (q .exit)) (now (h .exit)) ⌝ }
+{
+    let mut k = n;
+    while e < k {
+        k -= 1;
+        let c = m.mul(m.reduce(h[k]), inverse);
+        q[k - e] = c;
+        add_scaled(h, k - e, d, 0, e + 1, m.p - c);
+    }
+}

@@ -1,0 +1,34 @@
+-- `limits::Limits::system_words` meets its contract: rows and columns are below 2^8, so the number of polynomials is below 2^16.
+use Prim.Native.Nat.{_≤_}
+use native.Mathlib.Nat.{mul-le-mul}
+use native.Mathlib.Omega.{arith}
+use borrow.Author.Needs.{needs}
+use Rattle.limits.proofs.Limits.system_words.Statement.{statement}
+use Rattle.limits.proofs.Limits.system_words.Tie as tie
+
+cast-rows : tie.Need-cast-rows
+cast-rows c = search needs
+
+cast-columns : tie.Need-cast-columns
+cast-columns c = search needs
+
+mul-words-for : tie.Need-mul-words-for
+mul-words-for c =
+    let n : c .before .before .args .self .rows ≤ 255 = omega arith in
+    let m : c .before .before .args .self .columns ≤ 255 = omega arith in
+    omega (arith, mul-le-mul n m)
+
+add-words-for : tie.Need-add-words-for
+add-words-for c =
+    let n : c .before .before .args .self .rows ≤ 255 = omega arith in
+    let m : c .before .before .args .self .columns ≤ 255 = omega arith in
+    omega (arith, mul-le-mul n m)
+
+words-for-requires : tie.Need-words-for-requires
+words-for-requires c κs = search needs
+
+returns : tie.Need-returns
+returns c = search needs
+
+pub system-words-spec : {M : Type 1} → statement M
+system-words-spec = tie.close (tie.spec cast-rows cast-columns mul-words-for add-words-for words-for-requires returns)

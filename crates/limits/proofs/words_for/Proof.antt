@@ -1,0 +1,28 @@
+-- `limits::words_for` meets its contract: both numbers are below 2^16, so the product is far below 2^64.
+use Prim.Native.Nat.{_+_, _≤_}
+use native.Mathlib.Nat.{mul-le-mul}
+use native.Mathlib.Omega.{arith}
+use borrow.Author.Needs.{needs}
+use Rattle.limits.proofs.words_for.Statement.{statement}
+use Rattle.limits.proofs.words_for.Tie as tie
+
+add-result : tie.Need-add-result
+add-result c = search needs
+
+mul-result : tie.Need-mul-result
+mul-result c =
+    let a : c .args .count ≤ 65535 = omega arith in
+    let b : 1 + c .args .coefficients ≤ 65536 = omega arith in
+    omega (arith, mul-le-mul a b)
+
+add-result-2 : tie.Need-add-result-2
+add-result-2 c =
+    let a : c .args .count ≤ 65535 = omega arith in
+    let b : 1 + c .args .coefficients ≤ 65536 = omega arith in
+    omega (arith, mul-le-mul a b)
+
+returns : tie.Need-returns
+returns c = search needs
+
+pub words-for-spec : {M : Type 1} → statement M
+words-for-spec = tie.close (tie.spec add-result mul-result add-result-2 returns)

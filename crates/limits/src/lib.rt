@@ -1,0 +1,123 @@
+// The limits of document 01, "Bounds", and of the panel: constants of two types, and a value for the functions that serve both.
+ghost use mathlib.Core.Path.{_≡_};
+ghost use Rattle.words.specs.Limits.{office, panel, longestSystem, longestCertificate, wordsFor};
+ghost use Rattle.limits.specs.Value.{limitsOf};
+
+// Limits that are handed to a function.
+pub struct Limits {
+    // Rows, and columns, are 1 to so many.
+    pub rows: u8,
+    pub columns: u8,
+    // The most coefficients of a polynomial, in a system and in a certificate.
+    pub coefficients: u16,
+    pub certificate_coefficients: u16,
+}
+
+// A head, so many polynomials with so many coefficients each, an end.
+fn words_for(count: u16, coefficients: u16) -> usize
+    ensures { λ r. ⌜ r ≡ wordsFor count coefficients ⌝ }
+{
+    2 + (count as usize) * (1 + coefficients as usize)
+}
+
+impl Limits {
+    // The words of the longest system.
+    pub fn system_words(self) -> usize
+        ensures { λ r. ⌜ r ≡ longestSystem (limitsOf self) ⌝ }
+    {
+        let rows = self.rows as u16;
+        let columns = self.columns as u16;
+        words_for(rows * columns + rows, self.coefficients)
+    }
+
+    // The words of the longest certificate.
+    pub fn certificate_words(self) -> usize
+        ensures { λ r. ⌜ r ≡ longestCertificate (limitsOf self) ⌝ }
+    {
+        let rows = self.rows as u16;
+        let columns = self.columns as u16;
+        words_for(1 + columns + 1 + rows, self.certificate_coefficients)
+    }
+}
+
+// The office's limits.
+pub struct Office;
+
+impl Office {
+    pub const ROWS: u8 = 8;
+
+    pub const COLUMNS: u8 = 8;
+
+    pub const COEFFICIENTS: u16 = 16;
+
+    pub const CERTIFICATE_COEFFICIENTS: u16 = 121;
+
+    pub const SYSTEM_WORDS: usize = 1226;
+
+    pub const CERTIFICATE_WORDS: usize = 2198;
+
+    pub const FILE_BYTES: usize = 4 * Office::SYSTEM_WORDS;
+
+    pub fn limits() -> Limits
+        ensures { λ r. ⌜ limitsOf r ≡ office ⌝ }
+    {
+        Limits {
+            rows: Office::ROWS,
+            columns: Office::COLUMNS,
+            coefficients: Office::COEFFICIENTS,
+            certificate_coefficients: Office::CERTIFICATE_COEFFICIENTS,
+        }
+    }
+
+    pub fn system_words() -> usize
+        ensures { λ r. ⌜ r ≡ longestSystem office ⌝ }
+    {
+        Office::SYSTEM_WORDS
+    }
+
+    pub fn certificate_words() -> usize
+        ensures { λ r. ⌜ r ≡ longestCertificate office ⌝ }
+    {
+        Office::CERTIFICATE_WORDS
+    }
+}
+
+// The panel's limits.
+pub struct Panel;
+
+impl Panel {
+    pub const ROWS: u8 = 4;
+
+    pub const COLUMNS: u8 = 4;
+
+    pub const COEFFICIENTS: u16 = 8;
+
+    pub const CERTIFICATE_COEFFICIENTS: u16 = 29;
+
+    pub const SYSTEM_WORDS: usize = 182;
+
+    pub const CERTIFICATE_WORDS: usize = 302;
+
+    pub fn limits() -> Limits
+        ensures { λ r. ⌜ limitsOf r ≡ panel ⌝ }
+    {
+        Limits {
+            rows: Panel::ROWS,
+            columns: Panel::COLUMNS,
+            coefficients: Panel::COEFFICIENTS,
+            certificate_coefficients: Panel::CERTIFICATE_COEFFICIENTS,
+        }
+    }
+
+    pub fn system_words() -> usize
+        ensures { λ r. ⌜ r ≡ longestSystem panel ⌝ }
+    {
+        Panel::SYSTEM_WORDS
+    }
+
+    pub fn certificate_words() -> usize
+        ensures { λ r. ⌜ r ≡ longestCertificate panel ⌝ }
+    {
+        Panel::CERTIFICATE_WORDS
+    }
+}

@@ -1,0 +1,40 @@
+-- s + f·g on the words of values.
+use mathlib.Core.Path.{_≡_, ap₂, _∙_}
+use mathlib.Core.List.{List}
+use Prim.Native.Nat.{ℕ, _+_, _*_, _≤_, _<_}
+use native.Mathlib.Nat.{mul-le-mul-right}
+use native.Mathlib.Omega.{arith}
+use lib.ListN.{length, getD}
+use Rattle.algebra.specs.Coefficients.{add, mul}
+use Rattle.modular.specs.Modulo.{modulo}
+use Rattle.vector.specs.Bound.{AtMost}
+use Rattle.vector.specs.Reduced.{polynomial}
+use Rattle.polynomial.specs.declared.value.Polynomial.{Polynomial}
+use Rattle.polynomial.specs.Value.{coefficientsOf, ValidPolynomial, word-below, value-polynomial}
+use Rattle.polynomial.specs.Product.{GainsProduct}
+
+module _ (p : ℕ) (positive : 0 < p) where
+  pub words-at-most : (b : ℕ) → p ≤ b → (f : Polynomial) → ValidPolynomial p f → AtMost b (f .coefficients)
+  words-at-most b le f valid i = omega (arith, word-below p f valid positive i)
+
+  module _ (s f g : Polynomial) (hs : ValidPolynomial p s) (hf : ValidPolynomial p f) (hg : ValidPolynomial p g) (h : List ℕ)
+      (gains : GainsProduct (s .coefficients) (f .coefficients) (f .size) (g .coefficients) (g .size) h) where
+    pub products-small : p ≤ 65521 → (i : ℕ) → getD h i 0 < 4294967296 * p
+    products-small limit i =
+        let few : f .size ≤ 256 = hf .within in
+        let at-most : (t : Polynomial) → ValidPolynomial p t → AtMost p (t .coefficients) = words-at-most p (omega arith) in
+        omega (
+          arith,
+          gains .bound p p (at-most s hs) (at-most f hf) (at-most g hg) i,
+          mul-le-mul-right (p * p) few,
+          mul-le-mul-right p limit,
+        )
+
+    pub products-are : (n : ℕ) → s .size ≤ n → f .size + g .size ≤ n + 1 →
+        polynomial p h 0 n ≡ add (modulo p) (coefficientsOf s) (mul (modulo p) (coefficientsOf f) (coefficientsOf g))
+    products-are n all-s all =
+        gains .sum p n positive all
+        ∙ ap₂
+        (λ (x y : List ℕ). add (modulo p) x y)
+        (value-polynomial p s hs positive n all-s)
+        (ap₂ (mul (modulo p)) (value-polynomial p f hf positive (f .size) (omega arith)) (value-polynomial p g hg positive (g .size) (omega arith)))

@@ -1,0 +1,86 @@
+use mathlib.Core.Path.{_≡_, ap, _∙_}
+use Prim.Native.Nat.{ℕ, _+_, _*_, _<_, _≤_}
+use native.Mathlib.Omega.{arith}
+use lib.ListN.{length, getD}
+use Rattle.residue.specs.Modulus.{ValidModulus}
+use Rattle.polynomial.specs.Value.{word-below, represents-is}
+use Rattle.polynomial.proofs.Multiple.{multiple-fits, multiple-small, multiple-is}
+use borrow.Author.Needs.{needs}
+use Rattle.polynomial.proofs.value.Polynomial.add_multiple.Statement.{statement}
+use Rattle.polynomial.proofs.value.Polynomial.add_multiple.Tie as tie
+use Rattle.polynomial.proofs.value.Polynomial.add_multiple.Reads as reads
+use Rattle.polynomial.proofs.value.Polynomial.add_multiple.Lts as lts
+use Rattle.polynomial.proofs.linear.larger.Reads as larger-reads
+use Rattle.polynomial.proofs.value.Polynomial.from_words.Reads as from-words-reads
+use Rattle.vector.proofs.add_scaled.Reads as add-scaled-reads
+
+-- src/linear.rt:27:20
+slice-aggregate-add-scaled : tie.Need-slice-aggregate-add-scaled
+slice-aggregate-add-scaled c = search needs
+
+-- src/linear.rt:27:9
+add-scaled-requires : tie.Need-add-scaled-requires
+add-scaled-requires c κs = let S = c .before .before .before .before .before in
+    let m : ValidModulus (S .args .m) = S .pre .0 in
+    let positive : 0 < S .args .m .p = omega (arith, m .prime .large) in
+    let g = S .pre .3 in (
+      (omega (arith, S .pre .1 .room, g .within), omega (arith, g .room, g .within), omega (arith, m .limit, S .pre .2)),
+      (
+        (λ j lt. omega (arith, word-below (S .args .m .p) (S .args .t3) g positive (0 + j), m .limit)),
+        multiple-fits (S .args .m .p) positive (S .args .self) (S .args .t3) (S .pre .1) g (S .args .c) (S .pre .2) (m .limit),
+      ),
+    )
+
+-- src/linear.rt:28:32
+slice-aggregate-from-words : tie.Need-slice-aggregate-from-words
+slice-aggregate-from-words c = search needs
+
+-- src/linear.rt:28:39
+larger-requires : tie.Need-larger-requires
+larger-requires c κs = search needs
+
+-- src/linear.rt:28:9
+from-words-requires : tie.Need-from-words-requires
+from-words-requires c κs = let S = c .before .before .before .before .before .before .before .before .before in
+    let m : ValidModulus (S .args .m) = S .pre .0 in
+    let positive : 0 < S .args .m .p = omega (arith, m .prime .large) in
+    let called = c .before .before .before .add-scaled in
+    let small =
+    multiple-small (S .args .m .p) positive (S .args .self) (S .args .t3) (S .pre .1) (S .pre .3) (S .args .c) (S .pre .2) (m .limit) (called .last .0) (called .ensures .0) in
+    let long : length (called .last .0) ≡ 256 = search needs in
+    let fits : c .larger .result ≤ 256 = omega (arith, c .larger .ensures, S .pre .1 .within, S .pre .3 .within) in
+    ((m, fits, omega arith), λ i lt. small (0 + i))
+
+-- src/linear.rt:20:5
+returns : tie.Need-returns
+returns c = let S = c .before .before .before .before .before .before .before .before .before .before in
+    let m : ValidModulus (S .args .m) = S .pre .0 in
+    let positive : 0 < S .args .m .p = omega (arith, m .prime .large) in
+    let called = c .before .before .before .before .add-scaled in
+    represents-is
+    (c .from-words .ensures)
+    (multiple-is
+    (S .args .m .p)
+    positive
+    (S .args .self)
+    (S .args .t3)
+    (S .pre .1)
+    (S .pre .3)
+    (S .args .c)
+    (S .pre .2)
+    (called .last .0)
+    (c .before .larger .result)
+    (called .ensures .1)
+    (omega (arith, c .before .larger .ensures))
+    (omega (arith, c .before .larger .ensures)))
+
+pub add-multiple-spec : {M : Type 1} → statement M
+add-multiple-spec =
+    tie.close
+    (tie.spec
+    slice-aggregate-add-scaled
+    add-scaled-requires
+    slice-aggregate-from-words
+    larger-requires
+    from-words-requires
+    returns)

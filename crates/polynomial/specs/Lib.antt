@@ -1,0 +1,4 @@
+pub mod Value
+pub mod Words
+pub mod Equal
+pub mod Product

@@ -1,0 +1,35 @@
+// Whether two polynomials are equal.
+use crate::value::Polynomial;
+ghost use mathlib.Core.Path.{_≡_};
+ghost use Prim.Native.Nat.{_≤_};
+ghost use lib.ListN.{length, take};
+ghost use Rattle.polynomial.specs.Value.{coefficientsOf};
+ghost use Rattle.polynomial.specs.Equal.{equal?};
+
+// Whether the first n words of both are the same.
+fn same_words(f: &[u64], g: &[u64], n: usize) -> bool
+    requires { ⌜ (n ≤ length (now f)) × (n ≤ length (now g)) ⌝ }
+    ensures { λ r. ⌜ r ≡ equal? (take n (now (f .entry))) (take n (now (g .entry))) ⌝ }
+{
+    let mut i = 0;
+    while i < n {
+        if f[i] != g[i] {
+            return false;
+        }
+        i += 1;
+    }
+    true
+}
+
+impl Polynomial {
+    pub fn equal(self, g: Polynomial) -> bool
+        requires { ⌜ (self .size ≤ 256) × (g .size ≤ 256) ⌝ }
+        ensures { λ r. ⌜ r ≡ equal? (coefficientsOf self) (coefficientsOf g) ⌝ }
+    {
+        let n = self.size;
+        if n != g.size {
+            return false;
+        }
+        same_words(&self.coefficients, &g.coefficients, n)
+    }
+}

@@ -1,0 +1,46 @@
+// Products, by sums that are reduced once at the end.
+use crate::linear::larger;
+use crate::value::Polynomial;
+use residue::modulus::Modulus;
+use vector::add_scaled;
+ghost use Prim.Native.Nat.{_+_, _≤_};
+ghost use lib.ListN.{length};
+ghost use Rattle.algebra.specs.Coefficients.{add, mul};
+ghost use Rattle.modular.specs.Modulo.{modulo};
+ghost use Rattle.residue.specs.Modulus.{ValidModulus};
+ghost use Rattle.vector.specs.Bound.{AtMost};
+ghost use Rattle.polynomial.specs.Value.{coefficientsOf, ValidPolynomial, Represents};
+ghost use Rattle.polynomial.specs.Product.{GainsProduct};
+
+// h += f g, for n words of f and k words of g.
+pub fn add_products(h: &mut [u64], f: &[u64], n: usize, g: &[u64], k: usize)
+    requires { ⌜ (n ≤ length (now f)) × (k ≤ length (now g)) × (n + k ≤ length (now h) + 1) × (n ≤ 256) ⌝ }
+    requires small { ⌜ AtMost 65535 (now h) × AtMost 65535 (now f) × AtMost 65535 (now g) ⌝ }
+    ensures { λ _. ⌜ GainsProduct (now (h .entry)) (now (f .entry)) n (now (g .entry)) k (now (h .exit)) ⌝ }
+{
+    let mut i = 0;
+    while i < n {
+        add_scaled(h, i, g, 0, k, f[i]);
+        i += 1;
+    }
+}
+
+impl Polynomial {
+    // self + f g: what a growing sum of products is made of.
+    pub fn add_product(self, f: Polynomial, g: Polynomial, m: Modulus) -> Polynomial
+        requires { ⌜ ValidModulus m × ValidPolynomial (m .p) self × ValidPolynomial (m .p) f × ValidPolynomial (m .p) g ⌝ }
+        requires room { ⌜ f .size + g .size ≤ 257 ⌝ }
+        ensures { λ r. ⌜ Represents (m .p) r (add (modulo (m .p)) (coefficientsOf self) (mul (modulo (m .p)) (coefficientsOf f) (coefficientsOf g))) ⌝ }
+    {
+        let mut h = self.coefficients;
+        add_products(&mut h, &f.coefficients, f.size, &g.coefficients, g.size);
+        Polynomial::from_words(&h, 0, larger(self.size + 1, f.size + g.size) - 1, m)
+    }
+
+    pub fn multiply(self, g: Polynomial, m: Modulus) -> Polynomial
+        requires { ⌜ ValidModulus m × ValidPolynomial (m .p) self × ValidPolynomial (m .p) g × (self .size + g .size ≤ 257) ⌝ }
+        ensures { λ r. ⌜ Represents (m .p) r (mul (modulo (m .p)) (coefficientsOf self) (coefficientsOf g)) ⌝ }
+    {
+        Polynomial::zero().add_product(self, g, m)
+    }
+}

@@ -1,0 +1,85 @@
+// The value itself: made, and asked for what it is.
+use crate::words::reduce_into;
+use crate::words::trimmed;
+use crate::words::zeros;
+use residue::modulus::Modulus;
+ghost use mathlib.Core.Path.{_≡_};
+ghost use mathlib.Core.List.{[]};
+ghost use Prim.Native.Nat.{ℕ, _+_, _*_, _<_, _≤_};
+ghost use lib.ListN.{length, getD};
+ghost use Rattle.algebra.specs.Coefficients.{one, leading};
+ghost use Rattle.modular.specs.Modulo.{modulo};
+ghost use Rattle.residue.specs.Modulus.{ValidModulus};
+ghost use Rattle.vector.specs.Reduced.{polynomial};
+ghost use Rattle.polynomial.specs.Value.{coefficientsOf, Represents, zero?, monic?};
+
+// `size` coefficients, lowest power first, the last not 0, and zeros behind them.
+pub struct Polynomial {
+    pub size: usize,
+    pub coefficients: [u64; 256],
+}
+
+impl Polynomial {
+    // The zero polynomial.
+    pub fn zero() -> Polynomial
+        ensures { λ r. ⌜ ((p : ℕ) → Represents p r []) ⌝ }
+    {
+        let words = zeros();
+        Polynomial {
+            size: 0,
+            coefficients: words,
+        }
+    }
+
+    // The polynomial 1.
+    pub fn one() -> Polynomial
+        ensures { λ r. ⌜ ((p : ℕ) → 1 < p → Represents p r (one (modulo p))) ⌝ }
+    {
+        let mut words = zeros();
+        words[0] = 1;
+        Polynomial {
+            size: 1,
+            coefficients: words,
+        }
+    }
+
+    // The polynomial that n words from the place a on stand for: sums that need not be reduced, with zeros at the end.
+    pub fn from_words(words: &[u64], a: usize, n: usize, m: Modulus) -> Polynomial
+        requires { ⌜ ValidModulus m × (n ≤ 256) × (a + n ≤ length (now words)) ⌝ }
+        requires small { ⌜ ((i : ℕ) → i < n → getD (now words) (a + i) 0 < 4294967296 * m .p) ⌝ }
+        ensures { λ r. ⌜ Represents (m .p) r (polynomial (m .p) (now (words .entry)) a n) ⌝ }
+    {
+        let mut reduced = zeros();
+        reduce_into(&mut reduced, words, a, n, m);
+        let size = trimmed(&reduced, n);
+        Polynomial {
+            size,
+            coefficients: reduced,
+        }
+    }
+
+    pub fn is_zero(self) -> bool
+        ensures { λ r. ⌜ r ≡ zero? (coefficientsOf self) ⌝ }
+    {
+        self.size == 0
+    }
+
+    // The coefficient of the highest power; the zero polynomial's is 0.
+    pub fn leading(self) -> u64
+        requires { ⌜ self .size ≤ 256 ⌝ }
+        ensures { λ r. ⌜ ((p : ℕ) → r ≡ leading (modulo p) (coefficientsOf self)) ⌝ }
+    {
+        let n = self.size;
+        if n == 0 {
+            return 0;
+        }
+        self.coefficients[n - 1]
+    }
+
+    pub fn is_monic(self) -> bool
+        requires { ⌜ self .size ≤ 256 ⌝ }
+        ensures { λ r. ⌜ ((p : ℕ) → r ≡ monic? p (coefficientsOf self)) ⌝ }
+    {
+        self.leading() == 1
+    }
+}

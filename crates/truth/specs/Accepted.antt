@@ -1,0 +1,209 @@
+-- Demand 2: "a card is accepted for a sheet when the check, handed the words of both, turns nothing back, and that is exactly when the
+-- card's words are the written form of a right card or of an absence card for that sheet, all degrees at most 120".
+use Prim.Native.Nat.{ℕ, _<_}
+use mathlib.Core.Path.{_≡_, refl, sym, _∙_, ap, subst}
+use mathlib.Core.Logic.{_↔_}
+use mathlib.Core.Bool.{Bool, true, false, not}
+use mathlib.Core.List.{List, [], _∷_}
+use lib.Dec.{eqb}
+use borrow.Author.Tests.{eqb-true, eq-eqb}
+use Rattle.ring.specs.Ring.{Ring}
+use Rattle.algebra.specs.Coefficients.{mul, leading, remainder}
+use Rattle.modular.specs.Modulo.{modulo}
+use Rattle.modular.specs.Canonical.{Canonical}
+use Rattle.modular.specs.Values.{NumberPolynomial, equal-numbers}
+use Rattle.modular.specs.Numbers.{numbers}
+use Rattle.modular.specs.Carried.{numberArithmetic}
+use Rattle.modular.specs.DivisionLaws.{divisionLaws, DivisionLaws}
+use Rattle.words.specs.Limits.{Limits}
+use Rattle.words.specs.LimitsLaws.{LimitsFit}
+use Rattle.words.specs.Polynomial.{Within, AllWithin, VectorWithin}
+use Rattle.words.specs.System.{System, shape, rightSide, SystemWithin, systemWords, readSystem}
+use Rattle.words.specs.SystemLaws.{system-read-of-written, system-written-of-read}
+use Rattle.words.specs.Certificate.{Certificate, CertificateWithin, SolutionWithin, certificateWords, readCertificate}
+use Rattle.words.specs.Certificate.Certificate.{solution, absence}
+use Rattle.words.specs.CertificateLaws.{certificate-read-of-written, certificate-written-of-read}
+use Rattle.words.specs.Outcome.{Outcome, refuse, followedBy}
+use Rattle.words.specs.Outcome.Outcome.{accepted, refused}
+use Rattle.truth.specs.Solution.{AllCanonical, Monic, Divides, rowOf, columnOf, sideOf}
+use Rattle.truth.specs.Right.{RightSolution, RightAbsence, Right, certified}
+use Rattle.truth.specs.Verdict.{monic?, zero?, same?, refuseFirst, solutionVerdict, absenceVerdict, certificateVerdict, verdict}
+use Rattle.truth.specs.Lift.{Proper, ringOf, equations, vector, column-list, divides-list, divides-lift}
+use Rattle.truth.specs.Truth.{ProperSolution}
+use Rattle.truth.specs.RefusalLaws
+use Rattle.truth.specs.Witness
+
+pub all-canonical : (p limit : ℕ) (fs : List (List ℕ)) → AllWithin p limit fs → AllCanonical p fs
+unfolding AllWithin AllCanonical
+all-canonical p limit [] h = tt
+all-canonical p limit (f ∷ fs) h = (h .0 .canonical, all-canonical p limit fs (h .1))
+
+-- what keeps the limits is proper
+pub proper : (limits : Limits) (s : System) → SystemWithin limits s → Proper s
+proper limits s h = record {
+  prime = h .shape .prime;
+  matrix = all-canonical (s .modulus) (limits .systemCoefficients) (s .matrix) (h .matrix .entries);
+  right = all-canonical (s .modulus) (limits .systemCoefficients) (s .right) (h .right .entries);
+}
+
+pub proper-solution : (limits : Limits) (s : System) (d : List ℕ) (N : List (List ℕ)) (w : List ℕ) (Z : List (List ℕ))
+    → SolutionWithin limits (shape s) d N w Z → ProperSolution s d N w Z
+proper-solution limits s d N w Z h = record {
+  denominator = h .denominator .canonical;
+  numerators = all-canonical (s .modulus) (limits .certificateCoefficients) N (h .numerators .entries);
+  count = h .numerators .count;
+  certifyingDenominator = h .certifyingDenominator .canonical;
+  certifyingNumerators = all-canonical (s .modulus) (limits .certificateCoefficients) Z (h .certifyingNumerators .entries);
+}
+
+module _ (s : System) (h : Proper s) where
+  abbrev p : ℕ
+  p = s .modulus
+
+  -- the test of 33: the remainder is zero just where w divides
+  module _ (w : List ℕ) (Z : List (List ℕ)) (hw : Canonical (s .modulus) w) (hZ : AllCanonical (s .modulus) Z) where
+    abbrev W : NumberPolynomial (s .modulus)
+    W = (w, hw)
+
+    abbrev column : ℕ → NumberPolynomial (s .modulus)
+    column j = Witness.columnOf (ringOf s h) (equations s h) (vector (s .modulus) Z hZ) j
+
+    remainder-list : (j : ℕ) → remainder (modulo p) (column j .0) w ≡ remainder (modulo p) (columnOf s Z j) w
+    remainder-list j = ap (λ f. remainder (modulo p) f w) (column-list s h Z hZ j)
+
+    column-divides : (j : ℕ) → remainder (modulo p) (columnOf s Z j) w ≡ [] → Divides p w (columnOf s Z j)
+    unfolding numbers
+    column-divides j e = subst (Divides p w) (column-list s h Z hZ j)
+        (divides-list p (h .prime) {d = W} {f = column j} (divisionLaws p (h .prime) .remainder-divides (column j) W (equal-numbers p _ _ (remainder-list j ∙ e))))
+
+    divides-column : (j : ℕ) → Divides p w (columnOf s Z j) → remainder (modulo p) (columnOf s Z j) w ≡ []
+    unfolding numbers
+    divides-column j d = sym (remainder-list j) ∙ ap (λ x. x .0) (divisionLaws p (h .prime) .divides-remainder (column j) W
+        (divides-lift p (h .prime) W (column j) (subst (Divides p w) (sym (column-list s h Z hZ j)) d)))
+
+  -- the rows 31 to 34 and the four conditions
+  module _ {d : List ℕ} {N : List (List ℕ)} {w : List ℕ} {Z : List (List ℕ)} (P : ProperSolution s d N w Z) where
+    wrong-row : ℕ → Bool
+    wrong-row i = not (same? (rowOf s N i) (mul (modulo p) d (rightSide s i)))
+
+    wrong-column : ℕ → Bool
+    wrong-column j = not (zero? (remainder (modulo p) (columnOf s Z j) w))
+
+    from-34 : Outcome (Unit {0})
+    from-34 = refuse (not (same? (certified s w Z) d)) 34 0 (accepted tt)
+
+    from-33 : Outcome (Unit {0})
+    from-33 = refuseFirst (s .columns) wrong-column 33 from-34
+
+    from-32 : Outcome (Unit {0})
+    from-32 = refuseFirst (s .rows) wrong-row 32 from-33
+
+    from-31 : Outcome (Unit {0})
+    from-31 = refuse (not (monic? p w)) 31 1 from-32
+
+    pub accepted-right : solutionVerdict s d N w Z ≡ accepted tt → RightSolution s d N w Z
+    unfolding solutionVerdict Monic from-31 from-32 from-33 from-34 wrong-row wrong-column
+    accepted-right e =
+        let first = RefusalLaws.refuse-passed (not (monic? p d)) 31 0 from-31 tt e in
+        let second = RefusalLaws.refuse-passed (not (monic? p w)) 31 1 from-32 tt (first .rest) in
+        let rows = RefusalLaws.refuseFirst-passed (s .rows) wrong-row 32 from-33 tt (second .rest) in
+        let columns = RefusalLaws.refuseFirst-passed (s .columns) wrong-column 33 from-34 tt (rows .rest) in
+        let last = RefusalLaws.refuse-passed (not (same? (certified s w Z) d)) 34 0 (accepted tt) tt (columns .rest) in
+        record {
+          monic = eqb-true (leading (modulo p) d) 1 (RefusalLaws.not-false (monic? p d) (first .free));
+          certifyingMonic = eqb-true (leading (modulo p) w) 1 (RefusalLaws.not-false (monic? p w) (second .free));
+          rows = λ i k. RefusalLaws.same?-true _ _ (RefusalLaws.not-false _ (rows .free i k));
+          columns = λ j k. column-divides w Z (P .certifyingDenominator) (P .certifyingNumerators) j
+              (RefusalLaws.zero?-true _ (RefusalLaws.not-false _ (columns .free j k)));
+          denominators = RefusalLaws.same?-true (certified s w Z) d (RefusalLaws.not-false _ (last .free));
+        }
+
+    pub right-accepted : RightSolution s d N w Z → solutionVerdict s d N w Z ≡ accepted tt
+    unfolding solutionVerdict Monic from-31 from-32 from-33 from-34 wrong-row wrong-column
+    right-accepted C =
+        RefusalLaws.passed-refuse _ 31 0 _ tt (RefusalLaws.true-not (eq-eqb (leading (modulo p) d) 1 (C .monic)))
+        (RefusalLaws.passed-refuse _ 31 1 _ tt (RefusalLaws.true-not (eq-eqb (leading (modulo p) w) 1 (C .certifyingMonic)))
+        (RefusalLaws.passed-refuseFirst (s .rows) wrong-row 32 _ tt (λ i k. RefusalLaws.true-not (RefusalLaws.true-same? _ _ (C .rows i k)))
+        (RefusalLaws.passed-refuseFirst (s .columns) wrong-column 33 _ tt
+        (λ j k. RefusalLaws.true-not (ap zero? (divides-column w Z (P .certifyingDenominator) (P .certifyingNumerators) j (C .columns j k))))
+        (RefusalLaws.passed-refuse _ 34 0 _ tt (RefusalLaws.true-not (RefusalLaws.true-same? _ _ (C .denominators))) refl))))
+
+-- the rows 35 and 36
+module _ (s : System) (q : List (List ℕ)) where
+  wrong-product : ℕ → Bool
+  wrong-product j = not (zero? (columnOf s q j))
+
+  pub accepted-absent : absenceVerdict s q ≡ accepted tt → RightAbsence s q
+  unfolding absenceVerdict wrong-product
+  accepted-absent e =
+      let columns = RefusalLaws.refuseFirst-passed (s .columns) wrong-product 35 (refuse (zero? (sideOf s q)) 36 0 (accepted tt)) tt e in
+      let last = RefusalLaws.refuse-passed (zero? (sideOf s q)) 36 0 (accepted tt) tt (columns .rest) in
+      record {
+        columns = λ j k. RefusalLaws.zero?-true _ (RefusalLaws.not-false _ (columns .free j k));
+        side = RefusalLaws.zero?-false _ (last .free);
+      }
+
+  pub absent-accepted : RightAbsence s q → absenceVerdict s q ≡ accepted tt
+  unfolding absenceVerdict wrong-product
+  absent-accepted C =
+      RefusalLaws.passed-refuseFirst (s .columns) wrong-product 35 _ tt (λ j k. RefusalLaws.true-not (ap zero? (C .columns j k)))
+      (RefusalLaws.passed-refuse _ 36 0 _ tt (RefusalLaws.nonzero-zero? _ (C .side)) refl)
+
+-- ---- demand 2
+
+-- the words are the written forms of a system within the limits and of a right certificate for it
+pub record AcceptedWords (limits : Limits) (ws cs : List ℕ) : Type 0 where
+  pub system : System
+  pub certificate : Certificate
+  pub system-words : ws ≡ systemWords system
+  pub system-within : SystemWithin limits system
+  pub certificate-words : cs ≡ certificateWords certificate
+  pub certificate-within : CertificateWithin limits (shape system) certificate
+  pub right : Right system certificate
+
+module _ (limits : Limits) (fit : LimitsFit limits) where
+  pub verdict-right : (s : System) (h : SystemWithin limits s) (c : Certificate) → CertificateWithin limits (shape s) c
+      → certificateVerdict s c ≡ accepted tt → Right s c
+  unfolding certificateVerdict Right CertificateWithin
+  verdict-right s h (solution d N w Z) k e = accepted-right s (proper limits s h) (proper-solution limits s d N w Z k) e
+  verdict-right s h (absence q) k e = accepted-absent s q e
+
+  pub right-verdict : (s : System) (h : SystemWithin limits s) (c : Certificate) → CertificateWithin limits (shape s) c
+      → Right s c → certificateVerdict s c ≡ accepted tt
+  unfolding certificateVerdict Right CertificateWithin
+  right-verdict s h (solution d N w Z) k r = right-accepted s (proper limits s h) (proper-solution limits s d N w Z k) r
+  right-verdict s h (absence q) k r = absent-accepted s q r
+
+  pub words-of-accepted : (ws cs : List ℕ) → verdict limits ws cs ≡ accepted tt → AcceptedWords limits ws cs
+  unfolding verdict
+  words-of-accepted ws cs e =
+      let first = RefusalLaws.followedBy-accepted (readSystem limits ws) _ tt e in
+      let second = RefusalLaws.followedBy-accepted (readCertificate limits (shape (first .0)) cs) _ tt (first .2) in
+      let sheet = system-written-of-read limits fit ws (first .0) (first .1) in
+      let card = certificate-written-of-read limits (shape (first .0)) cs (second .0) (second .1) in
+      record {
+        system = first .0;
+        certificate = second .0;
+        system-words = sheet .0;
+        system-within = sheet .1;
+        certificate-words = card .0;
+        certificate-within = card .1;
+        right = verdict-right (first .0) (sheet .1) (second .0) (card .1) (second .2);
+      }
+
+  pub accepted-of-words : (ws cs : List ℕ) → AcceptedWords limits ws cs → verdict limits ws cs ≡ accepted tt
+  unfolding verdict
+  accepted-of-words ws cs a =
+      ap (λ o. followedBy o (λ s. followedBy (readCertificate limits (shape s) cs) (certificateVerdict s))) sheet
+      ∙ ap (λ o. followedBy o (certificateVerdict (a .system))) card
+      ∙ right-verdict (a .system) (a .system-within) (a .certificate) (a .certificate-within) (a .right)
+    where
+      sheet : readSystem limits ws ≡ accepted (a .system)
+      sheet = ap (readSystem limits) (a .system-words) ∙ system-read-of-written limits fit (a .system) (a .system-within)
+
+      card : readCertificate limits (shape (a .system)) cs ≡ accepted (a .certificate)
+      card = ap (readCertificate limits (shape (a .system))) (a .certificate-words)
+          ∙ certificate-read-of-written limits (shape (a .system)) fit (a .system-within .shape) (a .certificate) (a .certificate-within)
+
+  pub accepted-iff : (ws cs : List ℕ) → (verdict limits ws cs ≡ accepted tt) ↔ AcceptedWords limits ws cs
+  accepted-iff ws cs = (words-of-accepted ws cs, accepted-of-words ws cs)

@@ -1,0 +1,72 @@
+-- Demand 3's truth, of words: whatever the words are and however they came about, an accepted certificate tells the truth.
+use Prim.Native.Nat.{ℕ}
+use mathlib.Core.Path.{_≡_, refl, sym, _∙_, ap, subst}
+use mathlib.Core.List.{List}
+use Rattle.words.specs.Limits.{Limits}
+use Rattle.words.specs.LimitsLaws.{LimitsFit}
+use Rattle.words.specs.Outcome.Outcome.{accepted}
+use Rattle.words.specs.Polynomial.{VectorWithin}
+use Rattle.words.specs.Outcome.{followedBy}
+use Rattle.words.specs.System.{System, SystemWithin, shape, systemWords, readSystem}
+use Rattle.words.specs.SystemLaws.{systemWords-injective, system-written-of-read}
+use Rattle.words.specs.Certificate.{Certificate, CertificateWithin, certificateWords, readCertificate}
+use Rattle.words.specs.CertificateLaws.{certificate-written-of-read}
+use Rattle.words.specs.Certificate.Certificate.{solution, absence}
+use Rattle.truth.specs.Solution.{RationalSolution, Denominator, LeastDenominator}
+use Rattle.truth.specs.Right.{Right}
+use Rattle.truth.specs.Verdict.{verdict, certificateVerdict}
+use Rattle.truth.specs.Truth.{right-solves, right-denominator, right-least, right-absent, never-both}
+use Rattle.truth.specs.Accepted.{AcceptedWords, words-of-accepted, verdict-right, proper, proper-solution, all-canonical}
+
+-- what a solution says: N/d solves the system, d is its denominator, and the least one
+pub record SolutionTrue (s : System) (d : List ℕ) (N : List (List ℕ)) : Type 0 where
+  pub solves : RationalSolution s N d
+  pub denominator : Denominator (s .modulus) N d d
+  pub least : LeastDenominator s d
+
+-- what a certificate says
+unfoldable pub True : System → Certificate → Type 0
+True s (solution d N w Z) = SolutionTrue s d N
+True s (absence q) = (M : List (List ℕ)) (e : List ℕ) → ¬ RationalSolution s M e
+
+module _ (limits : Limits) where
+  pub right-true : (s : System) → SystemWithin limits s → (c : Certificate) → CertificateWithin limits (shape s) c → Right s c → True s c
+  unfolding True Right CertificateWithin
+  right-true s h (solution d N w Z) k r =
+      let P = proper-solution limits s d N w Z k in
+      let H = proper limits s h in
+      record { solves = right-solves s H P r; denominator = right-denominator s H P r; least = right-least s H P r }
+  right-true s h (absence q) k r =
+      right-absent s (proper limits s h) q (all-canonical (s .modulus) (limits .certificateCoefficients) q (k .entries)) r
+
+  pub accepted-true : (fit : LimitsFit limits) (ws cs : List ℕ) → verdict limits ws cs ≡ accepted tt
+      → (a : AcceptedWords limits ws cs) × True (a .system) (a .certificate)
+  accepted-true fit ws cs e =
+      let a = words-of-accepted limits fit ws cs e in
+      (a, right-true (a .system) (a .system-within) (a .certificate) (a .certificate-within) (a .right))
+
+  -- so also of a system and a certificate whose written forms read back as themselves
+  pub verdict-true : (fit : LimitsFit limits) (s : System) (c : Certificate) → readSystem limits (systemWords s) ≡ accepted s
+      → readCertificate limits (shape s) (certificateWords c) ≡ accepted c → verdict limits (systemWords s) (certificateWords c) ≡ accepted tt → True s c
+  unfolding verdict
+  verdict-true fit s c e f g =
+      let h = system-written-of-read limits fit (systemWords s) s e .1 in
+      let k = certificate-written-of-read limits (shape s) (certificateWords c) c f .1 in
+      right-true s h c k (verdict-right limits fit s h c k
+      (sym (ap (λ o. followedBy o (λ s. followedBy (readCertificate limits (shape s) (certificateWords c)) (certificateVerdict s))) e
+      ∙ ap (λ o. followedBy o (certificateVerdict s)) f) ∙ g))
+
+  -- no system's words are accepted with certificates of both kinds
+  pub accepted-once : (fit : LimitsFit limits) (ws cs es : List ℕ) (a : AcceptedWords limits ws cs) (b : AcceptedWords limits ws es)
+      → (d : List ℕ) (N : List (List ℕ)) (w : List ℕ) (Z q : List (List ℕ)) → a .certificate ≡ solution d N w Z → b .certificate ≡ absence q → ⊥
+  unfolding Right CertificateWithin
+  accepted-once fit ws cs es a b d N w Z q e f =
+      let s = a .system in
+      let same : b .system ≡ s = systemWords-injective limits fit (b .system) s (b .system-within) (a .system-within)
+      (sym (b .system-words) ∙ a .system-words) in
+      let k = subst (CertificateWithin limits (shape s)) e (a .certificate-within) in
+      let r = subst (Right s) e (a .right) in
+      let l = subst (λ t. CertificateWithin limits (shape t) (absence q)) same (subst (CertificateWithin limits (shape (b .system))) f (b .certificate-within)) in
+      let t = subst (λ t. Right t (absence q)) same (subst (Right (b .system)) f (b .right)) in
+      never-both s (proper limits s (a .system-within)) (proper-solution limits s d N w Z k) r
+      (all-canonical (s .modulus) (limits .certificateCoefficients) q (l .entries)) t

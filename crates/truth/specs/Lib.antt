@@ -1,0 +1,11 @@
+pub mod Witness
+pub mod Solution
+pub mod Right
+pub mod Verdict
+pub mod Lift
+pub mod Truth
+pub mod RefusalLaws
+pub mod Accepted
+pub mod Demand
+pub mod Denominators
+pub mod Cases

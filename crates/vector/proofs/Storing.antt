@@ -1,0 +1,32 @@
+-- The invariant of a loop that stores f 0, f 1 .. from the place d on, one word a turn.
+use mathlib.Core.Path.{_≡_, refl, ap, _∙_}
+use mathlib.Core.List.{List}
+use Prim.Native.Nat.{ℕ, _+_, _≤_, _<_}
+use native.Mathlib.Nat.{le-antisymm}
+use native.Mathlib.Omega.{arith}
+use lib.ListN.{length, getD, set, length-set}
+use Rattle.vector.specs.Stored.{stored, stored-none, stored-more, stored-next}
+
+-- j of n words are stored, and w is what they left of l
+pub record Storing (f : ℕ → ℕ) (l : List ℕ) (d n : ℕ) (w : List ℕ) (j : ℕ) : Type 0 where
+  pub within : j ≤ n
+  pub same-length : length w ≡ length l
+  pub words : w ≡ stored f l d j
+
+pub storing-start : (f : ℕ → ℕ) (l : List ℕ) (d n : ℕ) → Storing f l d n l 0
+storing-start f l d n = record { within = omega arith; same-length = refl; words = stored-none f l d }
+
+module _ {f : ℕ → ℕ} {l : List ℕ} {d n : ℕ} {w : List ℕ} {j : ℕ} (so-far : Storing f l d n w j) where
+  -- a turn reads what stood there at the start
+  pub storing-reads : getD w (d + j) 0 ≡ getD l (d + j) 0
+  storing-reads = stored-next f l d j w (so-far .words)
+
+  pub storing-turn : (v : ℕ) → j < n → v ≡ f j → Storing f l d n (set w (d + j) v) (j + 1)
+  storing-turn v lt e = record {
+    within = omega arith;
+    same-length = length-set w (d + j) v ∙ so-far .same-length;
+    words = stored-more f l d j w v (so-far .words) e;
+  }
+
+  pub storing-end : n ≤ j → w ≡ stored f l d n
+  storing-end past = so-far .words ∙ ap (stored f l d) (le-antisymm (so-far .within) past)

@@ -1,0 +1,5 @@
+pub mod Stored
+pub mod Coefficientwise
+pub mod Reduced
+pub mod Multiple
+pub mod Bound

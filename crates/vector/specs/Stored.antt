@@ -1,0 +1,54 @@
+-- A range of a list written anew: what the loops of this crate do to the words that they are lent. The contracts cite
+-- `stored`; `stored-inside`, `stored-outside` and `length-stored` say all of the list that a caller may ask.
+use mathlib.Core.Path.{_≡_, refl, sym, ap, _∙_, subst}
+use mathlib.Core.Logic.{_⊎_, inl, inr, ⊎-elim}
+use mathlib.Core.List.{List}
+use Prim.Native.Nat.{ℕ, zero, suc, _+_, _-_, _≤_, _<_}
+use native.Mathlib.Nat.{eq-zero-or-pos, eq-or-lt-of-le, le-of-suc-le-suc, not-suc-le-zero}
+use native.Mathlib.Numerals.{add-one}
+use native.Mathlib.Omega.{arith}
+use lib.ListN.{length, getD, set, length-set}
+use lib.Seq.{getD-set-same, getD-set-other}
+
+-- l with f 0 .. f (n - 1) stored from the place d on
+unfoldable pub stored : (ℕ → ℕ) → List ℕ → ℕ → ℕ → List ℕ
+stored f l d zero = l
+stored f l d (suc n) = set (stored f l d n) (d + n) (f n)
+
+pub below-or-not : (a b : ℕ) → (a < b) ⊎ (b ≤ a)
+below-or-not a b = ⊎-elim (λ z. inr (omega arith)) (λ z. inl (omega arith)) (eq-zero-or-pos (b - a))
+
+module _ (f : ℕ → ℕ) (l : List ℕ) (d : ℕ) where
+  pub length-stored : (n : ℕ) → length (stored f l d n) ≡ length l
+  unfolding stored
+  length-stored zero = refl
+  length-stored (suc n) = length-set (stored f l d n) (d + n) (f n) ∙ length-stored n
+
+  pub stored-inside : (n j : ℕ) → d + n ≤ length l → j < n → getD (stored f l d n) (d + j) 0 ≡ f j
+  unfolding stored
+  stored-inside zero j room h = absurd (not-suc-le-zero h)
+  stored-inside (suc n) j room h =
+      ⊎-elim
+      (λ e. rw e (getD-set-same (stored f l d n) (d + n) (f n) 0 (rw length-stored (omega arith))))
+      (λ lt. getD-set-other (stored f l d n) (d + n) (d + j) (f n) 0 (λ q. omega arith) ∙ stored-inside n j (omega arith) lt)
+      (eq-or-lt-of-le (le-of-suc-le-suc h))
+
+  pub stored-outside : (n i : ℕ) → (i < d) ⊎ (d + n ≤ i) → getD (stored f l d n) i 0 ≡ getD l i 0
+  unfolding stored
+  stored-outside zero i out = refl
+  stored-outside (suc n) i out =
+      getD-set-other (stored f l d n) (d + n) i (f n) 0 (λ e. ⊎-elim (λ lo. omega arith) (λ hi. omega arith) out)
+      ∙ stored-outside n i (⊎-elim (λ lo. inl lo) (λ hi. inr (omega arith)) out)
+
+  -- a loop that has stored nothing yet, and a turn of it
+  pub stored-none : l ≡ stored f l d 0
+  unfolding stored
+  stored-none = refl
+
+  pub stored-more : (j : ℕ) (w : List ℕ) (v : ℕ) → w ≡ stored f l d j → v ≡ f j → set w (d + j) v ≡ stored f l d (j + 1)
+  unfolding stored
+  stored-more j w v e ev = rw (add-one, e, ev)
+
+  -- a turn reads what stood there at the start
+  pub stored-next : (j : ℕ) (w : List ℕ) → w ≡ stored f l d j → getD w (d + j) 0 ≡ getD l (d + j) 0
+  stored-next j w e = rw e (stored-outside j (d + j) (inr (omega arith)))

@@ -1,0 +1,22 @@
+// hand := hand + c·x^k·slot, the step of insertion, division and product.
+ghost use mathlib.Core.Path.{_≡_};
+ghost use Prim.Native.Nat.{ℕ, _+_, _<_, _≤_};
+ghost use lib.ListN.{length, getD};
+ghost use Rattle.vector.specs.Stored.{stored};
+ghost use Rattle.vector.specs.Multiple.{sumAt, GainsMultiple};
+
+// h[d + j] += c * s[a + j] for j below n. The remainders change nothing: they show the compiler that a product of two numbers
+// of 32 bits is meant, for which it has vector instructions.
+pub fn add_scaled(h: &mut [u64], d: usize, s: &[u64], a: usize, n: usize, c: u64)
+    requires { ⌜ (d + n ≤ length (now h)) × (a + n ≤ length (now s)) × (c < 4294967296) ⌝ }
+    requires small { ⌜ ((j : ℕ) → j < n → getD (now s) (a + j) 0 < 4294967296) ⌝ }
+    requires fits { ⌜ ((j : ℕ) → j < n → sumAt (now h) d (now s) a c j < 18446744073709551616) ⌝ }
+    ensures words { λ _. ⌜ now (h .exit) ≡ stored (sumAt (now (h .entry)) d (now (s .entry)) a c) (now (h .entry)) d n ⌝ }
+    ensures polynomials { λ _. ⌜ GainsMultiple (now (h .entry)) (now (h .exit)) d (now (s .entry)) a n c ⌝ }
+{
+    let mut j = 0;
+    while j < n {
+        h[d + j] = h[d + j] + c % 4294967296 * (s[a + j] % 4294967296);
+        j += 1;
+    }
+}

@@ -1,0 +1,37 @@
+-- Words as bytes (document 01, "Words"): "In a file each word is four bytes, lowest first."
+use Prim.Native.Nat.{ℕ, _+_, _*_, _/_, _%_}
+use mathlib.Core.Bool.{Bool, not, _||_}
+use mathlib.Core.List.{List, [], _∷_}
+use lib.ListN.{length}
+use lib.Dec.{eqb, ltb}
+use Rattle.words.specs.Limits.{Limits, longestSystem}
+use Rattle.words.specs.Outcome.{Outcome, refuse}
+use Rattle.words.specs.System.{System, readSystem}
+
+abbrev pub wordOf : ℕ → ℕ → ℕ → ℕ → ℕ
+wordOf a b c d = a + b * 256 + c * 65536 + d * 16777216
+
+-- up to three bytes at the end are no word
+unfoldable pub wordsOf : List ℕ → List ℕ
+wordsOf [] = []
+wordsOf (a ∷ []) = []
+wordsOf (a ∷ b ∷ []) = []
+wordsOf (a ∷ b ∷ c ∷ []) = []
+wordsOf (a ∷ b ∷ c ∷ d ∷ bytes) = wordOf a b c d ∷ wordsOf bytes
+
+unfoldable pub bytesOf : List ℕ → List ℕ
+bytesOf [] = []
+bytesOf (w ∷ ws) = w % 256 ∷ w / 256 % 256 ∷ w / 65536 % 256 ∷ w / 16777216 ∷ bytesOf ws
+
+-- 10, first half: bytes not a multiple of four
+abbrev pub broken : List ℕ → Bool
+broken bytes = not (eqb (length bytes % 4) 0)
+
+-- 10, second half: over 4,904
+abbrev pub tooLong : Limits → List ℕ → Bool
+tooLong limits bytes = ltb (4 * longestSystem limits) (length bytes)
+
+-- a file: "Number 10 comes before all others."
+unfoldable pub readSystemFile : Limits → List ℕ → Outcome System
+unfolding wordsOf readSystem
+readSystemFile limits bytes = refuse (broken bytes || tooLong limits bytes) 10 0 (readSystem limits (wordsOf bytes))

@@ -1,0 +1,99 @@
+-- Words as bytes and back, and systems as files.
+use mathlib.Core.Path.{_≡_, refl, sym, ap, ap₂, _∙_, subst}
+use mathlib.Core.Bool.{Bool, true, false, not, _||_}
+use mathlib.Core.Logic.{_↔_}
+use mathlib.Core.List.{List, [], _∷_}
+use Prim.Native.Nat.{ℕ, zero, suc, _+_, _*_, _/_, _%_, _≤_, _<_}
+use native.Mathlib.Omega.{arith}
+use lib.ListN.{length, getD}
+use lib.Dec.{eqb, ltb}
+use borrow.Author.Tests.{eq-eqb, eqb-true, le-ltb, not-false}
+use Rattle.words.specs.Limits.{Limits, longestSystem}
+use Rattle.words.specs.Word.{Words, Bytes}
+use Rattle.words.specs.Outcome.{Outcome, refuse}
+use Rattle.words.specs.Outcome.Outcome.{accepted, refused}
+use Rattle.words.specs.System.{System, SystemWithin, systemWords, readSystem}
+use Rattle.words.specs.Bytes.{wordOf, wordsOf, bytesOf, broken, tooLong, readSystemFile}
+use Rattle.words.specs.LimitsLaws.{LimitsFit}
+use Rattle.words.specs.SystemLaws.{system-read-of-written, system-written-of-read, systemWords-most}
+use Rattle.words.specs.WidthLaws.{systemWords-words}
+
+pub length-wordsOf : (bytes : List ℕ) → length (wordsOf bytes) ≡ length bytes / 4
+unfolding wordsOf
+length-wordsOf [] = refl
+length-wordsOf (a ∷ []) = refl
+length-wordsOf (a ∷ b ∷ []) = refl
+length-wordsOf (a ∷ b ∷ c ∷ []) = refl
+length-wordsOf (a ∷ b ∷ c ∷ d ∷ bytes) = let ih = length-wordsOf bytes in omega arith
+
+pub length-bytesOf : (ws : List ℕ) → length (bytesOf ws) ≡ 4 * length ws
+unfolding bytesOf
+length-bytesOf [] = refl
+length-bytesOf (w ∷ ws) = let ih = length-bytesOf ws in omega arith
+
+pub wordsOf-bytesOf : (ws : List ℕ) → wordsOf (bytesOf ws) ≡ ws
+unfolding wordsOf bytesOf
+wordsOf-bytesOf [] = refl
+wordsOf-bytesOf (w ∷ ws) = ap₂ (λ (v : ℕ) (vs : List ℕ). v ∷ vs) (omega arith) (wordsOf-bytesOf ws)
+
+-- the lowest byte, and what is above it
+low : (a x : ℕ) → a < 256 → (a + x * 256) % 256 ≡ a
+low a x h = omega arith
+
+pub bytesOf-wordsOf : (bytes : List ℕ) → Bytes bytes → length bytes % 4 ≡ 0 → bytesOf (wordsOf bytes) ≡ bytes
+unfolding wordsOf bytesOf
+bytesOf-wordsOf [] h e = refl
+bytesOf-wordsOf (a ∷ []) h e = absurd (omega arith)
+bytesOf-wordsOf (a ∷ b ∷ []) h e = absurd (omega arith)
+bytesOf-wordsOf (a ∷ b ∷ c ∷ []) h e = absurd (omega arith)
+bytesOf-wordsOf (a ∷ b ∷ c ∷ d ∷ bytes) h e =
+    let ha = h 0 in
+    let hb = h 1 in
+    let hc = h 2 in
+    let w : ℕ = wordOf a b c d in
+    let ea : w % 256 ≡ a = omega arith in
+    let qb : w / 256 ≡ b + (c + d * 256) * 256 = omega arith in
+    let eb : w / 256 % 256 ≡ b = ap (λ (q : ℕ). q % 256) qb ∙ low b (c + d * 256) hb in
+    let qc : w / 65536 ≡ c + d * 256 = omega arith in
+    let ec : w / 65536 % 256 ≡ c = ap (λ (q : ℕ). q % 256) qc ∙ low c d hc in
+    let ed : w / 16777216 ≡ d = omega arith in
+    let ih = bytesOf-wordsOf bytes (λ i. h (suc (suc (suc (suc i))))) (omega arith) in
+    cc
+
+-- ---- files
+
+file-passed : (limits : Limits) (bytes : List ℕ) → length bytes % 4 ≡ 0 → length bytes ≤ 4 * longestSystem limits
+    → readSystemFile limits bytes ≡ readSystem limits (wordsOf bytes)
+unfolding readSystemFile
+file-passed limits bytes h k = simp (eq-eqb _ _ h, le-ltb _ _ k)
+
+-- row 10 was passed
+refuse-passed : {A : Type 0} (b : Bool) (number place : ℕ) (next : Outcome A) (a : A) → refuse b number place next ≡ accepted a → (b ≡ false) × (next ≡ accepted a)
+refuse-passed true number place next a e = absurd (let z : _≡_ {A = ℕ} 0 1 = cc in omega arith)
+refuse-passed false number place next a e = (refl, e)
+
+or-false : (a b : Bool) → a || b ≡ false → a ≡ false
+or-false true b e = e
+or-false false b e = refl
+
+module _ (limits : Limits) (fit : LimitsFit limits) (s : System) where
+  pub file-read-of-written : SystemWithin limits s → readSystemFile limits (bytesOf (systemWords s)) ≡ accepted s
+  file-read-of-written h =
+      let n = length-bytesOf (systemWords s) in
+      let most = systemWords-most limits fit s h in
+      file-passed limits (bytesOf (systemWords s)) (omega arith) (omega arith)
+      ∙ ap (readSystem limits) (wordsOf-bytesOf (systemWords s))
+      ∙ system-read-of-written limits fit s h
+
+  module _ (bytes : List ℕ) (small : Bytes bytes) where
+    pub file-written-of-read : readSystemFile limits bytes ≡ accepted s → (bytes ≡ bytesOf (systemWords s)) × SystemWithin limits s
+    unfolding readSystemFile
+    file-written-of-read e =
+        let t = refuse-passed (broken bytes || tooLong limits bytes) 10 0 _ s e in
+        let whole = eqb-true _ _ (not-false _ (or-false (broken bytes) (tooLong limits bytes) (t .0))) in
+        let r = system-written-of-read limits fit (wordsOf bytes) s (t .1) in
+        (sym (bytesOf-wordsOf bytes small whole) ∙ ap bytesOf (r .0), r .1)
+
+    -- the reader accepts just the files that hold the written form of a system within the limits
+    pub file-accepted-iff : (readSystemFile limits bytes ≡ accepted s) ↔ ((bytes ≡ bytesOf (systemWords s)) × SystemWithin limits s)
+    file-accepted-iff = (file-written-of-read, λ h. ap (readSystemFile limits) (h .0) ∙ file-read-of-written (h .1))

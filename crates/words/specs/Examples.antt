@@ -1,0 +1,84 @@
+-- The definitions compute: the example inputs of document 01's table "Turned back", case 1 as words, and the longest forms.
+use mathlib.Core.Path.{_≡_, refl}
+use Prim.Native.Nat.{ℕ}
+use mathlib.Core.List.{List, [], _∷_, map}
+use Rattle.words.specs.Limits.{office, panel, longestSystem, longestCertificate}
+use Rattle.words.specs.Outcome.{Outcome}
+use Rattle.words.specs.Outcome.Outcome.{accepted, refused}
+use Rattle.words.specs.System.{System, shape, systemWords, readSystem}
+use Rattle.words.specs.Certificate.{Certificate, certificateWords, readCertificate}
+use Rattle.words.specs.Certificate.Certificate.{solution}
+use Rattle.words.specs.Bytes.{readSystemFile}
+
+-- ---- case 1
+
+case1 : System
+case1 = record { modulus = 2; rows = 1; columns = 1; matrix = (0 ∷ 1 ∷ []) ∷ []; right = (1 ∷ []) ∷ [] }
+
+sheet1 : List ℕ
+sheet1 = 0x10110002 ∷ 0x20000002 ∷ 0x30000000 ∷ 0x30000001 ∷ 0x20000001 ∷ 0x30000001 ∷ 0x40000007 ∷ []
+
+card1 : List ℕ
+card1 =
+    0x50000001 ∷ 0x20000002 ∷ 0x30000000 ∷ 0x30000001 ∷ 0x20000001 ∷ 0x30000001 ∷ 0x20000002 ∷ 0x30000000 ∷ 0x30000001 ∷ 0x20000001 ∷ 0x30000001
+    ∷ 0x4000000C
+    ∷ []
+
+answer1 : Certificate
+answer1 = solution (0 ∷ 1 ∷ []) ((1 ∷ []) ∷ []) (0 ∷ 1 ∷ []) ((1 ∷ []) ∷ [])
+
+sheet1-written : systemWords case1 ≡ sheet1
+unfolding systemWords case1 sheet1
+sheet1-written = refl
+
+sheet1-read : readSystem office sheet1 ≡ accepted case1
+unfolding readSystem case1 sheet1
+sheet1-read = refl
+
+card1-written : certificateWords answer1 ≡ card1
+unfolding certificateWords answer1 card1
+card1-written = refl
+
+card1-read : readCertificate office (shape case1) card1 ≡ accepted answer1
+unfolding readCertificate case1 answer1 card1
+card1-read = refl
+
+-- ---- the table: rows 1 to 9, with the empty sheet first and words that follow last
+
+sheets : List (List ℕ)
+sheets =
+    []
+    ∷ (0x00110002 ∷ [])
+    ∷ (0x10110004 ∷ [])
+    ∷ (0x10010002 ∷ [])
+    ∷ (0x10110002 ∷ [])
+    ∷ (0x10110002 ∷ 0x30000001 ∷ [])
+    ∷ (0x10110002 ∷ 0x20000011 ∷ [])
+    ∷ (0x10110002 ∷ 0x20000001 ∷ 0x30000002 ∷ [])
+    ∷ (0x10110002 ∷ 0x20000001 ∷ 0x30000000 ∷ [])
+    ∷ (0x10110002 ∷ 0x20000002 ∷ 0x30000000 ∷ 0x30000001 ∷ 0x20000001 ∷ 0x30000001 ∷ 0x40000008 ∷ [])
+    ∷ (0x10110002 ∷ 0x20000002 ∷ 0x30000000 ∷ 0x30000001 ∷ 0x20000001 ∷ 0x30000001 ∷ 0x40000007 ∷ 0 ∷ [])
+    ∷ []
+
+sheets-read : map (readSystem office) sheets ≡
+    refused 4 0 ∷ refused 1 0 ∷ refused 2 0 ∷ refused 3 0 ∷ refused 4 1 ∷ refused 5 1 ∷ refused 6 1 ∷ refused 7 2 ∷ refused 8 2 ∷ refused 9 6 ∷ refused 9 7 ∷ []
+unfolding readSystem sheets
+sheets-read = refl
+
+-- row 10
+file-read : readSystemFile office (0 ∷ 0 ∷ 0 ∷ 0 ∷ 0 ∷ []) ≡ refused 10 0
+unfolding readSystemFile
+file-read = refl
+
+-- rows 21 and 24, and 26 with its own limit: 121 coefficients are read on, 122 are refused
+cards : List (List ℕ)
+cards = [] ∷ (0x50000003 ∷ []) ∷ (0x50000001 ∷ []) ∷ (0x50000001 ∷ 0x20000079 ∷ []) ∷ (0x50000001 ∷ 0x2000007A ∷ []) ∷ []
+
+cards-read : map (readCertificate office (shape case1)) cards ≡ refused 24 0 ∷ refused 21 0 ∷ refused 24 1 ∷ refused 24 2 ∷ refused 26 1 ∷ []
+unfolding readCertificate case1 cards
+cards-read = refl
+
+-- ---- "Longest sheet 1,226 words, longest card 2,198 words"; on the panel cards have at most 302
+
+longest : longestSystem office ∷ longestCertificate office ∷ longestCertificate panel ∷ [] ≡ 1226 ∷ 2198 ∷ 302 ∷ []
+longest = refl

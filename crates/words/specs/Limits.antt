@@ -1,0 +1,39 @@
+-- The limits of document 01, "Bounds", and those of the panel (document 02, item 4). Every definition and law takes them as a parameter.
+use Prim.Native.Nat.{ℕ, _+_, _*_}
+
+pub record Limits : Type 0 where
+  -- rows and columns: 1 to so many
+  pub rows : ℕ
+  pub columns : ℕ
+  -- coefficients of one polynomial of a system, of a certificate: the greatest degree and one more
+  pub systemCoefficients : ℕ
+  pub certificateCoefficients : ℕ
+
+abbrev pub office : Limits
+office = record { rows = 8; columns = 8; systemCoefficients = 16; certificateCoefficients = 121 }
+
+abbrev pub panel : Limits
+panel = record { rows = 4; columns = 4; systemCoefficients = 8; certificateCoefficients = 29 }
+
+-- "p: any prime from 2 to 65,521"
+abbrev pub largestModulus : ℕ
+largestModulus = 65521
+
+-- how many polynomials a system has: those of A and of b
+abbrev pub systemCount : ℕ → ℕ → ℕ
+systemCount rows columns = rows * columns + rows
+
+-- how many a solution has: d, N, w and Z. An absence has one for each row.
+abbrev pub solutionCount : ℕ → ℕ → ℕ
+solutionCount rows columns = 1 + columns + 1 + rows
+
+-- a head, so many polynomials with so many coefficients each, an end
+abbrev pub wordsFor : ℕ → ℕ → ℕ
+wordsFor count coefficients = 2 + count * (1 + coefficients)
+
+-- "Longest sheet 1,226 words, longest card 2,198 words"
+abbrev pub longestSystem : Limits → ℕ
+longestSystem limits = wordsFor (systemCount (limits .rows) (limits .columns)) (limits .systemCoefficients)
+
+abbrev pub longestCertificate : Limits → ℕ
+longestCertificate limits = wordsFor (solutionCount (limits .rows) (limits .columns)) (limits .certificateCoefficients)

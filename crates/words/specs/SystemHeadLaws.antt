@@ -1,0 +1,87 @@
+-- The head of a system: reading what was written, and what was read.
+use mathlib.Core.Path.{_≡_, refl, ap, subst₂}
+use mathlib.Core.Bool.{Bool, true, not, _&&_}
+use mathlib.Core.List.{List, [], _∷_}
+use Prim.Native.Nat.{ℕ, _+_, _*_, _/_, _%_, _≤_, _<_}
+use native.Mathlib.Omega.{arith}
+use lib.Dec.{eqb, leb}
+use borrow.Author.Tests.{eqb-true, eq-eqb, not-false, le-leb, leb-true}
+use Rattle.modular.specs.Prime.{prime?}
+use Rattle.modular.specs.Primality.{prime-of-prime?, prime?-of-prime}
+use Rattle.words.specs.Word.{kind, word}
+use Rattle.words.specs.Limits.{Limits}
+use Rattle.words.specs.Reading.{Reading, turnBack}
+use Rattle.words.specs.Reading.Reading.{read, fault}
+use Rattle.words.specs.System.{Shape, ShapeWithin, headWord, headShape, oneTo, systemHeadFrom}
+use Rattle.words.specs.ReadingLaws.{fault-read, turnBack-read, and-passed}
+use Rattle.words.specs.LimitsLaws.{LimitsFit}
+use Rattle.words.specs.LargestModulus.{prime-largest}
+use Rattle.words.specs.FrameLaws.{HeadLaws}
+
+oneTo-true : (most n : ℕ) → 1 ≤ n → n ≤ most → oneTo most n ≡ true
+oneTo-true most n low high = simp (le-leb 1 n low, le-leb n most high)
+
+oneTo-from : (most n : ℕ) → oneTo most n ≡ true → (1 ≤ n) × (n ≤ most)
+oneTo-from most n e = let t = and-passed (leb 1 n) (leb n most) (ap not e) in (leb-true 1 n (t .0), leb-true n most (t .1))
+
+-- the low four bits
+low : (x r q : ℕ) → x ≡ r + q * 16 → r < 16 → x % 16 ≡ r
+low x r q e h = omega arith
+
+module _ (limits : Limits) where
+  head-written : LimitsFit limits → (h : Shape) → ShapeWithin limits h → (rest : List ℕ) → systemHeadFrom limits (headWord h ∷ rest) ≡ read h rest
+  unfolding systemHeadFrom headWord headShape
+  head-written fit h w rest =
+      let s = w .modulus in
+      let r₁ = w .rows in
+      let c₁ = w .columns in
+      let w₀ : ℕ = headWord h in
+      let ep : w₀ % 65536 ≡ h .modulus = omega arith in
+      let qr : w₀ / 65536 ≡ h .rows + (h .columns + 256) * 16 = omega arith in
+      let er : w₀ / 65536 % 16 ≡ h .rows = low _ _ (h .columns + 256) qr (omega arith) in
+      let qc : w₀ / 1048576 ≡ h .columns + 16 * 16 = omega arith in
+      let ec : w₀ / 1048576 % 16 ≡ h .columns = low _ _ 16 qc (omega arith) in
+      let ek : kind w₀ ≡ 1 = omega arith in
+      let qz : w₀ / 16777216 ≡ 16 = omega arith in
+      let ez : w₀ / 16777216 % 16 ≡ 0 = low _ _ 1 qz (omega arith) in
+      simp (eq-eqb _ _ ek, eq-eqb _ _ ez, ep, er, ec, prime?-of-prime (w .prime), oneTo-true _ _ (r₁ .0) (r₁ .1), oneTo-true _ _ (c₁ .0) (c₁ .1))
+
+  -- a word whose kind is 1 and whose bits 24 to 27 are zero is the head of what it holds
+  head-word : (w : ℕ) → kind w ≡ 1 → w / 16777216 % 16 ≡ 0 → w ≡ headWord (headShape w)
+  unfolding headWord headShape
+  head-word w k z =
+      let q : w / 16777216 ≡ 16 = omega arith in
+      let c : w / 1048576 ≡ 256 + w / 1048576 % 16 = omega arith in
+      let r : w / 65536 ≡ w / 1048576 * 16 + w / 65536 % 16 = omega arith in
+      omega arith
+
+  pub record HeadRead (ws : List ℕ) (h : Shape) (rest : List ℕ) : Type 0 where
+    pub words : ws ≡ headWord h ∷ rest
+    pub within : ShapeWithin limits h
+
+  pub head-read : (ws : List ℕ) (h : Shape) (rest : List ℕ) → systemHeadFrom limits ws ≡ read h rest → HeadRead ws h rest
+  unfolding systemHeadFrom headShape
+  head-read [] h rest e = absurd (fault-read e)
+  head-read (w ∷ ws) h rest e =
+      let g = headShape w in
+      let a = turnBack-read (not (eqb (kind w) 1 && eqb (w / 16777216 % 16) 0)) _ _ _ e in
+      let b = turnBack-read (not (prime? (g .modulus))) _ _ _ (a .1) in
+      let c = turnBack-read (not (oneTo (limits .rows) (g .rows) && oneTo (limits .columns) (g .columns))) _ _ _ (b .1) in
+      let k = and-passed (eqb (kind w) 1) (eqb (w / 16777216 % 16) 0) (a .0) in
+      let n = and-passed (oneTo (limits .rows) (g .rows)) (oneTo (limits .columns) (g .columns)) (c .0) in
+      let prime = prime-of-prime? (w % 65536) (not-false _ (b .0)) in
+      let eh : g ≡ h = cc in
+      let er : ws ≡ rest = cc in
+      subst₂ (HeadRead (w ∷ ws)) eh er
+      (record {
+        words = ap (λ (v : ℕ). v ∷ ws) (head-word w (eqb-true (kind w) 1 (k .0)) (eqb-true (w / 16777216 % 16) 0 (k .1)));
+        within = record {
+          prime = prime;
+          modulus = prime-largest (w % 65536) prime (omega arith);
+          rows = oneTo-from _ _ (n .0);
+          columns = oneTo-from _ _ (n .1);
+        };
+      })
+
+  pub system-head-laws : LimitsFit limits → HeadLaws (systemHeadFrom limits) headWord (ShapeWithin limits)
+  system-head-laws fit = record { written = head-written fit; read = λ ws h rest e. let t = head-read ws h rest e in (t .words, t .within) }
