@@ -23,7 +23,8 @@ use Rattle.modular.specs.Arithmetic.{Arithmetic}
 use Rattle.modular.specs.Carried.{numberArithmetic}
 use Rattle.modular.specs.SizeLaws.{sized}
 use Rattle.modular.specs.DivisionLaws.{divisionLaws, DivisionLaws}
-use Rattle.modular.specs.GcdLaws.{monicLaws, gcdLaws, MonicLaws, GcdLaws}
+use Rattle.modular.specs.MonicLaws.{monicLaws, MonicLaws}
+use Rattle.modular.specs.GcdLaws.{gcdLaws, GcdLaws}
 use Rattle.modular.specs.Numbers.{numbers}
 use Rattle.truth.specs.Solution.{AllCanonical, Divides, Clears, Monic, Denominator}
 use Rattle.truth.specs.Lift.{canonical-at, vector, divides-list, divides-lift}
