@@ -1,14 +1,14 @@
 -- The invariant of long division: from the place i on, the words hold what the definition makes of the coefficients from i on.
 use mathlib.Core.Path.{_≡_, refl, sym, ap, ap₂, _∙_, subst}
-use mathlib.Core.Logic.{⊎-elim, inl}
-use mathlib.Core.List.{List, [], _∷_}
-use Prim.Native.Nat.{ℕ, zero, suc, _+_, _-_, _*_, _%_, _≤_, _<_}
-use native.Mathlib.Nat.{mod-lt, mod-mod, mod-eq-of-lt, mul-le-mul, mul-le-mul-right, add-mul, add-zero}
+use mathlib.Core.Logic.{inl}
+use mathlib.Core.List.{List, _∷_}
+use Prim.Native.Nat.{ℕ, _+_, _-_, _*_, _%_, _≤_, _<_}
+use native.Mathlib.Nat.{mod-lt, mod-eq-of-lt, mul-le-mul, mul-le-mul-right, add-mul, add-zero}
 use native.Mathlib.Numerals.{add-one}
 use native.Mathlib.Omega.{arith}
 use lib.ListN.{length, getD, set, take, drop, length-set, length-take, length-drop}
 use lib.Seq.{drop-cons, drop-set-lt, getD-take, getD-set-same, length-take-le}
-use Rattle.algebra.specs.Coefficients.{cons, coefficient, leading, add, subtract, scale, shift, factor, extend, divide}
+use Rattle.algebra.specs.Coefficients.{cons, coefficient, leading, add, subtract, scale, shift, factor, divide}
 use Rattle.modular.specs.Modulo.{modulo}
 use Rattle.modular.specs.Canonical.{Canonical}
 use Rattle.modular.specs.Inverse.{inverse-below}

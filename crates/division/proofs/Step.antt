@@ -6,18 +6,18 @@ use mathlib.Core.List.{List, [], _∷_}
 use Prim.Native.Nat.{ℕ, zero, suc, _+_, _-_, _*_, _/_, _%_, _≤_, _<_}
 use native.Mathlib.Nat.{zero-mod, zero-mul, mod-lt, mod-eq-of-lt, add-mod-mod, add-mul, add-mul-mod-self-right, div-add-mod', mul-comm}
 use native.Mathlib.Omega.{arith}
-use borrow.Author.Tests.{ne-eqb}
 use lib.ListN.{length, getD, take, drop, length-take, List·getD-eq-default}
 use lib.Seq.{drop-cons, getD-take, getD-drop}
-use Rattle.algebra.specs.Coefficients.{Division, single, cons, coefficient, leading, add, subtract, negate, scale, shift, factor, extend, divide, quotient, remainder}
+use borrow.Author.Tests.{ne-eqb}
+use Rattle.algebra.specs.Coefficients.{Division, single, cons, coefficient, leading, add, subtract, negate, scale, factor, extend, divide, quotient, remainder}
 use Rattle.modular.specs.Modulo.{modulo}
 use Rattle.modular.specs.Canonical.{Canonical}
 use Rattle.modular.specs.Closed.{canonical-nil, canonical-tail, canonical-add, canonical-scale, canonical-subtract}
 use Rattle.modular.specs.Coefficientwise.{coefficient-getD, coefficient-below, coefficient-beyond, coefficient-add, coefficient-subtract, coefficient-scale, canonical-same}
-use Rattle.polynomial.proofs.Rows.{add-nil, scale-zero}
 use Rattle.vector.specs.Stored.{below-or-not}
 use Rattle.vector.specs.Bound.{AtMost}
 use Rattle.vector.specs.Reduced.{polynomial, reduced, reduced-is, word-inside, word-behind}
+use Rattle.polynomial.proofs.Rows.{add-nil, scale-zero}
 
 -- a step of the definition, where it is known what it computes with
 pub extend-is : (p : ℕ) (d : List ℕ) (a : ℕ) (w : Division ℕ) (r : List ℕ) (c : ℕ) → cons (modulo p) a (w .remainder) ≡ r →
@@ -30,7 +30,8 @@ extend-is p d a w r c er ec =
 
 cons-canonical : (p a : ℕ) (f : List ℕ) → Canonical p (a ∷ f) → cons (modulo p) a f ≡ a ∷ f
 unfolding modulo cons single Canonical
-cons-canonical p a [] h = let some : 0 < a = h .1 in ap (λ (t : Bool). single t a) (ne-eqb a 0 (λ e. omega arith))
+cons-canonical p a [] h =
+    let some : 0 < a = h .1 in ap (λ (t : Bool). single t a) (ne-eqb a 0 (λ e. omega arith))
 cons-canonical p a (b ∷ f) h = refl
 
 subtract-nothing : (p : ℕ) (f d : List ℕ) → subtract (modulo p) f (scale (modulo p) 0 d) ≡ f

@@ -1,6 +1,6 @@
 // Division of polynomials modulo a prime, and what is made of it: remainder, exact quotient and greatest common divisor.
 use polynomial::Polynomial;
-use polynomial::words::zeros;
+use polynomial::value::zeros;
 use residue::modulus::Modulus;
 ghost use Prim.Native.Nat.{_<_};
 ghost use Rattle.algebra.specs.Coefficients.{quotient, remainder};

@@ -1,9 +1,8 @@
 // Long division on words. What is left of the dividend is kept in sums that are not reduced.
 use residue::modulus::Modulus;
 use vector::add_scaled;
-ghost use mathlib.Core.Path.{_≡_};
-ghost use Prim.Native.Nat.{ℕ, _+_, _≤_};
-ghost use lib.ListN.{length, getD, take};
+ghost use Prim.Native.Nat.{_+_, _≤_};
+ghost use lib.ListN.{length, take};
 ghost use Rattle.modular.specs.Canonical.{Canonical};
 ghost use Rattle.residue.specs.Modulus.{ValidModulus};
 ghost use Rattle.vector.specs.Bound.{AtMost};

@@ -1,18 +1,18 @@
 -- The invariant of the product's loop: the rows before i are added.
 use mathlib.Core.Path.{_≡_, refl, sym, ap, ap₂, _∙_}
-use mathlib.Core.List.{List, []}
-use Prim.Native.Nat.{ℕ, _+_, _-_, _*_, _%_, _≤_, _<_}
-use native.Mathlib.Nat.{le-antisymm, mul-le-mul, mul-le-mul-right, add-mul, add-zero}
+use mathlib.Core.List.{List}
+use Prim.Native.Nat.{ℕ, _+_, _*_, _%_, _≤_, _<_}
+use native.Mathlib.Nat.{le-antisymm, mul-le-mul, add-mul}
 use native.Mathlib.Numerals.{add-one}
 use native.Mathlib.Omega.{arith}
-use lib.ListN.{length, getD, take, drop, length-take}
-use Rattle.algebra.specs.Coefficients.{coefficient, add, scale, shift, mul}
+use lib.ListN.{length, getD, take, drop}
+use Rattle.algebra.specs.Coefficients.{coefficient, add, scale, shift}
 use Rattle.modular.specs.Modulo.{modulo}
 use Rattle.modular.specs.Closed.{canonical-multiple}
 use Rattle.modular.specs.Product.{rows, canonical-rows}
 use Rattle.vector.specs.Stored.{stored, length-stored}
 use Rattle.vector.specs.Bound.{AtMost, at-most-sum}
-use Rattle.vector.specs.Reduced.{polynomial, reduced, canonical-reduced, coefficient-reduced, word-inside}
+use Rattle.vector.specs.Reduced.{polynomial, canonical-reduced, coefficient-reduced, word-inside}
 use Rattle.vector.specs.Multiple.{sumAt, GainsMultiple}
 use Rattle.polynomial.specs.Product.{GainsProduct}
 use Rattle.polynomial.proofs.Rows.{add-nil, rows-mul, length-polynomial, scale-mod, add-assoc}

@@ -1,7 +1,7 @@
 pub mod Made
-pub mod Reduction
 pub mod Compared
 pub mod Multiple
 pub mod Rows
+pub mod Residues
 pub mod Adding
 pub mod Products

@@ -1,19 +1,16 @@
 -- The values 0 and 1, and what the words of a value say of its coefficients.
-use mathlib.Core.Path.{_≡_, refl, sym, ap, _∙_}
-use mathlib.Core.Logic.{⊎-elim}
-use mathlib.Core.Bool.{true, false}
+use mathlib.Core.Path.{_≡_, refl, sym, _∙_}
 use mathlib.Core.List.{List, [], _∷_}
 use Prim.Native.Nat.{ℕ, zero, suc, _-_, _≤_, _<_}
-use native.Mathlib.Nat.{eq-zero-or-pos}
 use native.Mathlib.Omega.{arith}
 use lib.Dec.{eqb, eqb·suc-zero}
 use lib.ListN.{length, getD, set, take, replicate, length-set}
 use lib.Seq.{getD-set-same, getD-set-other, getD-take, length-take-le}
-use Rattle.algebra.specs.Coefficients.{one, coefficient, leading}
+use Rattle.algebra.specs.Coefficients.{one, leading}
 use Rattle.modular.specs.Modulo.{modulo}
 use Rattle.modular.specs.Closed.{canonical-nil, canonical-one}
 use Rattle.modular.specs.Coefficientwise.{coefficient-getD, coefficient-last}
-use Rattle.polynomial.specs.Value.{coefficientsOf, Represents, represents, zero?}
+use Rattle.polynomial.specs.Value.{Represents, represents, zero?}
 
 pub zeros-are-zero : (n i : ℕ) → getD {A = ℕ} (replicate n 0) i 0 ≡ 0
 zeros-are-zero zero i = refl

@@ -1,8 +1,8 @@
 -- f + c·g on the words of values, and the c for which it is a sum or a difference.
 use mathlib.Core.Path.{_≡_, refl, sym, ap, ap₂, _∙_}
 use mathlib.Core.List.{List, [], _∷_}
-use Prim.Native.Nat.{ℕ, zero, suc, _+_, _-_, _*_, _%_, _≤_, _<_, max}
-use native.Mathlib.Nat.{mod-eq-of-lt, mod-mod, one-mul, mul-le-mul, mul-le-mul-right, add-mul, add-mul-mod-self-right, mul-comm}
+use Prim.Native.Nat.{ℕ, _+_, _-_, _*_, _%_, _≤_, _<_}
+use native.Mathlib.Nat.{mod-eq-of-lt, one-mul, mul-le-mul, mul-le-mul-right, add-mul, add-mul-mod-self-right, mul-comm}
 use native.Mathlib.Omega.{arith}
 use lib.ListN.{length, getD}
 use Rattle.algebra.specs.Coefficients.{coefficient, add, negate, subtract, scale, shift, monic}

@@ -1,7 +1,7 @@
 -- A product is its rows c·x^k·g added up; those behind the last coefficient are zero. And sums of polynomials modulo any p.
 use mathlib.Core.Path.{_≡_, refl, sym, ap, ap₂, _∙_}
 use mathlib.Core.List.{List, [], _∷_}
-use Prim.Native.Nat.{ℕ, zero, suc, _+_, _-_, _*_, _%_, _≤_, _<_}
+use Prim.Native.Nat.{ℕ, zero, suc, _+_, _-_, _%_, _≤_, _<_}
 use native.Mathlib.Nat.{zero-mod, zero-mul, mod-add-mod, add-mod-mod}
 use native.Mathlib.Omega.{arith}
 use lib.ListN.{length, take, drop}
@@ -31,7 +31,8 @@ scale-zero p (a ∷ f) = ap₂ (λ (x : ℕ) (g : List ℕ). cons (modulo p) x g
 
 rows-behind : (p : ℕ) (f g : List ℕ) (j : ℕ) → rows p f g (j + length f) ≡ rows p f g (length f)
 unfolding rows
-rows-behind p f g zero = let e : 0 + length f ≡ length f = omega arith in ap (rows p f g) e
+rows-behind p f g zero =
+    let e : 0 + length f ≡ length f = omega arith in ap (rows p f g) e
 rows-behind p f g (suc j) =
     let e : suc j + length f ≡ suc (j + length f) = omega arith in
     let none : coefficient (modulo p) f (j + length f) ≡ 0 = coefficient-beyond p f (j + length f) (omega arith) in

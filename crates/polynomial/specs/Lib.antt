@@ -1,4 +1,3 @@
 pub mod Value
-pub mod Words
 pub mod Equal
 pub mod Product

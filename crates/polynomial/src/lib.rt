@@ -4,6 +4,5 @@ pub mod equal;
 pub mod linear;
 pub mod product;
 pub mod value;
-pub mod words;
 
 pub use value::Polynomial;

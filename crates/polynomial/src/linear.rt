@@ -3,7 +3,7 @@ use crate::value::Polynomial;
 use residue::modulus::Modulus;
 use vector::add_scaled;
 ghost use mathlib.Core.Path.{_≡_};
-ghost use Prim.Native.Nat.{_<_, _≤_, max};
+ghost use Prim.Native.Nat.{_<_, max};
 ghost use Rattle.algebra.specs.Coefficients.{add, subtract, scale, monic};
 ghost use Rattle.modular.specs.Modulo.{modulo};
 ghost use Rattle.residue.specs.Modulus.{ValidModulus};

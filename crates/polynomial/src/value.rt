@@ -1,8 +1,8 @@
 // The value itself: made, and asked for what it is.
-use crate::words::reduce_into;
-use crate::words::trimmed;
-use crate::words::zeros;
 use residue::modulus::Modulus;
+use vector::copy;
+use vector::find_leading;
+use vector::reduce_range;
 ghost use mathlib.Core.Path.{_≡_};
 ghost use mathlib.Core.List.{[]};
 ghost use Prim.Native.Nat.{ℕ, _+_, _*_, _<_, _≤_};
@@ -17,6 +17,13 @@ ghost use Rattle.polynomial.specs.Value.{coefficientsOf, Represents, zer
 pub struct Polynomial {
     pub size: usize,
     pub coefficients: [u64; 256],
+}
+
+// Words to compute in.
+pub fn zeros() -> [u64; 256]
+    ensures { λ r. ⌜ (length r ≡ 256) × ((i : ℕ) → getD r i 0 ≡ 0) ⌝ }
+{
+    [0; 256]
 }
 
 impl Polynomial {
@@ -49,12 +56,13 @@ impl Polynomial {
         requires small { ⌜ ((i : ℕ) → i < n → getD (now words) (a + i) 0 < 4294967296 * m .p) ⌝ }
         ensures { λ r. ⌜ Represents (m .p) r (polynomial (m .p) (now (words .entry)) a n) ⌝ }
     {
-        let mut reduced = zeros();
-        reduce_into(&mut reduced, words, a, n, m);
-        let size = trimmed(&reduced, n);
+        let mut residues = zeros();
+        copy(&mut residues, 0, words, a, n);
+        reduce_range(&mut residues, n, m);
+        let leading = find_leading(&residues, n, m);
         Polynomial {
-            size,
-            coefficients: reduced,
+            size: leading.size,
+            coefficients: residues,
         }
     }
 

@@ -17,16 +17,22 @@ pub storing-start : (f : ℕ → ℕ) (l : List ℕ) (d n : ℕ) → Storing f l
 storing-start f l d n = record { within = omega arith; same-length = refl; words = stored-none f l d }
 
 module _ {f : ℕ → ℕ} {l : List ℕ} {d n : ℕ} {w : List ℕ} {j : ℕ} (so-far : Storing f l d n w j) where
-  -- a turn reads what stood there at the start
+  -- at the place i of a turn: it reads what stood there at the start, and it stores
+  pub storing-reads-at : (i : ℕ) → i ≡ d + j → getD w i 0 ≡ getD l i 0
+  storing-reads-at i here = rw here (stored-next f l d j w (so-far .words))
+
+  pub storing-turn-at : (i : ℕ) → i ≡ d + j → (v : ℕ) → j < n → v ≡ f j → Storing f l d n (set w i v) (j + 1)
+  storing-turn-at i here v lt e = record {
+    within = omega arith;
+    same-length = length-set w i v ∙ so-far .same-length;
+    words = rw here (stored-more f l d j w v (so-far .words) e);
+  }
+
   pub storing-reads : getD w (d + j) 0 ≡ getD l (d + j) 0
-  storing-reads = stored-next f l d j w (so-far .words)
+  storing-reads = storing-reads-at (d + j) refl
 
   pub storing-turn : (v : ℕ) → j < n → v ≡ f j → Storing f l d n (set w (d + j) v) (j + 1)
-  storing-turn v lt e = record {
-    within = omega arith;
-    same-length = length-set w (d + j) v ∙ so-far .same-length;
-    words = stored-more f l d j w v (so-far .words) e;
-  }
+  storing-turn = storing-turn-at (d + j) refl
 
   pub storing-end : n ≤ j → w ≡ stored f l d n
   storing-end past = so-far .words ∙ ap (stored f l d) (le-antisymm (so-far .within) past)

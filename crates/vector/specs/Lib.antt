@@ -1,5 +1,7 @@
 pub mod Stored
-pub mod Coefficientwise
 pub mod Reduced
 pub mod Multiple
 pub mod Bound
+pub mod Size
+pub mod Moved
+pub mod Examples

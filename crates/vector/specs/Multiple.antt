@@ -1,14 +1,14 @@
 -- A multiple of one range of words added to another, and that modulo any p it is hand + c·x^k·slot.
-use mathlib.Core.Path.{_≡_, refl, sym, ap, ap₂, _∙_, subst}
+use mathlib.Core.Path.{_≡_, sym, ap, ap₂, _∙_}
 use mathlib.Core.Logic.{_⊎_, inl, inr, ⊎-elim}
 use mathlib.Core.List.{List}
-use Prim.Native.Nat.{ℕ, _+_, _*_, _%_, _≤_, _<_}
-use native.Mathlib.Nat.{add-zero, mul-zero, mod-eq-of-lt}
+use Prim.Native.Nat.{ℕ, _+_, _*_, _≤_, _<_}
+use native.Mathlib.Nat.{add-zero, mul-zero}
 use native.Mathlib.Omega.{arith}
 use lib.ListN.{length, getD, take, drop}
 use Rattle.algebra.specs.Coefficients.{add, scale, shift}
 use Rattle.modular.specs.Modulo.{modulo}
-use Rattle.vector.specs.Stored.{stored, stored-inside, stored-outside, stored-next, below-or-not}
+use Rattle.vector.specs.Stored.{stored, stored-inside, stored-outside, below-or-not}
 use Rattle.vector.specs.Reduced.{polynomial, word-inside, word-behind, reduced-multiple}
 
 -- the word of h at d + j plus c times the word of s at a + j
@@ -22,6 +22,7 @@ GainsMultiple h h′ d s a n c =
     (p b k m : ℕ) → 0 < p → b + k ≡ d → k + n ≤ m →
     polynomial p h′ b m ≡ add (modulo p) (polynomial p h b m) (shift (modulo p) k (scale (modulo p) c (polynomial p s a n)))
 
+-- the words of the m from b on, before and after
 module _ (h : List ℕ) (b k m : ℕ) (s : List ℕ) (a n c : ℕ) (room : b + k + n ≤ length h) (inside : k + n ≤ m) where
   abbrev h′ : List ℕ
   h′ = stored (sumAt h (b + k) s a c) h (b + k) n
@@ -34,7 +35,7 @@ module _ (h : List ℕ) (b k m : ℕ) (s : List ℕ) (a n c : ℕ) (room : b + k
       ⊎-elim
       (λ lt.
       word-inside h′ b m i lt
-      ∙ stored-outside (sumAt h (b + k) s a c) h (b + k) n (b + i) (⊎-elim (λ lo. inl (omega arith)) (λ hi. inr (omega arith)) out)
+      ∙ stored-outside _ h (b + k) n (b + i) (⊎-elim (λ lo. inl (omega arith)) (λ hi. inr (omega arith)) out)
       ∙ sym (word-inside h b m i lt))
       (λ ge. word-behind h′ b m i ge ∙ sym (word-behind h b m i ge))
       (below-or-not i m)
@@ -48,14 +49,22 @@ module _ (h : List ℕ) (b k m : ℕ) (s : List ℕ) (a n c : ℕ) (room : b + k
       word-inside h′ b m (k + j) lt-m
       ∙ ap (λ (i : ℕ). getD h′ i 0) place
       ∙ stored-inside (sumAt h (b + k) s a c) h (b + k) n j room lt
-      ∙ sym (ap₂ (λ (x y : ℕ). x + c * y) (word-inside h b m (k + j) lt-m ∙ ap (λ (i : ℕ). getD h i 0) place) (word-inside s a n j lt)))
+      ∙ sym
+      (ap₂
+      (λ (x y : ℕ). x + c * y)
+      (word-inside h b m (k + j) lt-m ∙ ap (λ (i : ℕ). getD h i 0) place)
+      (word-inside s a n j lt)))
       (λ ge.
       same (k + j) (inr (omega arith))
-      ∙ sym (ap (λ (y : ℕ). word h (k + j) + c * y) (word-behind s a n j ge) ∙ ap (λ (z : ℕ). word h (k + j) + z) (mul-zero c) ∙ add-zero (word h (k + j))))
+      ∙ sym
+      (ap (λ (y : ℕ). word h (k + j) + c * y) (word-behind s a n j ge)
+      ∙ ap (λ (z : ℕ). word h (k + j) + z) (mul-zero c)
+      ∙ add-zero (word h (k + j))))
       (below-or-not j n)
 
--- such a sum gains the multiple
-pub gains-multiple : (h h′ : List ℕ) (d : ℕ) (s : List ℕ) (a n c : ℕ) → d + n ≤ length h → h′ ≡ stored (sumAt h d s a c) h d n → GainsMultiple h h′ d s a n c
+-- the words with the sums stored gain the multiple
+pub gains-multiple : (h h′ : List ℕ) (d : ℕ) (s : List ℕ) (a n c : ℕ) → d + n ≤ length h
+    → h′ ≡ stored (sumAt h d s a c) h d n → GainsMultiple h h′ d s a n c
 gains-multiple h h′ d s a n c room words p b k m positive place inside =
     let room′ : b + k + n ≤ length h = omega arith in
     ap (λ (l : List ℕ). polynomial p l b m) (words ∙ ap (λ (x : ℕ). stored (sumAt h x s a c) h x n) (sym place))

@@ -1,18 +1,21 @@
 -- Words as polynomials modulo p. A hand holds sums that are not reduced, and zeros may stand at its end; `reduced` is the
 -- polynomial of document 01 that it stands for: coefficients below p, the last not 0.
-use mathlib.Core.Path.{_≡_, refl, sym, ap, ap₂, _∙_, subst}
+use mathlib.Core.Path.{_≡_, sym, ap, ap₂, _∙_, subst}
 use mathlib.Core.Logic.{⊎-elim}
-use mathlib.Core.List.{List, [], _∷_, _++_}
-use Prim.Native.Nat.{ℕ, zero, suc, _+_, _-_, _*_, _/_, _%_, _≤_, _<_}
-use native.Mathlib.Nat.{zero-mod, mod-lt, mod-mod, add-mod, add-zero, mul-add, mul-assoc, mul-add-mod-self-right, div-add-mod'}
+use mathlib.Core.List.{List, [], _∷_}
+use Prim.Native.Nat.{ℕ, zero, suc, _+_, _-_, _*_, _%_, _≤_, _<_}
+use native.Mathlib.Nat.{zero-mod, mod-lt, add-mod, add-zero}
 use native.Mathlib.Omega.{arith}
-use lib.ListN.{length, getD, take, drop, length-take, List·getD-eq-default}
+use lib.ListN.{getD, take, drop, length-take, List·getD-eq-default}
 use lib.Seq.{getD-take, getD-drop}
-use Rattle.algebra.specs.Coefficients.{cons, coefficient, leading, add, scale, shift}
+use Rattle.algebra.specs.Coefficients.{cons, coefficient, add, scale, shift}
 use Rattle.modular.specs.Modulo.{modulo}
 use Rattle.modular.specs.Canonical.{Canonical}
+use Rattle.modular.specs.Remainder.{mul-mod-mod}
+use Rattle.modular.specs.Coefficientwise.{coefficient-nil, coefficient-cons-zero, coefficient-cons-suc, coefficient-add}
+use Rattle.modular.specs.Coefficientwise.{coefficient-scale, coefficient-shift-below, coefficient-shift-from, canonical-same}
+use Rattle.modular.specs.Closed.{canonical-nil, canonical-cons, canonical-add, canonical-multiple}
 use Rattle.vector.specs.Stored.{below-or-not}
-use Rattle.vector.specs.Coefficientwise.{coefficient-nil, coefficient-cons-zero, coefficient-cons-suc, coefficient-add, coefficient-scale, coefficient-shift-below, coefficient-shift-from, canonical-cons, canonical-add, canonical-scale, canonical-shift, canonical-same}
 
 unfoldable pub reduced : ℕ → List ℕ → List ℕ
 reduced p [] = []
@@ -29,16 +32,13 @@ word-inside l b m i lt = rw (getD-take, getD-drop)
 pub word-behind : (l : List ℕ) (b m i : ℕ) → m ≤ i → getD (take m (drop b l)) i 0 ≡ 0
 word-behind l b m i ge = List·getD-eq-default (take m (drop b l)) 0 (simp length-take (omega arith))
 
-mul-mod-mod : (c y p : ℕ) → c * (y % p) % p ≡ c * y % p
-mul-mod-mod c y p =
-    let e : c * y ≡ c * (y / p) * p + c * (y % p) =
-    ap (λ (x : ℕ). c * x) (sym (div-add-mod' y p)) ∙ mul-add c (y / p * p) (y % p) ∙ ap (λ (x : ℕ). x + c * (y % p)) (sym (mul-assoc c (y / p) p)) in
-    sym (ap (λ (x : ℕ). x % p) e ∙ mul-add-mod-self-right (c * (y / p)) p (c * (y % p)))
+pub residue-same : (p : ℕ) {x y : ℕ} → x ≡ y → x % p ≡ y % p
+residue-same p e = ap (λ (x : ℕ). x % p) e
 
 module _ (p : ℕ) (positive : 0 < p) where
   pub canonical-reduced : (l : List ℕ) → Canonical p (reduced p l)
-  unfolding reduced Canonical
-  canonical-reduced [] = tt
+  unfolding reduced
+  canonical-reduced [] = canonical-nil p
   canonical-reduced (a ∷ l) = canonical-cons p (a % p) (reduced p l) (mod-lt a positive) (canonical-reduced l)
 
   pub coefficient-reduced : (l : List ℕ) (n : ℕ) → coefficient (modulo p) (reduced p l) n ≡ getD l n 0 % p
@@ -55,38 +55,59 @@ module _ (p : ℕ) (positive : 0 < p) where
   pub reduced-same : (l m : List ℕ) → ((n : ℕ) → getD l n 0 % p ≡ getD m n 0 % p) → reduced p l ≡ reduced p m
   reduced-same l m e = reduced-is l (reduced p m) (canonical-reduced m) (λ n. e n ∙ sym (coefficient-reduced m n))
 
+  pub polynomial-same : (l m : List ℕ) (a b n : ℕ) → ((j : ℕ) → j < n → getD l (a + j) 0 % p ≡ getD m (b + j) 0 % p)
+      → polynomial p l a n ≡ polynomial p m b n
+  polynomial-same l m a b n e =
+      reduced-same
+      (take n (drop a l))
+      (take n (drop b m))
+      (λ j.
+      ⊎-elim
+      (λ lt. residue-same p (word-inside l a n j lt) ∙ e j lt ∙ sym (residue-same p (word-inside m b n j lt)))
+      (λ ge. residue-same p (word-behind l a n j ge ∙ sym (word-behind m b n j ge)))
+      (below-or-not j n))
+
   -- c times the words q, added from the place k on
-  module _ (l m q : List ℕ) (k c : ℕ) (before : (i : ℕ) → i < k → getD m i 0 ≡ getD l i 0) (from : (j : ℕ) → getD m (k + j) 0 ≡ getD l (k + j) 0 + c * getD q j 0) where
-    abbrev multiple : List ℕ
-    multiple = shift (modulo p) k (scale (modulo p) c (reduced p q))
+  module _
+      (l m q : List ℕ)
+      (k c : ℕ)
+      (before : (i : ℕ) → i < k → getD m i 0 ≡ getD l i 0)
+      (from : (j : ℕ) → getD m (k + j) 0 ≡ getD l (k + j) 0 + c * getD q j 0)
+    where
+      abbrev multiple : List ℕ
+      multiple = shift (modulo p) k (scale (modulo p) c (reduced p q))
 
-    canonical-multiple : Canonical p multiple
-    canonical-multiple = canonical-shift p positive k _ (canonical-scale p positive c (reduced p q))
+      multiple-from : (j : ℕ) → coefficient (modulo p) multiple (k + j) ≡ c * getD q j 0 % p
+      multiple-from j =
+          coefficient-shift-from p k _ j
+          ∙ coefficient-scale p c (reduced p q) j
+          ∙ ap (λ (x : ℕ). c * x % p) (coefficient-reduced q j)
+          ∙ mul-mod-mod c (getD q j 0) p
 
-    multiple-from : (j : ℕ) → coefficient (modulo p) multiple (k + j) ≡ c * getD q j 0 % p
-    multiple-from j =
-        coefficient-shift-from p k _ j
-        ∙ coefficient-scale p c (reduced p q) j
-        ∙ ap (λ (x : ℕ). c * x % p) (coefficient-reduced q j)
-        ∙ mul-mod-mod c (getD q j 0) p
+      sum-is : (i y : ℕ) → coefficient (modulo p) multiple i ≡ y % p → getD m i 0 ≡ getD l i 0 + y
+          → getD m i 0 % p ≡ coefficient (modulo p) (add (modulo p) (reduced p l) multiple) i
+      sum-is i y ey em =
+          residue-same p em
+          ∙ add-mod (getD l i 0) y p
+          ∙ ap₂ (λ (u v : ℕ). (u + v) % p) (sym (coefficient-reduced l i)) (sym ey)
+          ∙ sym
+          (coefficient-add p positive (reduced p l) multiple i (canonical-reduced l) (canonical-multiple p positive k c (reduced p q)))
 
-    sum-is : (i y : ℕ) → coefficient (modulo p) multiple i ≡ y % p → getD m i 0 ≡ getD l i 0 + y → getD m i 0 % p ≡ coefficient (modulo p) (add (modulo p) (reduced p l) multiple) i
-    sum-is i y ey em =
-        ap (λ (x : ℕ). x % p) em
-        ∙ add-mod (getD l i 0) y p
-        ∙ sym (coefficient-add p positive (reduced p l) multiple i (canonical-reduced l) canonical-multiple ∙ ap₂ (λ (u v : ℕ). (u + v) % p) (coefficient-reduced l i) ey)
-
-    pub reduced-multiple : reduced p m ≡ add (modulo p) (reduced p l) multiple
-    reduced-multiple =
-        reduced-is
-        m
-        (add (modulo p) (reduced p l) multiple)
-        (canonical-add p positive (reduced p l) multiple (canonical-reduced l) canonical-multiple)
-        (λ i.
-        ⊎-elim
-        (λ lt. sum-is i 0 (coefficient-shift-below p k _ i lt ∙ sym (zero-mod p)) (before i lt ∙ sym (add-zero (getD l i 0))))
-        (λ ge.
-        let e : k + (i - k) ≡ i = omega arith in
-        let y : ℕ = c * getD q (i - k) 0 in
-        sum-is i y (subst (λ (x : ℕ). coefficient (modulo p) multiple x ≡ y % p) e (multiple-from (i - k))) (subst (λ (x : ℕ). getD m x 0 ≡ getD l x 0 + y) e (from (i - k))))
-        (below-or-not i k))
+      pub reduced-multiple : reduced p m ≡ add (modulo p) (reduced p l) multiple
+      reduced-multiple =
+          reduced-is
+          m
+          (add (modulo p) (reduced p l) multiple)
+          (canonical-add p positive (reduced p l) multiple (canonical-reduced l) (canonical-multiple p positive k c (reduced p q)))
+          (λ i.
+          ⊎-elim
+          (λ lt. sum-is i 0 (coefficient-shift-below p k _ i lt ∙ sym (zero-mod p)) (before i lt ∙ sym (add-zero (getD l i 0))))
+          (λ ge.
+          let e : k + (i - k) ≡ i = omega arith in
+          let y : ℕ = c * getD q (i - k) 0 in
+          sum-is
+          i
+          y
+          (subst (λ (x : ℕ). coefficient (modulo p) multiple x ≡ y % p) e (multiple-from (i - k)))
+          (subst (λ (x : ℕ). getD m x 0 ≡ getD l x 0 + y) e (from (i - k))))
+          (below-or-not i k))

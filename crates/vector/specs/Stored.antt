@@ -1,6 +1,6 @@
 -- A range of a list written anew: what the loops of this crate do to the words that they are lent. The contracts cite
 -- `stored`; `stored-inside`, `stored-outside` and `length-stored` say all of the list that a caller may ask.
-use mathlib.Core.Path.{_≡_, refl, sym, ap, _∙_, subst}
+use mathlib.Core.Path.{_≡_, refl, _∙_}
 use mathlib.Core.Logic.{_⊎_, inl, inr, ⊎-elim}
 use mathlib.Core.List.{List}
 use Prim.Native.Nat.{ℕ, zero, suc, _+_, _-_, _≤_, _<_}

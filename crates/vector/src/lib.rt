@@ -1,5 +1,13 @@
 // Loops on flat ranges of 64-bit words: the inner loops of the solver, the check and the polynomial product. A hand holds
 // sums that are not reduced, a slot numbers below p.
+pub mod leading;
 pub mod multiple;
+pub mod range;
 
+pub use leading::Leading;
+pub use leading::find_leading;
 pub use multiple::add_scaled;
+pub use range::clear;
+pub use range::copy;
+pub use range::exchange;
+pub use range::reduce_range;

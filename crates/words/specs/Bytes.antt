@@ -2,7 +2,7 @@
 use Prim.Native.Nat.{ℕ, _+_, _*_, _/_, _%_}
 use mathlib.Core.Bool.{Bool, not, _||_}
 use mathlib.Core.List.{List, [], _∷_}
-use lib.ListN.{length}
+use lib.ListN.{length, getD}
 use lib.Dec.{eqb, ltb}
 use Rattle.words.specs.Limits.{Limits, longestSystem}
 use Rattle.words.specs.Outcome.{Outcome, refuse}
@@ -10,6 +10,10 @@ use Rattle.words.specs.System.{System, readSystem}
 
 abbrev pub wordOf : ℕ → ℕ → ℕ → ℕ → ℕ
 wordOf a b c d = a + b * 256 + c * 65536 + d * 16777216
+
+-- the word that starts at a byte
+abbrev pub wordAt : List ℕ → ℕ → ℕ
+wordAt bytes at = wordOf (getD bytes at 0) (getD bytes (at + 1) 0) (getD bytes (at + 2) 0) (getD bytes (at + 3) 0)
 
 -- up to three bytes at the end are no word
 unfoldable pub wordsOf : List ℕ → List ℕ

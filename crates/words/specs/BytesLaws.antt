@@ -7,13 +7,13 @@ use Prim.Native.Nat.{ℕ, zero, suc, _+_, _*_, _/_, _%_, _≤_, _<_}
 use native.Mathlib.Omega.{arith}
 use lib.ListN.{length, getD}
 use lib.Dec.{eqb, ltb}
-use borrow.Author.Tests.{eq-eqb, eqb-true, le-ltb, not-false}
+use borrow.Author.Tests.{eq-eqb, ne-eqb, eqb-true, lt-ltb, le-ltb, not-false}
 use Rattle.words.specs.Limits.{Limits, longestSystem}
 use Rattle.words.specs.Word.{Words, Bytes}
 use Rattle.words.specs.Outcome.{Outcome, refuse}
 use Rattle.words.specs.Outcome.Outcome.{accepted, refused}
 use Rattle.words.specs.System.{System, SystemWithin, systemWords, readSystem}
-use Rattle.words.specs.Bytes.{wordOf, wordsOf, bytesOf, broken, tooLong, readSystemFile}
+use Rattle.words.specs.Bytes.{wordOf, wordAt, wordsOf, bytesOf, broken, tooLong, readSystemFile}
 use Rattle.words.specs.LimitsLaws.{LimitsFit}
 use Rattle.words.specs.SystemLaws.{system-read-of-written, system-written-of-read, systemWords-most}
 use Rattle.words.specs.WidthLaws.{systemWords-words}
@@ -25,6 +25,19 @@ length-wordsOf (a ∷ []) = refl
 length-wordsOf (a ∷ b ∷ []) = refl
 length-wordsOf (a ∷ b ∷ c ∷ []) = refl
 length-wordsOf (a ∷ b ∷ c ∷ d ∷ bytes) = let ih = length-wordsOf bytes in omega arith
+
+-- word i starts at byte 4·i
+pub wordsOf-at : (bytes : List ℕ) (i : ℕ) → i < length bytes / 4 → getD (wordsOf bytes) i 0 ≡ wordAt bytes (4 * i)
+unfolding wordsOf
+wordsOf-at [] i h = absurd (omega arith)
+wordsOf-at (a ∷ []) i h = absurd (omega arith)
+wordsOf-at (a ∷ b ∷ []) i h = absurd (omega arith)
+wordsOf-at (a ∷ b ∷ c ∷ []) i h = absurd (omega arith)
+wordsOf-at (a ∷ b ∷ c ∷ d ∷ bytes) zero h = refl
+wordsOf-at (a ∷ b ∷ c ∷ d ∷ bytes) (suc i) h =
+    let step : (k : ℕ) → 4 * suc i + k ≡ suc (suc (suc (suc (4 * i + k)))) = λ k. omega arith in
+    let first : 4 * suc i ≡ suc (suc (suc (suc (4 * i)))) = omega arith in
+    wordsOf-at bytes i (omega arith) ∙ sym (rw (step 1, step 2, step 3, first) refl)
 
 pub length-bytesOf : (ws : List ℕ) → length (bytesOf ws) ≡ 4 * length ws
 unfolding bytesOf
@@ -62,7 +75,15 @@ bytesOf-wordsOf (a ∷ b ∷ c ∷ d ∷ bytes) h e =
 
 -- ---- files
 
-file-passed : (limits : Limits) (bytes : List ℕ) → length bytes % 4 ≡ 0 → length bytes ≤ 4 * longestSystem limits
+pub file-broken : (limits : Limits) (bytes : List ℕ) → (length bytes % 4 ≡ 0 → ⊥) → readSystemFile limits bytes ≡ refused 10 0
+unfolding readSystemFile
+file-broken limits bytes h = simp (ne-eqb _ _ h)
+
+pub file-long : (limits : Limits) (bytes : List ℕ) → length bytes % 4 ≡ 0 → 4 * longestSystem limits < length bytes → readSystemFile limits bytes ≡ refused 10 0
+unfolding readSystemFile
+file-long limits bytes h k = simp (eq-eqb _ _ h, lt-ltb _ _ k)
+
+pub file-passed : (limits : Limits) (bytes : List ℕ) → length bytes % 4 ≡ 0 → length bytes ≤ 4 * longestSystem limits
     → readSystemFile limits bytes ≡ readSystem limits (wordsOf bytes)
 unfolding readSystemFile
 file-passed limits bytes h k = simp (eq-eqb _ _ h, le-ltb _ _ k)

@@ -1,57 +1,45 @@
+-- Long division on the words of the values, then the values of quotient and remainder.
 use mathlib.Core.Path.{_≡_, ap, _∙_}
-use mathlib.Core.List.{List}
-use Prim.Native.Nat.{ℕ, _+_, _-_, _*_, _<_, _≤_}
+use Prim.Native.Nat.{ℕ, _+_, _<_}
 use native.Mathlib.Omega.{arith}
-use lib.ListN.{length, getD, take}
-use Rattle.algebra.specs.Coefficients.{leading, divide}
+use lib.ListN.{length}
+use borrow.Author.Needs.{needs}
+use Rattle.algebra.specs.Coefficients.{leading}
 use Rattle.modular.specs.Modulo.{modulo}
 use Rattle.residue.specs.Modulus.{ValidModulus}
-use Rattle.polynomial.specs.Value.{coefficientsOf, ValidPolynomial, word-below, leading-residue, represents-is}
+use Rattle.polynomial.specs.Value.{coefficientsOf, word-below, leading-residue, represents-is}
 use Rattle.division.proofs.Values.{divisor, divided}
-use borrow.Author.Needs.{needs}
 use Rattle.division.proofs.divide.Statement.{statement}
 use Rattle.division.proofs.divide.Tie as tie
-use Rattle.division.proofs.divide.Reads as reads
-use Rattle.division.proofs.divide.Lts as lts
-use Rattle.division.proofs.long.divide_words.Reads as divide-words-reads
-use Rattle.polynomial.proofs.value.Polynomial.from_words.Reads as from-words-reads
-use Rattle.polynomial.proofs.value.Polynomial.leading.Reads as leading-reads
-use Rattle.polynomial.proofs.words.zeros.Reads as zeros-reads
-use Rattle.residue.proofs.modulus.Modulus.inverse.Reads as inverse-reads
 
--- src/lib.rt:27:29
 leading-requires : tie.Need-leading-requires
 leading-requires c κs = search needs
 
--- src/lib.rt:27:9
 inverse-requires : tie.Need-inverse-requires
-inverse-requires c κs = let S = c .before in
+inverse-requires c κs =
+    let S = c .before in
     let p : ℕ = S .args .m .p in
     let m : ValidModulus (S .args .m) = S .pre .0 in
     let first = leading-residue p (S .args .t2) (S .pre .2) (omega (arith, m .prime .large)) (S .pre .3) in
     let is = c .leading .ensures p in
     (m, rw is (first .0), rw is (first .1))
 
--- src/lib.rt:30:17
 zeros-requires : tie.Need-zeros-requires
 zeros-requires c κs = search needs
 
--- src/lib.rt:31:24
 slice-aggregate-divide-words : tie.Need-slice-aggregate-divide-words
 slice-aggregate-divide-words c = search needs
 
--- src/lib.rt:31:35
 slice-aggregate-divide-words-2 : tie.Need-slice-aggregate-divide-words-2
 slice-aggregate-divide-words-2 c = search needs
 
--- src/lib.rt:31:60
 sub-divide-words : tie.Need-sub-divide-words
 sub-divide-words c = search needs
 
--- src/lib.rt:31:5
 divide-words-requires : tie.Need-divide-words-requires
 unfolding coefficientsOf
-divide-words-requires c κs = let S = c .before .before .before .before .before .before .before .before .before in
+divide-words-requires c κs =
+    let S = c .before .before .before .before .before .before .before .before .before in
     let p : ℕ = S .args .m .p in
     let m : ValidModulus (S .args .m) = S .pre .0 in
     let positive : 0 < p = omega (arith, m .prime .large) in
@@ -69,32 +57,30 @@ divide-words-requires c κs = let S = c .before .before .before .before .before 
       ),
     )
 
--- src/lib.rt:32:43
 slice-aggregate-from-words : tie.Need-slice-aggregate-from-words
 slice-aggregate-from-words c = search needs
 
--- src/lib.rt:32:9
 from-words-requires : tie.Need-from-words-requires
-from-words-requires c κs = let S = c .before .before .before .before .before .before .before .before .before .before .before .before .before in
+from-words-requires c κs =
+    let S = c .before .before .before .before .before .before .before .before .before .before .before .before .before in
     let called = c .before .before .before .divide-words in
     let long : length (called .last .1 .1 .0) ≡ 256 = search needs in
     ((S .pre .0, S .pre .1 .within, omega (arith, S .pre .1 .within)), λ i lt. called .ensures .small-quotient (0 + i))
 
--- src/lib.rt:33:44
 slice-aggregate-from-words-2 : tie.Need-slice-aggregate-from-words-2
 slice-aggregate-from-words-2 c = search needs
 
--- src/lib.rt:33:9
 from-words-requires-2 : tie.Need-from-words-requires-2
-from-words-requires-2 c κs = let S = c .before .before .before .before .before .before .before .before .before .before .before .before .before .before .before in
+from-words-requires-2 c κs =
+    let S = c .before .before .before .before .before .before .before .before .before .before .before .before .before .before .before in
     let called = c .before .before .before .before .before .divide-words in
     let long : length (called .last .0) ≡ 256 = search needs in
     ((S .pre .0, S .pre .1 .within, omega (arith, S .pre .1 .within)), λ i lt. called .ensures .small-remainder (0 + i))
 
--- src/lib.rt:22:1
 returns : tie.Need-returns
 unfolding coefficientsOf
-returns c = let S = c .before .before .before .before .before .before .before .before .before .before .before .before .before .before .before .before in
+returns c =
+    let S = c .before .before .before .before .before .before .before .before .before .before .before .before .before .before .before .before in
     let p : ℕ = S .args .m .p in
     let by = c .before .before .before .before .before .before .divide-words .ensures in
     let done = divided p (omega (arith, S .pre .0 .prime .large)) (S .args .t2) (S .pre .2) (S .pre .3) _ _ _ _ by in

@@ -1,13 +1,8 @@
-use Prim.Native.Nat.{ℕ, _<_}
+-- The loop keeps a `Descending`; its measure is the size of the second polynomial.
 use native.Mathlib.Omega.{arith}
-use borrow.Author.Needs.{needs}
 use Rattle.division.proofs.Remainders.{Descending, descending-start, descending-turn, descending-less, descending-end}
 use Rattle.division.proofs.euclid.gcd.Statement.{statement}
 use Rattle.division.proofs.euclid.gcd.Tie as tie
-use Rattle.division.proofs.euclid.gcd.Reads as reads
-use Rattle.division.proofs.euclid.gcd.Lts as lts
-use Rattle.division.proofs.remainder.Reads as remainder-reads
-use Rattle.polynomial.proofs.value.Polynomial.monic.Reads as monic-reads
 
 abbrev Inv-loop : tie.InvT-loop
 Inv-loop m a₀ b₀ a b = Descending (m .p) a₀ b₀ a b
@@ -15,32 +10,30 @@ Inv-loop m a₀ b₀ a b = Descending (m .p) a₀ b₀ a b
 abbrev μ-loop : tie.MeasureT-loop
 μ-loop m a₀ b₀ a b = b .size
 
--- src/euclid.rt:17:5
 loop-holds : tie.Need-loop-holds Inv-loop μ-loop
 loop-holds c = descending-start _ _ _ (c .pre .1) (c .pre .2)
 
--- src/euclid.rt:18:13
 remainder-requires : tie.Need-remainder-requires Inv-loop μ-loop
-remainder-requires c κs = let I = c .before .before .loop .inv in
+remainder-requires c κs =
+    let I = c .before .before .loop .inv in
     (c .before .before .before .pre .0, I .first, I .second, omega arith)
 
--- src/euclid.rt:17:5
 loop-less : tie.Need-loop-less Inv-loop μ-loop
-loop-less c = let S = c .before .before .before .before in
+loop-less c =
+    let S = c .before .before .before .before in
     descending-less _ (S .pre .0 .prime) _ _ _ _ (c .before .before .before .loop .inv) (omega arith) _ (c .remainder .ensures)
 
--- src/euclid.rt:17:5
 loop-again : tie.Need-loop-again Inv-loop μ-loop
-loop-again c = let S = c .before .before .before .before in
+loop-again c =
+    let S = c .before .before .before .before in
     descending-turn _ (S .pre .0 .prime) _ _ _ _ (c .before .before .before .loop .inv) (omega arith) _ (c .remainder .ensures)
 
--- src/euclid.rt:22:5
 monic-requires : tie.Need-monic-requires Inv-loop μ-loop
 monic-requires c κs = (c .before .before .before .pre .0, c .before .before .loop .inv .first)
 
--- src/euclid.rt:11:1
 returns : tie.Need-returns Inv-loop μ-loop
-returns c = let S = c .before .before .before .before in
+returns c =
+    let S = c .before .before .before .before in
     descending-end _ (S .pre .0 .prime) _ _ _ _ (c .before .before .before .loop .inv) (omega arith) _ (c .monic .ensures)
 
 pub gcd-spec : {M : Type 1} → statement M

@@ -1,20 +1,14 @@
-use Rattle.residue.specs.Modulus.{ValidModulus}
-use Rattle.division.proofs.Dividing.{word-small, inverse-small, factor-small, dividing-end}
+-- The loop keeps a `Dividing` at the place k - e.
+use mathlib.Core.Path.{_≡_, subst}
+use Prim.Native.Nat.{ℕ, _+_, _-_, _≤_}
 use native.Mathlib.Nat.{mod-lt, mul-le-mul}
-use mathlib.Core.Path.{_≡_, refl, sym, ap, _∙_, subst}
-use mathlib.Core.List.{List}
-use Prim.Native.Nat.{ℕ, _+_, _-_, _*_, _%_, _<_, _≤_}
 use native.Mathlib.Omega.{arith}
-use lib.ListN.{length, getD, take}
+use lib.ListN.{getD, take}
 use borrow.Author.Needs.{needs}
-use Rattle.division.proofs.Dividing.{Dividing, dividing-start, dividing-turn, product-small, room}
+use Rattle.residue.specs.Modulus.{ValidModulus}
+use Rattle.division.proofs.Dividing.{word-small, inverse-small, factor-small, dividing-end, Dividing, dividing-start, dividing-turn, room}
 use Rattle.division.proofs.long.divide_words.Statement.{statement}
 use Rattle.division.proofs.long.divide_words.Tie as tie
-use Rattle.division.proofs.long.divide_words.Reads as reads
-use Rattle.division.proofs.long.divide_words.Lts as lts
-use Rattle.residue.proofs.modulus.Modulus.mul.Reads as mul-reads
-use Rattle.residue.proofs.modulus.Modulus.reduce.Reads as reduce-reads
-use Rattle.vector.proofs.add_scaled.Reads as add-scaled-reads
 
 abbrev Inv-loop : tie.InvT-loop
 Inv-loop h₀ n q₀ d e inverse m k₀ h q k = Dividing (m .p) h₀ q₀ n (take (e + 1) d) q h (k - e) × (k ≤ n)
@@ -22,66 +16,58 @@ Inv-loop h₀ n q₀ d e inverse m k₀ h q k = Dividing (m .p) h₀ q₀ n (tak
 abbrev μ-loop : tie.MeasureT-loop
 μ-loop h₀ n q₀ d e inverse m k₀ h q k = k
 
--- src/long.rt:21:5
 loop-holds : tie.Need-loop-holds Inv-loop μ-loop
-loop-holds c = let S = c .before .before .before in
+loop-holds c =
+    let S = c .before .before .before in
     let m : ValidModulus (S .args .m) = S .pre .0 .0 in
     (dividing-start _ (omega (arith, m .prime .large)) _ _ _ _ _ _ (S .pre .1 .1 .0) (S .pre .1 .0 .0) (S .pre .1 .1 .1) (S .pre .1 .0 .1), omega arith)
 
--- src/long.rt:22:9
 sub-k : tie.Need-sub-k Inv-loop μ-loop
 sub-k c = search needs
 
--- src/long.rt:23:32
 mul-reduce : tie.Need-mul-reduce Inv-loop μ-loop
 mul-reduce c = search needs
 
--- src/long.rt:23:32
 slice-read-reduce : tie.Need-slice-read-reduce Inv-loop μ-loop
 slice-read-reduce c = search needs
 
--- src/long.rt:23:23
 reduce-requires : tie.Need-reduce-requires Inv-loop μ-loop
-reduce-requires c κs = let S = c .before .before .before .before .before .before in
+reduce-requires c κs =
+    let S = c .before .before .before .before .before .before in
     let m : ValidModulus (S .args .m) = S .pre .0 .0 in
     let L = c .before .before .loop in
     (m, omega (arith, word-small (S .args .m .p) (S .args .n) (L .k - S .args .e) (L .h) (m .prime .large) (m .limit) (S .pre .0 .1) (L .inv .0 .small-remainder) (L .k - 1)))
 
--- src/long.rt:23:13
 mul-requires : tie.Need-mul-requires Inv-loop μ-loop
-mul-requires c κs = let S = c .before .before .before .before .before .before .before in
+mul-requires c κs =
+    let S = c .before .before .before .before .before .before .before in
     let m : ValidModulus (S .args .m) = S .pre .0 .0 in
     (m, rw (c .reduce .ensures) (mod-lt _ (omega (arith, m .prime .large))), inverse-small _ _ _ _ (m .prime .large) (S .pre .1 .1 .0))
 
--- src/long.rt:24:11
 sub-q : tie.Need-sub-q Inv-loop μ-loop
 sub-q c = search needs
 
--- src/long.rt:24:9
 mul-q : tie.Need-mul-q Inv-loop μ-loop
 mul-q c = search needs
 
--- src/long.rt:24:9
 slice-write-q : tie.Need-slice-write-q Inv-loop μ-loop
 slice-write-q c = search needs
 
--- src/long.rt:25:23
 sub-add-scaled : tie.Need-sub-add-scaled Inv-loop μ-loop
 sub-add-scaled c = search needs
 
--- src/long.rt:25:36
 add-add-scaled : tie.Need-add-add-scaled Inv-loop μ-loop
 add-add-scaled c = search needs
 
--- src/long.rt:25:43
 sub-add-scaled-2 : tie.Need-sub-add-scaled-2 Inv-loop μ-loop
-sub-add-scaled-2 c = let S = c .before .before .before .before .before .before .before .before .before .before in
+sub-add-scaled-2 c =
+    let S = c .before .before .before .before .before .before .before .before .before .before in
     let m : ValidModulus (S .args .m) = S .pre .0 .0 in
     omega (arith, factor-small _ _ _ _ _ (m .prime .large) (c .before .before .before .reduce .ensures) (c .before .before .mul .ensures) .1)
 
--- src/long.rt:25:9
 add-scaled-requires : tie.Need-add-scaled-requires Inv-loop μ-loop
-add-scaled-requires c κs = let S = c .before .before .before .before .before .before .before .before .before .before in
+add-scaled-requires c κs =
+    let S = c .before .before .before .before .before .before .before .before .before .before in
     let m : ValidModulus (S .args .m) = S .pre .0 .0 in
     let L = c .before .before .before .before .before .before .loop in
     let e : ℕ = S .args .e in
@@ -102,13 +88,12 @@ add-scaled-requires c κs = let S = c .before .before .before .before .before .b
       ),
     )
 
--- src/long.rt:21:5
 loop-less : tie.Need-loop-less Inv-loop μ-loop
 loop-less c = search needs
 
--- src/long.rt:21:5
 loop-again : tie.Need-loop-again Inv-loop μ-loop
-loop-again c = let S = c .before .before .before .before .before .before .before .before .before .before .before .before .before in
+loop-again c =
+    let S = c .before .before .before .before .before .before .before .before .before .before .before .before .before in
     let m : ValidModulus (S .args .m) = S .pre .0 .0 in
     let L = c .before .before .before .before .before .before .before .before .before .loop in
     let k : ℕ = L .k in
@@ -144,17 +129,15 @@ loop-again c = let S = c .before .before .before .before .before .before .before
       omega arith,
     )
 
--- src/long.rt:13:1
 same-length : tie.Need-same-length Inv-loop μ-loop
 same-length c = search needs
 
--- src/long.rt:13:1
 same-length-2 : tie.Need-same-length-2 Inv-loop μ-loop
 same-length-2 c = search needs
 
--- src/long.rt:13:1
 returns : tie.Need-returns Inv-loop μ-loop
-returns c = let S = c .before .before .before .before .before in
+returns c =
+    let S = c .before .before .before .before .before in
     let m : ValidModulus (S .args .m) = S .pre .0 .0 in
     dividing-end _ _ _ _ _ _ _ _ (m .prime .large) (m .limit) (S .pre .0 .1) (omega arith) (c .before .loop .inv .0)
 

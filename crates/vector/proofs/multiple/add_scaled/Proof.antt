@@ -1,6 +1,6 @@
 -- `vector::multiple::add_scaled` meets its contract: before turn j the first j sums are stored. Assumes nothing.
-use mathlib.Core.Path.{_≡_, refl, ap₂}
-use Prim.Native.Nat.{ℕ, _+_, _-_, _*_, _%_, _<_, _≤_}
+use mathlib.Core.Path.{_≡_, ap₂}
+use Prim.Native.Nat.{ℕ, _+_, _-_, _*_, _%_, _<_}
 use native.Mathlib.Omega.{arith}
 use native.Mathlib.Nat.{mod-eq-of-lt}
 use lib.ListN.{getD}
@@ -37,10 +37,14 @@ store-is-sum : (c : Turn) → store c ≡ sum c
 store-is-sum c =
     let L = c .before .before .before in
     let given = L .before .pre in
-    ap₂ _+_ (storing-reads (L .loop .inv)) (ap₂ _*_ (mod-eq-of-lt (given .0 .2)) (mod-eq-of-lt (given .1 .0 (L .loop .j) (c .before .before .loop-test .taken))))
+    let factor = mod-eq-of-lt (given .0 .2) in
+    let word = mod-eq-of-lt (given .1 .0 (L .loop .j) (c .before .before .loop-test .taken)) in
+    ap₂ _+_ (storing-reads (L .loop .inv)) (ap₂ _*_ factor word)
 
 store-fits : (c : Turn) → store c < 18446744073709551616
-store-fits c = omega (arith, store-is-sum c, c .before .before .before .before .pre .1 .1 (c .before .before .before .loop .j) (c .before .before .loop-test .taken))
+store-fits c =
+    let L = c .before .before .before in
+    omega (arith, store-is-sum c, L .before .pre .1 .1 (L .loop .j) (c .before .before .loop-test .taken))
 
 loop-holds : tie.Need-loop-holds Inv-loop μ-loop
 loop-holds c = storing-start _ _ _ _
@@ -85,7 +89,8 @@ loop-less : tie.Need-loop-less Inv-loop μ-loop
 loop-less c = omega arith
 
 loop-again : tie.Need-loop-again Inv-loop μ-loop
-loop-again c = storing-turn (c .before .before .before .loop .inv) _ (c .before .before .loop-test .taken) (store-is-sum c)
+loop-again c =
+    storing-turn (c .before .before .before .loop .inv) _ (c .before .before .loop-test .taken) (store-is-sum c)
 
 same-length : tie.Need-same-length Inv-loop μ-loop
 same-length c = c .before .loop .inv .same-length

@@ -1,23 +1,20 @@
+-- 1 times g is g.
 use mathlib.Core.Path.{ap}
 use native.Mathlib.Omega.{arith}
+use borrow.Author.Needs.{needs}
 use Rattle.algebra.specs.Coefficients.{add}
 use Rattle.modular.specs.Modulo.{modulo}
 use Rattle.polynomial.specs.Value.{represents-is}
 use Rattle.polynomial.proofs.Multiple.{scale-one}
-use borrow.Author.Needs.{needs}
 use Rattle.polynomial.proofs.value.Polynomial.add.Statement.{statement}
 use Rattle.polynomial.proofs.value.Polynomial.add.Tie as tie
-use Rattle.polynomial.proofs.value.Polynomial.add.Reads as reads
-use Rattle.polynomial.proofs.value.Polynomial.add.Lts as lts
-use Rattle.polynomial.proofs.value.Polynomial.add_multiple.Reads as add-multiple-reads
 
--- src/linear.rt:35:9
 add-multiple-requires : tie.Need-add-multiple-requires
 add-multiple-requires c κs = search needs
 
--- src/linear.rt:31:5
 returns : tie.Need-returns
-returns c = let S = c .before in
+returns c =
+    let S = c .before in
     represents-is
     (c .add-multiple .ensures)
     (ap (add (modulo (S .args .m .p)) _) (scale-one (S .args .m .p) (omega (arith, S .pre .0 .prime .large)) _ (S .pre .2 .canonical)))

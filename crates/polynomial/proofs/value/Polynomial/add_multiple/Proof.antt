@@ -1,26 +1,21 @@
-use mathlib.Core.Path.{_≡_, ap, _∙_}
-use Prim.Native.Nat.{ℕ, _+_, _*_, _<_, _≤_}
+-- One multiple added to the words, then the value of these (`Multiple`).
+use mathlib.Core.Path.{_≡_}
+use Prim.Native.Nat.{_+_, _<_, _≤_}
 use native.Mathlib.Omega.{arith}
-use lib.ListN.{length, getD}
+use lib.ListN.{length}
+use borrow.Author.Needs.{needs}
 use Rattle.residue.specs.Modulus.{ValidModulus}
 use Rattle.polynomial.specs.Value.{word-below, represents-is}
 use Rattle.polynomial.proofs.Multiple.{multiple-fits, multiple-small, multiple-is}
-use borrow.Author.Needs.{needs}
 use Rattle.polynomial.proofs.value.Polynomial.add_multiple.Statement.{statement}
 use Rattle.polynomial.proofs.value.Polynomial.add_multiple.Tie as tie
-use Rattle.polynomial.proofs.value.Polynomial.add_multiple.Reads as reads
-use Rattle.polynomial.proofs.value.Polynomial.add_multiple.Lts as lts
-use Rattle.polynomial.proofs.linear.larger.Reads as larger-reads
-use Rattle.polynomial.proofs.value.Polynomial.from_words.Reads as from-words-reads
-use Rattle.vector.proofs.add_scaled.Reads as add-scaled-reads
 
--- src/linear.rt:27:20
 slice-aggregate-add-scaled : tie.Need-slice-aggregate-add-scaled
 slice-aggregate-add-scaled c = search needs
 
--- src/linear.rt:27:9
 add-scaled-requires : tie.Need-add-scaled-requires
-add-scaled-requires c κs = let S = c .before .before .before .before .before in
+add-scaled-requires c κs =
+    let S = c .before .before .before .before .before in
     let m : ValidModulus (S .args .m) = S .pre .0 in
     let positive : 0 < S .args .m .p = omega (arith, m .prime .large) in
     let g = S .pre .3 in (
@@ -31,17 +26,15 @@ add-scaled-requires c κs = let S = c .before .before .before .before .before in
       ),
     )
 
--- src/linear.rt:28:32
 slice-aggregate-from-words : tie.Need-slice-aggregate-from-words
 slice-aggregate-from-words c = search needs
 
--- src/linear.rt:28:39
 larger-requires : tie.Need-larger-requires
 larger-requires c κs = search needs
 
--- src/linear.rt:28:9
 from-words-requires : tie.Need-from-words-requires
-from-words-requires c κs = let S = c .before .before .before .before .before .before .before .before .before in
+from-words-requires c κs =
+    let S = c .before .before .before .before .before .before .before .before .before in
     let m : ValidModulus (S .args .m) = S .pre .0 in
     let positive : 0 < S .args .m .p = omega (arith, m .prime .large) in
     let called = c .before .before .before .add-scaled in
@@ -51,9 +44,9 @@ from-words-requires c κs = let S = c .before .before .before .before .before .b
     let fits : c .larger .result ≤ 256 = omega (arith, c .larger .ensures, S .pre .1 .within, S .pre .3 .within) in
     ((m, fits, omega arith), λ i lt. small (0 + i))
 
--- src/linear.rt:20:5
 returns : tie.Need-returns
-returns c = let S = c .before .before .before .before .before .before .before .before .before .before in
+returns c =
+    let S = c .before .before .before .before .before .before .before .before .before .before in
     let m : ValidModulus (S .args .m) = S .pre .0 in
     let positive : 0 < S .args .m .p = omega (arith, m .prime .large) in
     let called = c .before .before .before .before .add-scaled in

@@ -1,26 +1,21 @@
+-- The products added to the words, then the value of these (`Products`).
 use mathlib.Core.Path.{_≡_}
-use Prim.Native.Nat.{ℕ, _+_, _-_, _<_, _≤_}
+use Prim.Native.Nat.{_+_, _-_, _<_, _≤_}
 use native.Mathlib.Omega.{arith}
 use lib.ListN.{length}
+use borrow.Author.Needs.{needs}
 use Rattle.residue.specs.Modulus.{ValidModulus}
 use Rattle.polynomial.specs.Value.{represents-is}
 use Rattle.polynomial.proofs.Products.{words-at-most, products-small, products-are}
-use borrow.Author.Needs.{needs}
 use Rattle.polynomial.proofs.value.Polynomial.add_product.Statement.{statement}
 use Rattle.polynomial.proofs.value.Polynomial.add_product.Tie as tie
-use Rattle.polynomial.proofs.value.Polynomial.add_product.Reads as reads
-use Rattle.polynomial.proofs.value.Polynomial.add_product.Lts as lts
-use Rattle.polynomial.proofs.linear.larger.Reads as larger-reads
-use Rattle.polynomial.proofs.product.add_products.Reads as add-products-reads
-use Rattle.polynomial.proofs.value.Polynomial.from_words.Reads as from-words-reads
 
--- src/product.rt:38:22
 slice-aggregate-add-products : tie.Need-slice-aggregate-add-products
 slice-aggregate-add-products c = search needs
 
--- src/product.rt:38:9
 add-products-requires : tie.Need-add-products-requires
-add-products-requires c κs = let S = c .before .before .before .before .before .before .before .before in
+add-products-requires c κs =
+    let S = c .before .before .before .before .before .before .before .before in
     let m : ValidModulus (S .args .m) = S .pre .0 .0 in
     let positive : 0 < S .args .m .p = omega (arith, m .prime .large) in
     let small = words-at-most (S .args .m .p) positive 65535 (omega (arith, m .limit)) in
@@ -31,29 +26,24 @@ add-products-requires c κs = let S = c .before .before .before .before .before 
       (small (S .args .self) s, small (S .args .t2) f, small (S .args .t3) g),
     )
 
--- src/product.rt:39:32
 slice-aggregate-from-words : tie.Need-slice-aggregate-from-words
 slice-aggregate-from-words c = search needs
 
--- src/product.rt:39:46
 add-larger : tie.Need-add-larger
 add-larger c = search needs
 
--- src/product.rt:39:61
 add-larger-2 : tie.Need-add-larger-2
 add-larger-2 c = search needs
 
--- src/product.rt:39:39
 larger-requires : tie.Need-larger-requires
 larger-requires c κs = search needs
 
--- src/product.rt:39:39
 sub-from-words : tie.Need-sub-from-words
 sub-from-words c = search needs
 
--- src/product.rt:39:9
 from-words-requires : tie.Need-from-words-requires
-from-words-requires c κs = let S = c .before .before .before .before .before .before .before .before .before .before .before .before .before in
+from-words-requires c κs =
+    let S = c .before .before .before .before .before .before .before .before .before .before .before .before .before in
     let m : ValidModulus (S .args .m) = S .pre .0 .0 in
     let called = c .before .before .before .before .add-products in
     let long : length (called .last .0) ≡ 256 = search needs in
@@ -73,9 +63,9 @@ from-words-requires c κs = let S = c .before .before .before .before .before .b
     (m .limit) in
     ((m, fits, omega arith), λ i lt. small (0 + i))
 
--- src/product.rt:30:5
 returns : tie.Need-returns
-returns c = let S = c .before .before .before .before .before .before .before .before .before .before .before .before .before .before in
+returns c =
+    let S = c .before .before .before .before .before .before .before .before .before .before .before .before .before .before in
     let called = c .before .before .before .before .before .add-products in
     let n = c .before .larger .result in
     represents-is

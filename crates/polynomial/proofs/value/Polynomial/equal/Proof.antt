@@ -1,34 +1,31 @@
+-- Values of one size are compared word by word; of two sizes they differ.
 use mathlib.Core.Path.{_≡_, ap, _∙_}
 use Prim.Native.Nat.{ℕ}
 use native.Mathlib.Omega.{arith}
 use lib.ListN.{length, take}
+use borrow.Author.Needs.{needs}
 use Rattle.polynomial.specs.Value.{coefficientsOf}
 use Rattle.polynomial.specs.Equal.{equal?}
 use Rattle.polynomial.proofs.Compared.{compared-sizes}
-use borrow.Author.Needs.{needs}
 use Rattle.polynomial.proofs.value.Polynomial.equal.Statement.{statement}
 use Rattle.polynomial.proofs.value.Polynomial.equal.Tie as tie
-use Rattle.polynomial.proofs.value.Polynomial.equal.Reads as reads
-use Rattle.polynomial.proofs.value.Polynomial.equal.Lts as lts
-use Rattle.polynomial.proofs.equal.same_words.Reads as same-words-reads
 
--- src/equal.rt:31:13
 returns : tie.Need-returns
 unfolding coefficientsOf
-returns c = let f = c .before .args .t1 in
+returns c =
+    let f = c .before .args .t1 in
     let g = c .before .args .t2 in
     let room-f : length (f .coefficients) ≡ 256 = search needs in
     let room-g : length (g .coefficients) ≡ 256 = search needs in
     compared-sizes (f .coefficients) (g .coefficients) (f .size) (g .size) (omega arith) (omega arith) (c .if1 .taken)
 
--- src/equal.rt:33:9
 same-words-requires : tie.Need-same-words-requires
 same-words-requires c κs = search needs
 
--- src/equal.rt:25:5
 returns-2 : tie.Need-returns-2
 unfolding coefficientsOf
-returns-2 c = let S = c .before .before .before .before .before .before .before .before in
+returns-2 c =
+    let S = c .before .before .before .before .before .before .before .before in
     let same : S .args .t1 .size ≡ S .args .t2 .size = omega arith in
     c .same-words .ensures
     ∙ ap (λ (n : ℕ). equal? (take (S .args .t1 .size) (S .args .t1 .coefficients)) (take n (S .args .t2 .coefficients))) same

@@ -1,61 +1,75 @@
+-- The words are copied, reduced and counted; `Residues` says that this gives the value.
+use mathlib.Core.Path.{_≡_}
+use Prim.Native.Nat.{_<_}
 use native.Mathlib.Omega.{arith}
-use Rattle.polynomial.proofs.Reduction.{represents-words}
+use lib.ListN.{length}
 use borrow.Author.Needs.{needs}
+use Rattle.polynomial.proofs.Residues.{Copied, copied-word, residue-small, represents-words}
 use Rattle.polynomial.proofs.value.Polynomial.from_words.Statement.{statement}
 use Rattle.polynomial.proofs.value.Polynomial.from_words.Tie as tie
-use Rattle.polynomial.proofs.value.Polynomial.from_words.Reads as reads
-use Rattle.polynomial.proofs.value.Polynomial.from_words.Lts as lts
-use Rattle.polynomial.proofs.words.reduce_into.Reads as reduce-into-reads
-use Rattle.polynomial.proofs.words.trimmed.Reads as trimmed-reads
-use Rattle.polynomial.proofs.words.zeros.Reads as zeros-reads
 
--- src/value.rt:52:27
 zeros-requires : tie.Need-zeros-requires
 zeros-requires c κs = search needs
 
--- src/value.rt:53:21
-slice-aggregate-reduce-into : tie.Need-slice-aggregate-reduce-into
-slice-aggregate-reduce-into c = search needs
+slice-aggregate-copy : tie.Need-slice-aggregate-copy
+slice-aggregate-copy c = search needs
 
--- src/value.rt:53:9
-reduce-into-requires : tie.Need-reduce-into-requires
-reduce-into-requires c κs = search needs
+copy-requires : tie.Need-copy-requires
+copy-requires c κs = search needs
 
--- src/value.rt:54:28
-slice-aggregate-trimmed : tie.Need-slice-aggregate-trimmed
-slice-aggregate-trimmed c = search needs
+slice-aggregate-reduce-range : tie.Need-slice-aggregate-reduce-range
+slice-aggregate-reduce-range c = search needs
 
--- src/value.rt:54:13
-trimmed-requires : tie.Need-trimmed-requires
-trimmed-requires c κs = search needs
+reduce-range-requires : tie.Need-reduce-range-requires
+reduce-range-requires c κs =
+    let S = c .before .before .before .before .before .before in
+    let fresh = c .before .before .before .before .zeros in
+    let copies = c .before .before .copy in
+    let by : Copied (S .args .words .now) (S .args .a) (S .args .n) (fresh .result) (copies .last .0) =
+    record { few = S .pre .0 .1; room = fresh .ensures .0; zero = fresh .ensures .1; copies = copies .ensures } in
+    let long : length (copies .last .0) ≡ 256 = search needs in
+    ((S .pre .0 .0, omega (arith, by .few)), λ j lt. rw (copied-word by j lt) (S .pre .1 j lt))
 
--- src/value.rt:47:5
+slice-aggregate-find-leading : tie.Need-slice-aggregate-find-leading
+slice-aggregate-find-leading c = search needs
+
+find-leading-requires : tie.Need-find-leading-requires
+find-leading-requires c κs =
+    let S = c .before .before .before .before .before .before .before .before .before in
+    let large : 1 < S .args .m .p = S .pre .0 .0 .prime .large in
+    let fresh = c .before .before .before .before .before .before .before .zeros in
+    let copies = c .before .before .before .before .before .copy in
+    let reduces = c .before .before .reduce-range in
+    let by : Copied (S .args .words .now) (S .args .a) (S .args .n) (fresh .result) (copies .last .0) =
+    record { few = S .pre .0 .1; room = fresh .ensures .0; zero = fresh .ensures .1; copies = copies .ensures } in
+    let long : length (reduces .last .0) ≡ 256 = search needs in
+    let small = residue-small by (S .args .m .p) (omega arith) (reduces .ensures) in
+    ((S .pre .0 .0, omega (arith, by .few)), λ j lt. omega (arith, small j lt))
+
 returns : tie.Need-returns
-returns c = let S = c .before .before .before .before .before .before .before in
-    let fresh = c .before .before .before .before .before .zeros in
-    let reduced = c .before .before .before .reduce-into in
+returns c =
+    let S = c .before .before .before .before .before .before .before .before .before .before in
+    let fresh = c .before .before .before .before .before .before .before .before .zeros in
+    let copies = c .before .before .before .before .before .before .copy in
+    let by : Copied (S .args .words .now) (S .args .a) (S .args .n) (fresh .result) (copies .last .0) =
+    record { few = S .pre .0 .1; room = fresh .ensures .0; zero = fresh .ensures .1; copies = copies .ensures } in
     represents-words
+    by
     (S .args .m .p)
     (omega (arith, S .pre .0 .0 .prime .large))
-    (fresh .result)
-    (S .args .words .now)
-    (S .args .a)
-    (S .args .n)
-    (fresh .ensures .0)
-    (S .pre .0 .1)
-    (fresh .ensures .1)
-    (reduced .last .0)
-    (reduced .ensures)
-    (c .trimmed .result)
-    (c .trimmed .ensures)
+    (c .before .before .before .reduce-range .ensures)
+    (c .find-leading .result .size)
+    (c .find-leading .ensures .0)
 
 pub from-words-spec : {M : Type 1} → statement M
 from-words-spec =
     tie.close
     (tie.spec
     zeros-requires
-    slice-aggregate-reduce-into
-    reduce-into-requires
-    slice-aggregate-trimmed
-    trimmed-requires
+    slice-aggregate-copy
+    copy-requires
+    slice-aggregate-reduce-range
+    reduce-range-requires
+    slice-aggregate-find-leading
+    find-leading-requires
     returns)

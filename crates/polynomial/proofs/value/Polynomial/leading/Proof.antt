@@ -1,39 +1,33 @@
-use mathlib.Core.Path.{_≡_, refl, sym, ap, _∙_}
-use mathlib.Core.List.{List}
+-- The last of the coefficients, 0 where there is none.
+use mathlib.Core.Path.{_≡_, sym, ap}
 use Prim.Native.Nat.{ℕ}
 use native.Mathlib.Omega.{arith}
 use lib.ListN.{length, take}
+use borrow.Author.Needs.{needs}
 use Rattle.algebra.specs.Coefficients.{leading}
 use Rattle.modular.specs.Modulo.{modulo}
 use Rattle.polynomial.specs.Value.{coefficientsOf}
 use Rattle.polynomial.proofs.Made.{leading-last}
-use borrow.Author.Needs.{needs}
 use Rattle.polynomial.proofs.value.Polynomial.leading.Statement.{statement}
 use Rattle.polynomial.proofs.value.Polynomial.leading.Tie as tie
-use Rattle.polynomial.proofs.value.Polynomial.leading.Reads as reads
-use Rattle.polynomial.proofs.value.Polynomial.leading.Lts as lts
 
--- src/value.rt:60:13
 returns : tie.Need-returns
 unfolding coefficientsOf leading modulo
 returns c = λ p. ap (λ (n : ℕ). leading (modulo p) (take n (c .before .args .t1 .coefficients))) (sym (c .if1 .taken))
 
--- src/value.rt:62:27
 sub-result : tie.Need-sub-result
 sub-result c = search needs
 
--- src/value.rt:62:9
 mul-result : tie.Need-mul-result
 mul-result c = search needs
 
--- src/value.rt:62:9
 element-copy-out-result : tie.Need-element-copy-out-result
 element-copy-out-result c = search needs
 
--- src/value.rt:54:5
 returns-2 : tie.Need-returns-2
 unfolding coefficientsOf
-returns-2 c = let f = c .before .before .args .t1 in
+returns-2 c =
+    let f = c .before .before .args .t1 in
     let room : length (f .coefficients) ≡ 256 = search needs in
     λ p. leading-last p (f .size) (f .coefficients) (omega arith) (omega arith)
 

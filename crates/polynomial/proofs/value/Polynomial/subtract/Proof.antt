@@ -1,24 +1,20 @@
+-- p - 1 times g is -g.
 use native.Mathlib.Omega.{arith}
+use borrow.Author.Needs.{needs}
 use Rattle.polynomial.specs.Value.{represents-is}
 use Rattle.polynomial.proofs.Multiple.{subtract-is}
-use borrow.Author.Needs.{needs}
 use Rattle.polynomial.proofs.value.Polynomial.subtract.Statement.{statement}
 use Rattle.polynomial.proofs.value.Polynomial.subtract.Tie as tie
-use Rattle.polynomial.proofs.value.Polynomial.subtract.Reads as reads
-use Rattle.polynomial.proofs.value.Polynomial.subtract.Lts as lts
-use Rattle.polynomial.proofs.value.Polynomial.add_multiple.Reads as add-multiple-reads
 
--- src/linear.rt:42:27
 sub-add-multiple : tie.Need-sub-add-multiple
 sub-add-multiple c = search needs
 
--- src/linear.rt:42:9
 add-multiple-requires : tie.Need-add-multiple-requires
 add-multiple-requires c κs = search needs
 
--- src/linear.rt:38:5
 returns : tie.Need-returns
-returns c = let S = c .before .before in
+returns c =
+    let S = c .before .before in
     represents-is
     (c .add-multiple .ensures)
     (subtract-is (S .args .m .p) (omega (arith, S .pre .0 .prime .large)) _ _ (S .pre .2 .canonical))

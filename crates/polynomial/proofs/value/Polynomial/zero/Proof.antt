@@ -1,16 +1,12 @@
-use Rattle.polynomial.proofs.Made.{represents-zero}
+-- No coefficients, zeros behind them.
 use borrow.Author.Needs.{needs}
+use Rattle.polynomial.proofs.Made.{represents-zero}
 use Rattle.polynomial.proofs.value.Polynomial.zero.Statement.{statement}
 use Rattle.polynomial.proofs.value.Polynomial.zero.Tie as tie
-use Rattle.polynomial.proofs.value.Polynomial.zero.Reads as reads
-use Rattle.polynomial.proofs.value.Polynomial.zero.Lts as lts
-use Rattle.polynomial.proofs.words.zeros.Reads as zeros-reads
 
--- src/value.rt:28:13
 zeros-requires : tie.Need-zeros-requires
 zeros-requires c κs = search needs
 
--- src/value.rt:25:5
 returns : tie.Need-returns
 returns c = λ p. represents-zero p (c .zeros .result) (c .zeros .ensures .0) (c .zeros .ensures .1)
 

@@ -1,0 +1,94 @@
+-- `reader::system::read_system` meets its contract, from what its head and the words behind it tell.
+use mathlib.Core.Path.{sym, ap, _∙_}
+use Prim.Native.Nat.{_≤_}
+use native.Mathlib.Nat.{mul-le-mul}
+use native.Mathlib.Omega.{arith}
+use Rattle.limits.specs.Value.{limitsOf}
+use Rattle.reader.specs.Answer.{wordsOutcome, shapeOf, systemOutcome}
+use Rattle.reader.proofs.SystemSteps.{system-head-refused, system-some, system-body-refused, system-read}
+use borrow.Author.Needs.{needs}
+use Rattle.reader.proofs.system.read_system.Statement.{statement}
+use Rattle.reader.proofs.system.read_system.Tie as tie
+
+read-head-requires : tie.Need-read-head-requires
+read-head-requires c κs = search needs
+
+enum-known-head : tie.Need-enum-known-head
+enum-known-head c = search needs
+
+cast-rows : tie.Need-cast-rows
+cast-rows c = search needs
+
+cast-columns : tie.Need-cast-columns
+cast-columns c = search needs
+
+mul-read-body : tie.Need-mul-read-body
+mul-read-body c =
+    let h = c .before .before .before .head .given .0 .0 in
+    let n : h .rows ≤ 255 = omega arith in
+    let m : h .columns ≤ 255 = omega arith in
+    omega (arith, mul-le-mul n m)
+
+add-read-body : tie.Need-add-read-body
+add-read-body c =
+    let h = c .before .before .before .head .given .0 .0 in
+    let n : h .rows ≤ 255 = omega arith in
+    let m : h .columns ≤ 255 = omega arith in
+    omega (arith, mul-le-mul n m)
+
+read-body-requires : tie.Need-read-body-requires
+read-body-requires c κs =
+    let r = c .before .before .before .before .before in
+    let e = c .before .before .before .head .given in
+    let a = r .before .before .args in
+    system-some (limitsOf (a .limits)) (a .words .now) (shapeOf (e .0 .0)) (ap systemOutcome (sym (e .1)) ∙ r .read-head .ensures)
+
+enum-told : tie.Need-enum-told
+enum-told c = search needs
+
+enum-known-found : tie.Need-enum-known-found
+enum-known-found c = search needs
+
+enum-known-head-2 : tie.Need-enum-known-head-2
+enum-known-head-2 c = search needs
+
+returns : tie.Need-returns
+returns c =
+    let r = c .before .before .before .before .before .before .before .before in
+    let e = c .before .before .before .before .before .before .head .given in
+    let a = r .before .before .args in
+    let f = c .enum-told .given in
+    sym (system-read (limitsOf (a .limits)) (a .words .now) (shapeOf (e .0 .0)) (ap systemOutcome (sym (e .1)) ∙ r .read-head .ensures) _ (ap wordsOutcome (sym (f .1)) ∙ c .before .before .read-body .ensures))
+
+returns-2 : tie.Need-returns-2
+returns-2 c =
+    let r = c .before .before .before .before .before .before .before .before .before in
+    let e = c .before .before .before .before .before .before .before .head .given in
+    let a = r .before .before .args in
+    let f = c .before .found .given in
+    sym (system-body-refused (limitsOf (a .limits)) (a .words .now) (shapeOf (e .0 .0)) (ap systemOutcome (sym (e .1)) ∙ r .read-head .ensures) _ _ (ap wordsOutcome (sym (f .1)) ∙ c .before .before .before .read-body .ensures))
+
+returns-3 : tie.Need-returns-3
+returns-3 c =
+    let r = c .before .before .before in
+    let e = c .before .head2 .given in
+    let a = r .before .before .args in
+    sym (system-head-refused (limitsOf (a .limits)) (a .words .now) (e .0 .0) (e .0 .1 .0) (ap systemOutcome (sym (e .1)) ∙ r .read-head .ensures))
+
+pub read-system-spec : {M : Type 1} → statement M
+read-system-spec =
+    tie.close
+    (tie.spec
+    read-head-requires
+    enum-known-head
+    cast-rows
+    cast-columns
+    mul-read-body
+    add-read-body
+    read-body-requires
+    enum-told
+    enum-known-found
+    enum-known-head-2
+    returns
+    returns-2
+    returns-3)

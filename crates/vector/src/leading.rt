@@ -1,0 +1,35 @@
+// Size and leading coefficient of a hand, found from its end.
+ghost use mathlib.Core.Path.{_≡_};
+ghost use Prim.Native.Nat.{_≤_};
+ghost use lib.ListN.{length};
+ghost use Rattle.algebra.specs.Coefficients.{leading};
+ghost use Rattle.modular.specs.Modulo.{modulo};
+ghost use Rattle.residue.specs.Modulus.{ValidModulus};
+ghost use Rattle.vector.specs.Bound.{Reducible};
+ghost use Rattle.vector.specs.Reduced.{polynomial};
+use residue::modulus::Modulus;
+
+// The number of a polynomial's coefficients, and the last of them; both 0 for the zero polynomial.
+pub struct Leading {
+    pub size: usize,
+    pub value: u64,
+}
+
+// Size and leading coefficient of the polynomial that h[0] .. h[n - 1] stand for modulo p.
+pub fn find_leading(h: &[u64], n: usize, modulus: Modulus) -> Leading
+    requires { ⌜ ValidModulus modulus × (n ≤ length (now h)) ⌝ }
+    requires sums { ⌜ Reducible (modulus .p) (now h) n ⌝ }
+    ensures size { λ r. ⌜ r .size ≡ length (polynomial (modulus .p) (now (h .entry)) 0 n) ⌝ }
+    ensures value { λ r. ⌜ r .value ≡ leading (modulo (modulus .p)) (polynomial (modulus .p) (now (h .entry)) 0 n) ⌝ }
+{
+    let mut k = n;
+    while 0 < k {
+        let i = k - 1;
+        let value = modulus.reduce(h[i]);
+        if value != 0 {
+            return Leading { size: k, value };
+        }
+        k = i;
+    }
+    Leading { size: 0, value: 0 }
+}
