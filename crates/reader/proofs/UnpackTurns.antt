@@ -48,11 +48,11 @@ module _ (bytes before : List ℕ) (count : ℕ) (words : List ℕ) (i : ℕ) (h
         number = h .number;
         reached = omega arith;
         words = ap (λ (v : List ℕ). set v i w) (h .words ∙ ap (λ (v : List ℕ). take i s ++ v) (drop-cons before i 0 l))
-        ∙ set-at (take i s) (getD before i 0) (drop (suc i) before) w i (length-take-le i s known)
-        ∙ ap (λ (x : ℕ). take i s ++ x ∷ drop (suc i) before) ew
-        ∙ sym (append-snoc (take i s) (getD s i 0) (drop (suc i) before))
-        ∙ ap (λ (v : List ℕ). v ++ drop (suc i) before) (sym (take-suc s i 0 m))
-        ∙ ap (λ (n : ℕ). take n s ++ drop n before) (sym (add-one i));
+            ∙ set-at (take i s) (getD before i 0) (drop (suc i) before) w i (length-take-le i s known)
+            ∙ ap (λ (x : ℕ). take i s ++ x ∷ drop (suc i) before) ew
+            ∙ sym (append-snoc (take i s) (getD s i 0) (drop (suc i) before))
+            ∙ ap (λ (v : List ℕ). v ++ drop (suc i) before) (sym (take-suc s i 0 m))
+            ∙ ap (λ (n : ℕ). take n s ++ drop n before) (sym (add-one i));
       }
 
   pub filled-end : count ≤ i → Unpacked bytes before words i

@@ -6,7 +6,7 @@ use native.Mathlib.Nat.{le-refl, le-of-eq}
 use native.Mathlib.Omega.{arith}
 use lib.ListN.{length, length-append, replicate, length-replicate}
 use Rattle.modular.specs.Canonical.{Ends, Canonical}
-use Rattle.modular.specs.Primality.{prime-of-prime?}
+use Rattle.modular.specs.Primality.{prime-of-true}
 use Rattle.modular.specs.Prime.{prime?}
 use Rattle.words.specs.Limits.{Limits, longestSystem, longestCertificate}
 use Rattle.words.specs.Polynomial.{Within, AllWithin, VectorWithin, polynomialWords, polynomialsWords}
@@ -119,7 +119,7 @@ module _ (limits : Limits) where
     unfolding longSystem prime?
     longSystem-within = record {
       shape = record {
-        prime = prime-of-prime? 2 refl;
+        prime = prime-of-true 2 refl;
         modulus = omega arith;
         rows = (some-rows, le-refl (limits .rows));
         columns = (some-columns, le-refl (limits .columns));

@@ -7,7 +7,7 @@ use native.Mathlib.Omega.{arith}
 use lib.Dec.{eqb, leb}
 use borrow.Author.Tests.{eqb-true, eq-eqb, not-false, le-leb, leb-true}
 use Rattle.modular.specs.Prime.{prime?}
-use Rattle.modular.specs.Primality.{prime-of-prime?, prime?-of-prime}
+use Rattle.modular.specs.Primality.{prime-of-true, true-of-prime}
 use Rattle.words.specs.Word.{kind, word}
 use Rattle.words.specs.Limits.{Limits}
 use Rattle.words.specs.Reading.{Reading, turnBack}
@@ -44,7 +44,7 @@ module _ (limits : Limits) where
       let ek : kind w₀ ≡ 1 = omega arith in
       let qz : w₀ / 16777216 ≡ 16 = omega arith in
       let ez : w₀ / 16777216 % 16 ≡ 0 = low _ _ 1 qz (omega arith) in
-      simp (eq-eqb _ _ ek, eq-eqb _ _ ez, ep, er, ec, prime?-of-prime (w .prime), oneTo-true _ _ (r₁ .0) (r₁ .1), oneTo-true _ _ (c₁ .0) (c₁ .1))
+      simp (eq-eqb _ _ ek, eq-eqb _ _ ez, ep, er, ec, true-of-prime (h .modulus) (w .prime), oneTo-true _ _ (r₁ .0) (r₁ .1), oneTo-true _ _ (c₁ .0) (c₁ .1))
 
   -- a word whose kind is 1 and whose bits 24 to 27 are zero is the head of what it holds
   head-word : (w : ℕ) → kind w ≡ 1 → w / 16777216 % 16 ≡ 0 → w ≡ headWord (headShape w)
@@ -69,7 +69,7 @@ module _ (limits : Limits) where
       let c = turnBack-read (not (oneTo (limits .rows) (g .rows) && oneTo (limits .columns) (g .columns))) _ _ _ (b .1) in
       let k = and-passed (eqb (kind w) 1) (eqb (w / 16777216 % 16) 0) (a .0) in
       let n = and-passed (oneTo (limits .rows) (g .rows)) (oneTo (limits .columns) (g .columns)) (c .0) in
-      let prime = prime-of-prime? (w % 65536) (not-false _ (b .0)) in
+      let prime = prime-of-true (w % 65536) (not-false _ (b .0)) in
       let eh : g ≡ h = cc in
       let er : ws ≡ rest = cc in
       subst₂ (HeadRead (w ∷ ws)) eh er
