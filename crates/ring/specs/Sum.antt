@@ -1,15 +1,15 @@
 -- Finite sums in a commutative ring, over the indices below n. Vectors are functions of ℕ and matrices functions of two numbers,
 -- with the bounds apart.
-use Prim.Native.Nat.{ℕ, zero, suc, _<_}
+use Prim.Native.Nat.{ℕ, zero, suc, _-_, _<_}
 use mathlib.Core.Path.{_≡_, refl, sym, _∙_, ap, ap₂}
 use mathlib.Core.List.{List, [], _∷_}
 use native.Mathlib.Omega.{arith}
 use mathlib.Core.Logic.{ite, if-pos, if-neg}
 use native.Mathlib.Decide.{ℕ-discrete}
-use Rattle.ring.specs.Ring.{Ring, zero-add, mul-zero, add-add-add-comm, neg-zero, neg-add-distrib}
+use Rattle.ring.specs.Ring.{Ring, zero-add, mul-zero, add-left-comm, add-add-add-comm, neg-zero, neg-add-distrib}
 
 module _ {A : Type 0} (R : Ring A) where
-  open Ring R using (add as _+_, mul as _*_, neg as -_, zero as 𝟘, add-zero, mul-comm, mul-assoc, mul-add)
+  open Ring R using (add as _+_, mul as _*_, neg as -_, zero as 𝟘, add-comm, add-assoc, add-zero, mul-comm, mul-assoc, mul-add)
 
   infixl 65 _+_
   infixl 70 _*_
@@ -88,6 +88,40 @@ module _ {A : Type 0} (R : Ring A) where
       split : (i : ℕ) (d : Dec (i ≡ k)) → f i ≡ ite d (f i) 𝟘 + ite d 𝟘 (f i)
       split i (yes e) = sym (add-zero (f i))
       split i (no e) = sym (zero-add R (f i))
+
+  -- two sums that differ in one term
+  pub sum-change : (n k : ℕ) (f g : ℕ → A) → k < n → ((i : ℕ) → i < n → ¬ (i ≡ k) → f i ≡ g i) → sum n f + g k ≡ sum n g + f k
+  sum-change n k f g h e =
+      ap (λ x. x + g k) (sum-out n k f h ∙ ap (λ x. f k + x) same)
+      ∙ exchange (f k) (sum n (without k g)) (g k)
+      ∙ ap (λ x. x + f k) (sym (sum-out n k g h))
+    where
+      exchange : (a b c : A) → a + b + c ≡ c + b + a
+      exchange a b c = simp (add-assoc, add-comm, add-left-comm R)
+
+      at : (i : ℕ) → i < n → (d : Dec (i ≡ k)) → ite d 𝟘 (f i) ≡ ite d 𝟘 (g i)
+      at i l (yes q) = refl
+      at i l (no q) = e i l q
+
+      same : sum n (without k f) ≡ sum n (without k g)
+      same = sum-ext n (without k f) (without k g) (λ i l. at i l (ℕ-discrete i k))
+
+  -- the first term apart
+  pub sum-front : (n : ℕ) (f : ℕ → A) → sum (suc n) f ≡ f 0 + sum n (λ i. f (suc i))
+  unfolding sum
+  sum-front zero f = add-comm 𝟘 (f 0)
+  sum-front (suc n) f = ap (λ x. x + f (suc n)) (sum-front n f) ∙ add-assoc (f 0) (sum n (λ i. f (suc i))) (f (suc n))
+
+  -- the terms in reversed order
+  pub sum-reverse : (n : ℕ) (f : ℕ → A) → sum n (λ i. f (n - suc i)) ≡ sum n f
+  unfolding sum
+  sum-reverse zero f = refl
+  sum-reverse (suc n) f =
+      let last : suc n - suc n ≡ 0 = omega arith in
+      ap₂ _+_ (sum-ext n (λ i. f (suc n - suc i)) (λ i. f (suc (n - suc i))) (λ i h. ap f (omega arith))
+      ∙ sum-reverse n (λ i. f (suc i))) (ap f last)
+      ∙ add-comm (sum n (λ i. f (suc i))) (f 0)
+      ∙ sym (sum-front n f)
 
   -- Z·(M·x) = (Z·M)·x for a row Z, a matrix M and a column x
   pub sum-assoc : (n m : ℕ) (Z : ℕ → A) (M : ℕ → ℕ → A) (x : ℕ → A)

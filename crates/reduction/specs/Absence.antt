@@ -1,0 +1,158 @@
+-- L9, the certificate of absence is right: b was inserted into the last level U and got stuck at the empty slot h. The second
+-- system is that of the last level, with coordinate h of the blocks for its right side.
+use Prim.Native.Nat.{ℕ, suc, _<_, _≤_}
+use Prim.Native.Nat.{_*_ as _*ₙ_}
+use mathlib.Core.Path.{_≡_, refl, sym, _∙_, ap, ap₂, subst₂}
+use mathlib.Core.List.{[], _∷_}
+use native.Mathlib.Omega.{arith}
+use native.Mathlib.Decide.{ℕ-discrete}
+use Rattle.ring.specs.Ring.{Ring, mul-zero, neg-zero}
+use Rattle.ring.specs.Sum.{sum, sum-ext, sum-neg, sum-change, sum-add, sum-mul}
+use Rattle.ring.specs.Identity.{quotes, identity}
+use Rattle.ring.specs.Combination.{given, combination}
+use Rattle.algebra.specs.Sized.{Sized, positive-nonzero}
+use Rattle.reduction.specs.Total.{rank, degrees}
+use Rattle.reduction.specs.Replace.{replace, replace-here, replace-other, replace-elim, extend, extend-below, extend-at}
+use Rattle.reduction.specs.Pivot.{Pivot}
+use Rattle.reduction.specs.Slots.{Slots, Filled, unweighted, put, put-same, filled-but, tailed, filled-tailed}
+use Rattle.reduction.specs.Span.{InSpan, InSpanWith, span-slot, span-killed, with-hand, with-none}
+use Rattle.reduction.specs.Row.{row-zero}
+use Rattle.reduction.specs.Euclidean.{Euclidean}
+use Rattle.reduction.specs.Trace.{State}
+use Rattle.reduction.specs.Insert.{Stuck}
+use Rattle.reduction.specs.Inserting.{Inserting, kept, inserting-blocks}
+use Rattle.reduction.specs.System.{System}
+use Rattle.reduction.specs.Levels.{Level}
+use Rattle.reduction.specs.Dual.{Dual}
+use Rattle.reduction.specs.Transpose.{Tops}
+use Rattle.reduction.specs.Certificate.{RightAbsence, SmallAbsence}
+
+-- the certificate: w at h, minus Y elsewhere
+abbrev pub absence : {A : Type 0} → Ring A → ℕ → A → (ℕ → A) → ℕ → A
+absence R h w Y = replace (λ k. R .neg (Y k)) h w
+
+module _ {A : Type 0} {R : Ring A} {S : Sized R} (E : Euclidean S) (T : System S) where
+  open System T using (rows as n, columns as m, degree as δ, matrix as M, right as b)
+  open Ring R using (add as _+_, mul as _*_, neg as -_, zero as 𝟘, one as 𝟙)
+  open Sized S using (size, size-neg)
+
+  infixl 65 _+_
+  infixl 65 _-_
+  infixl 70 _*_
+  infix 75 -_
+  abbrev _-_ : A → A → A
+  a - b = a + (- b)
+
+  module _ {U : Slots A} (L : Level T m U) (X : Inserting S n unweighted U b) (K : Stuck S n unweighted (X .now)) where
+    abbrev t : State A
+    t = X .now
+
+    abbrev h : ℕ
+    h = K .at
+
+    abbrev P : Pivot S n unweighted (X .now .hand) (K .at) (X .now .size)
+    P = K .pivot
+
+    -- the slot h was empty before
+    none : U .size h ≡ 0
+    none = omega (arith, kept (L .filled) X .same h (P .inside), K .empty)
+
+    pub absence-tops : (D : ℕ) → ((q : ℕ) → q < n → U .size q ≤ D)
+        → Tops S n (degrees n (U .size)) D (tailed n U (λ q. U .at q (K .at)))
+    absence-tops D high = record {
+      filled = filled-tailed (λ q. U .at q h) (L .filled);
+      tails = λ q l f y. omega (arith, ap size (extend-at n (U .at q) (U .at q h)), L .filled q l f .all h (P .inside));
+      high = high;
+    }
+
+    module _ (w : A) (Y : ℕ → A) (Q : Dual S n (degrees n (U .size)) (tailed n U (λ q. U .at q (K .at))) w Y) where
+      abbrev q₀ : ℕ → A
+      q₀ = absence R (K .at) w Y
+
+      -- Y is zero at h
+      product : (x : ℕ → A) → sum R n (λ i. q₀ i * x i) ≡ w * x h - sum R n (λ i. Y i * x i)
+      product x = combination R qx (w * x h - Yx)
+          (given 𝟙 changed ∷ given 𝟙 minus ∷ given (x h) (replace-here (λ k. - Y k) h w)
+          ∷ given (x h) (Q .empty h (P .inside) none) ∷ [])
+          (identity R (qx ∷ w ∷ x h ∷ Yx ∷ sum R n (λ i. (- Y i) * x i) ∷ q₀ h ∷ Y h ∷ [])
+          (λ ρ qs qw qx qy qn qa qh. search quotes depth 16) refl)
+        where
+          qx : A
+          qx = sum R n (λ i. q₀ i * x i)
+
+          Yx : A
+          Yx = sum R n (λ i. Y i * x i)
+
+          changed : sum R n (λ i. q₀ i * x i) + (- Y h) * x h ≡ sum R n (λ i. (- Y i) * x i) + q₀ h * x h
+          changed = sum-change R n h (λ i. q₀ i * x i) (λ i. (- Y i) * x i) (P .inside)
+              (λ i l ne. ap (λ y. y * x i) (replace-other (λ k. - Y k) h w i ne))
+
+          minus : sum R n (λ i. (- Y i) * x i) ≡ - sum R n (λ i. Y i * x i)
+          minus =
+              sum-ext R n (λ i. (- Y i) * x i) (λ i. - (Y i * x i))
+              (λ i l. identity R (Y i ∷ x i ∷ []) (λ ρ qy qx. search quotes depth 16) refl)
+              ∙ sum-neg R n (λ i. Y i * x i)
+
+      -- it kills the blocks of the last level, and so their span
+      kills : (x : ℕ → A) → InSpan R n n U x → sum R n (λ i. q₀ i * x i) ≡ 𝟘
+      kills x = span-killed R q₀
+          (λ q l f. product (U .at q) ∙ ap (λ y. w * U .at q h - y) (block q l f) ∙ R .add-neg (w * U .at q h))
+        where
+          block : (q : ℕ) → q < n → 0 < U .size q → sum R n (λ i. Y i * U .at q i) ≡ w * U .at q h
+          block q l f =
+              sum-ext R n (λ i. Y i * U .at q i) (λ i. Y i * extend n (U .at q) (U .at q h) i)
+              (λ i g. ap (λ y. Y i * y) (sym (extend-below n (U .at q) (U .at q h) i g)))
+              ∙ Q .equal q l f
+              ∙ ap (λ y. w * y) (extend-at n (U .at q) (U .at q h))
+
+      -- if it killed b too, it would kill the slots of t and the hand, whose pivots are at all places where it is not zero
+      module _ (y : sum R n (λ i. absence R (K .at) w Y i * b i) ≡ 𝟘) where
+        G : Slots A
+        G = put (X .now .slots) (K .at) (X .now .hand) (X .now .size)
+
+        full : Filled S n unweighted G
+        unfolding G
+        full = filled-but (put-same (t .slots) h (t .hand) (t .size) (P .inside)) (kept (L .filled) X .filled)
+            (subst₂ (λ v d. Pivot S n unweighted v h d)
+            (sym (replace-here (t .slots .at) h (t .hand))) (sym (replace-here (t .slots .size) h (t .size))) P)
+
+        -- x - τ·b is in the span of the last level
+        all : (x : ℕ → A) → InSpanWith R n (suc n) (t .slots) (t .hand) x → sum R n (λ i. q₀ i * x i) ≡ 𝟘
+        all x s =
+            sum-ext R n (λ i. q₀ i * x i) (λ i. q₀ i * (x i - x n * b i) + x n * (q₀ i * b i))
+            (λ i l. identity R (q₀ i ∷ x i ∷ x n ∷ b i ∷ []) (λ ρ qa qx qn qb. search quotes depth 16) refl)
+            ∙ sum-add R n (λ i. q₀ i * (x i - x n * b i)) (λ i. x n * (q₀ i * b i))
+            ∙ ap₂ _+_ (kills (λ i. x i - x n * b i) (inserting-blocks (L .filled) X x s))
+            (sum-mul R n (x n) (λ i. q₀ i * b i) ∙ ap (λ v. x n * v) y ∙ mul-zero R (x n))
+            ∙ R .add-zero 𝟘
+
+        filled : (q : ℕ) → q < n → ¬ (q ≡ h) → 0 < size (q₀ q) → 0 < t .slots .size q
+        filled q l ne p = go (ℕ-discrete (t .slots .size q) 0)
+          where
+            go : Dec (t .slots .size q ≡ 0) → 0 < t .slots .size q
+            go (yes v) = absurd (positive-nonzero S (q₀ q) p (replace-other (λ k. - Y k) h w q ne
+                ∙ ap -_ (Q .empty q l (omega (arith, kept (L .filled) X .same q l))) ∙ neg-zero R))
+            go (no v) = omega arith
+
+        pivots : (q : ℕ) → q < n → 0 < size (q₀ q) → Pivot S n unweighted (G .at q) q (G .size q)
+        unfolding G
+        pivots q l p = full q l (replace-elim (λ i x. i < n → 0 < size (q₀ i) → 0 < x) (t .slots .size) h (t .size)
+            (λ l p. omega (arith, P .positive, P .reached)) q (λ ne l p. filled q l ne p) l p)
+
+        killed : (q : ℕ) → q < n → 0 < size (q₀ q) → sum R n (λ j. q₀ j * G .at q j) ≡ 𝟘
+        unfolding G
+        killed q l p = replace-elim (λ i v. i < n → 0 < size (q₀ i) → sum R n (λ j. q₀ j * v j) ≡ 𝟘) (t .slots .at) h (t .hand)
+            (λ l p. all (t .hand) (with-hand R (t .slots) (t .hand))) q
+            (λ ne l p. all (t .slots .at q) (with-none R (t .hand) (span-slot R (t .slots) q l (filled q l ne p)))) l p
+
+        contradiction : ⊥
+        contradiction = Q .nonzero (sym (replace-here (λ k. - Y k) h w) ∙ row-zero S n G q₀ pivots killed h (P .inside))
+
+      -- L9
+      pub absence-right : RightAbsence E T (absence R (K .at) w Y)
+      absence-right = record { kills = λ j l. kills (λ i. M i j) (L .spanned j l); nonzero = contradiction }
+
+      pub absence-sizes : SmallAbsence E T (suc (rank n (U .size) *ₙ δ)) (absence R (K .at) w Y)
+      absence-sizes i l = replace-elim (λ i x. i < n → size x ≤ suc (rank n (U .size) *ₙ δ)) (λ k. - Y k) h w
+          (λ _. omega (arith, Q .small, L .degrees-le)) i
+          (λ ne l. size-neg (suc (rank n (U .size) *ₙ δ)) (Y i) (omega (arith, Q .row-small i l, L .degrees-le))) l

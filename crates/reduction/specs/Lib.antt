@@ -1,0 +1,49 @@
+-- Beside mathematics.md, from the bottom up.
+-- functions of an index, sums of numbers
+pub mod Replace
+pub mod Total
+-- pivots; L1, a step
+pub mod Pivot
+pub mod Step
+-- slots and their span; L3 and its transpose
+pub mod Slots
+pub mod Span
+pub mod Independence
+pub mod Row
+-- rings with division, as K[x]
+pub mod Euclidean
+-- insert: L2, L4, its trace and what it keeps, and that it ends
+pub mod Moves
+pub mod Tails
+pub mod Trace
+pub mod Kept
+pub mod Insert
+pub mod Inserting
+-- divide
+pub mod Division
+-- levels: L5, L6
+pub mod System
+pub mod Link
+pub mod Column
+pub mod Levels
+pub mod Lowering
+pub mod Descent
+-- the second system: L8
+pub mod Dual
+pub mod Transpose
+pub mod Second
+-- certificates: L7, L9
+pub mod Certificate
+pub mod Solution
+pub mod Absence
+-- the algorithm as functions, and that every system has a certificate
+pub mod Run
+pub mod RunSecond
+pub mod RunLevels
+pub mod RunDescent
+pub mod Existence
+-- K[x], and vectors over it in memory
+pub mod Polynomials
+pub mod Holds
+pub mod Flat
+pub mod Held
