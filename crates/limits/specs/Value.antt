@@ -3,4 +3,10 @@ use Rattle.words.specs.Limits.{Limits}
 use Rattle.limits.specs.declared.Limits.{Limits as Value}
 
 abbrev pub limitsOf : Value → Limits
-limitsOf v = record { rows = v .rows; columns = v .columns; systemCoefficients = v .coefficients; certificateCoefficients = v .«certificate_coefficients» }
+limitsOf v =
+    record {
+      rows = v .rows;
+      columns = v .columns;
+      systemCoefficients = v .coefficients;
+      certificateCoefficients = v .«certificate_coefficients»;
+    }

@@ -11,12 +11,14 @@ use Rattle.words.specs.Reading.{outcome, wordsUsed}
 use Rattle.words.specs.Reading.Reading.{read}
 use Rattle.words.specs.Frame.{Framed, bodyFrom, framedFrom}
 use Rattle.words.specs.System.{Shape}
-use Rattle.words.specs.Certificate.{Form, certificateForm, certificateHeadFrom, entryCount, certificateDue, certificateAs, certificateOf, certificateFrom, readCertificate}
+use Rattle.words.specs.Certificate.{Form, certificateForm, certificateHeadFrom, entryCount, certificateDue, certificateAs}
+use Rattle.words.specs.Certificate.{certificateOf, certificateFrom, readCertificate}
 use Rattle.words.specs.Certificate.Form.{solving, absent}
 use Rattle.words.specs.CertificateLaws.{certificateFrom-shown, form-read}
 use Rattle.words.specs.ForwardLaws.{forward-more, body-forward, forward-refused}
 use Rattle.reader.specs.Answer.{dueOf}
-use Rattle.reader.proofs.FrameSteps.{mapped-outcome, OfFrame, OfBody, frame-head-refused, frame-some, frame-body-refused, frame-read}
+use Rattle.reader.proofs.FrameSteps.{mapped-outcome, OfFrame, OfBody, frame-head-refused, frame-some, frame-body-refused}
+use Rattle.reader.proofs.FrameSteps.{frame-read}
 
 form-kept : (h : Shape) (form : Form) (fs : List (List ℕ)) → certificateForm (certificateAs h form fs) ≡ form
 unfolding certificateForm certificateAs
@@ -34,11 +36,14 @@ module _ (limits : Limits) (h : Shape) (ws : List ℕ) where
   unfolding certificateFrom
   shown =
       ap (mapped certificateForm) (certificateFrom-shown limits h ws)
-      ∙ mapped-outcome (length ws) (framedFrom 20 certificateHeadFrom (certificateDue limits h) ws) (certificateOf h) certificateForm (λ v. v .head)
+      ∙ mapped-outcome (length ws) (framedFrom 20 certificateHeadFrom (certificateDue limits h) ws)
+      (certificateOf h) certificateForm (λ v. v .head)
       (λ v. form-kept h (v .head) (v .entries))
 
-  pub certificate-head-refused : (number place : ℕ) → refused number place ≡ outcome (length ws) (certificateHeadFrom ws) → OfCertificate ≡ refused number place
-  certificate-head-refused number place t = shown ∙ frame-head-refused 20 certificateHeadFrom (certificateDue limits h) ws number place t
+  pub certificate-head-refused : (number place : ℕ) → refused number place ≡ outcome (length ws) (certificateHeadFrom ws)
+      → OfCertificate ≡ refused number place
+  certificate-head-refused number place t =
+      shown ∙ frame-head-refused 20 certificateHeadFrom (certificateDue limits h) ws number place t
 
   module _ (form : Form) (told : accepted form ≡ outcome (length ws) (certificateHeadFrom ws)) where
     pub certificate-some : 1 ≤ length ws
@@ -47,18 +52,24 @@ module _ (limits : Limits) (h : Shape) (ws : List ℕ) where
     -- the words behind the head, with the number of polynomials that the code counted
     module _ (count : ℕ) (counted : count ≡ entryCount h form) where
       abbrev pub OfEntries : Outcome ℕ
-      OfEntries = wordsUsed (length ws) (bodyFrom (dueOf (h .modulus) (limits .certificateCoefficients) count) (length ws) (drop 1 ws))
+      OfEntries =
+          wordsUsed (length ws) (bodyFrom (dueOf (h .modulus) (limits .certificateCoefficients) count) (length ws) (drop 1 ws))
 
       same : OfEntries ≡ OfBody 20 certificateHeadFrom (certificateDue limits h) ws form
-      same = ap (λ (n : ℕ). wordsUsed (length ws) (bodyFrom (dueOf (h .modulus) (limits .certificateCoefficients) n) (length ws) (drop 1 ws))) counted
+      same =
+          ap (λ (n : ℕ). wordsUsed (length ws) (bodyFrom (dueOf (h .modulus) (limits .certificateCoefficients) n) (length ws)
+          (drop 1 ws))) counted
 
-      pub certificate-body-refused : (number place : ℕ) → refused number place ≡ OfEntries → (number ≤ 9) × (OfCertificate ≡ refused (number + 20) place)
+      pub certificate-body-refused : (number place : ℕ) → refused number place ≡ OfEntries
+          → (number ≤ 9) × (OfCertificate ≡ refused (number + 20) place)
       certificate-body-refused number place t =
           let due = dueOf (h .modulus) (limits .certificateCoefficients) count in
           let f = forward-more (length ws) (omega (arith, length-drop 1 ws)) (body-forward due (length ws) (drop 1 ws)) in (
             forward-refused (length ws) (bodyFrom due (length ws) (drop 1 ws)) number place f t .0,
-            shown ∙ frame-body-refused 20 certificateHeadFrom (certificateDue limits h) ws one-word form told number place (t ∙ same),
+            shown ∙ frame-body-refused 20 certificateHeadFrom (certificateDue limits h) ws one-word form told number place
+                (t ∙ same),
           )
 
       pub certificate-read : (used : ℕ) → accepted used ≡ OfEntries → OfCertificate ≡ accepted form
-      certificate-read used t = shown ∙ frame-read 20 certificateHeadFrom (certificateDue limits h) ws one-word form told used (t ∙ same)
+      certificate-read used t =
+          shown ∙ frame-read 20 certificateHeadFrom (certificateDue limits h) ws one-word form told used (t ∙ same)

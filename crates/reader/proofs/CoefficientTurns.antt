@@ -83,9 +83,15 @@ reached-start ws p count h =
     }
 
 pub reached-next : (ws : List ℕ) (p count at : ℕ) → Reached ws p count at → at ≤ count → at < length ws
-    → kind (getD ws at 0) ≡ 3 → payload (getD ws at 0) < p → (at ≡ count → payload (getD ws at 0) ≡ 0 → ⊥) → Reached ws p count (at + 1)
+    → kind (getD ws at 0) ≡ 3 → payload (getD ws at 0) < p → (at ≡ count → payload (getD ws at 0) ≡ 0 → ⊥)
+    → Reached ws p count (at + 1)
 reached-next ws p count at r turn reach three below last =
-    record { low = omega arith; high = omega arith; within = omega arith; same = r .same ∙ due-next ws p count at turn reach three below last }
+    record {
+      low = omega arith;
+      high = omega arith;
+      within = omega arith;
+      same = r .same ∙ due-next ws p count at turn reach three below last;
+    }
 
 pub reached-end : (ws : List ℕ) (p count at : ℕ) → Reached ws p count at → count < at
     → wordsUsed (length ws) (coefficientsFrom p count (drop 1 ws)) ≡ accepted at

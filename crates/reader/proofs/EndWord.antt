@@ -42,7 +42,8 @@ module _ (ws : List ℕ) (at : ℕ) (reach : at < length ws) where
     pub end-payload : (payload (getD ws at 0) ≡ at + 1 → ⊥) → OfEnd ws at ≡ refused 9 at
     unfolding endFrom
     end-payload h =
-        let n : (payload (getD ws at 0) ≡ length ws - length (drop (suc at) ws) → ⊥) = λ e. h (omega (arith, length-drop (suc at) ws)) in
+        let n : (payload (getD ws at 0) ≡ length ws - length (drop (suc at) ws) → ⊥) =
+        λ e. h (omega (arith, length-drop (suc at) ws)) in
         step ∙ simp (eq-eqb _ _ four, ne-eqb _ _ n, place)
 
     module _ (right : payload (getD ws at 0) ≡ at + 1) where
@@ -60,4 +61,5 @@ module _ (ws : List ℕ) (at : ℕ) (reach : at < length ws) where
 
       pub end-right : length ws ≤ at + 1 → OfEnd ws at ≡ accepted (at + 1)
       end-right h =
-          passed ∙ nothing-none (length ws) (drop (suc at) ws) (omega (arith, length-drop (suc at) ws)) ∙ ap accepted (omega arith)
+          passed ∙ nothing-none (length ws) (drop (suc at) ws) (omega (arith, length-drop (suc at) ws))
+          ∙ ap accepted (omega arith)

@@ -24,13 +24,15 @@ module _ {H : Type 0} (by : ℕ) (headFrom : List ℕ → Reading H) (due : H �
   abbrev pub OfBody : H → Outcome ℕ
   OfBody h = wordsUsed (length ws) (bodyFrom (due h) (length ws) (drop 1 ws))
 
-  pub frame-head-refused : (number place : ℕ) → refused number place ≡ outcome (length ws) (headFrom ws) → OfFrame ≡ refused number place
+  pub frame-head-refused : (number place : ℕ) → refused number place ≡ outcome (length ws) (headFrom ws)
+      → OfFrame ≡ refused number place
   unfolding framedFrom
   frame-head-refused number place t = go (headFrom ws) t
     where
       go : (r : Reading H) → refused number place ≡ outcome (length ws) r
           → mapped (λ (v : Framed H). v .head) (outcome (length ws)
-          (andThen r (λ h rest. andThen (renumber by (bodyFrom (due h) (length ws) rest)) (λ fs rest′. read (record { head = h; entries = fs }) rest′))))
+          (andThen r (λ h rest. andThen (renumber by (bodyFrom (due h) (length ws) rest))
+          (λ fs rest′. read (record { head = h; entries = fs }) rest′))))
           ≡ refused number place
       go (read h rest) e = absurd (let z : _≡_ {A = ℕ} 0 1 = cc in omega arith)
       go (fault n rest) e = sym e
@@ -38,7 +40,8 @@ module _ {H : Type 0} (by : ℕ) (headFrom : List ℕ → Reading H) (due : H �
   -- the head is one word
   module _ (one-word : (h : H) (rest : List ℕ) → headFrom ws ≡ read h rest → (1 ≤ length ws) × (rest ≡ drop 1 ws)) (h : H)
       (told : accepted h ≡ outcome (length ws) (headFrom ws)) where
-    head-by : (r : Reading H) → headFrom ws ≡ r → accepted h ≡ outcome (length ws) r → (1 ≤ length ws) × (headFrom ws ≡ read h (drop 1 ws))
+    head-by : (r : Reading H) → headFrom ws ≡ r → accepted h ≡ outcome (length ws) r
+        → (1 ≤ length ws) × (headFrom ws ≡ read h (drop 1 ws))
     head-by (read g rest) e t =
         let o = one-word g rest e in
         let eg : g ≡ h = cc in
@@ -52,7 +55,9 @@ module _ {H : Type 0} (by : ℕ) (headFrom : List ℕ → Reading H) (due : H �
     frame-some = head .0
 
     after : Reading (List (List ℕ)) → Outcome H
-    after r = mapped (λ (v : Framed H). v .head) (outcome (length ws) (andThen (renumber by r) (λ fs rest. read (record { head = h; entries = fs }) rest)))
+    after r =
+        mapped (λ (v : Framed H). v .head) (outcome (length ws)
+        (andThen (renumber by r) (λ fs rest. read (record { head = h; entries = fs }) rest)))
 
     after-head : OfFrame ≡ after (bodyFrom (due h) (length ws) (drop 1 ws))
     unfolding framedFrom after
@@ -62,7 +67,8 @@ module _ {H : Type 0} (by : ℕ) (headFrom : List ℕ → Reading H) (due : H �
     unfolding after
     frame-body-refused number place t = after-head ∙ go (bodyFrom (due h) (length ws) (drop 1 ws)) t
       where
-        go : (r : Reading (List (List ℕ))) → refused number place ≡ wordsUsed (length ws) r → after r ≡ refused (number + by) place
+        go : (r : Reading (List (List ℕ))) → refused number place ≡ wordsUsed (length ws) r
+            → after r ≡ refused (number + by) place
         go (read fs rest) e = absurd (let z : _≡_ {A = ℕ} 0 1 = cc in omega arith)
         go (fault n rest) e =
             let en : n ≡ number = cc in

@@ -17,7 +17,8 @@ module _ (p limit : ℕ) where
   start-missing [] e = refl
   start-missing (w ∷ ws) e = absurd (omega arith)
 
-  pub start-kind : (ws : List ℕ) → (length ws ≡ 0 → ⊥) → (kind (getD ws 0 0) ≡ 2 → ⊥) → wordsUsed (length ws) (polynomialFrom p limit ws) ≡ refused 5 0
+  pub start-kind : (ws : List ℕ) → (length ws ≡ 0 → ⊥) → (kind (getD ws 0 0) ≡ 2 → ⊥)
+      → wordsUsed (length ws) (polynomialFrom p limit ws) ≡ refused 5 0
   unfolding polynomialFrom
   start-kind [] some k = absurd (some refl)
   start-kind (w ∷ ws) some k = simp (ne-eqb _ _ k) (ap (refused 5) (omega arith))

@@ -17,15 +17,19 @@ pub record Filled (bytes before : List ℕ) (count : ℕ) (after : List ℕ) (i 
   pub reached : i ≤ count
   pub words : after ≡ take i (wordsOf bytes) ++ drop i before
 
-pub filled-start : (bytes before : List ℕ) (count : ℕ) → count ≡ min (length bytes / 4) (length before) → Filled bytes before count before 0
+pub filled-start : (bytes before : List ℕ) (count : ℕ) → count ≡ min (length bytes / 4) (length before)
+    → Filled bytes before count before 0
 filled-start bytes before count e = record { number = e; reached = omega arith; words = refl }
 
 module _ (bytes before : List ℕ) (count : ℕ) (words : List ℕ) (i : ℕ) (h : Filled bytes before count words i) where
   -- there is room for the words, and they are in the bytes
   pub filled-room : (count ≤ length before) × (4 * count ≤ length bytes)
   filled-room =
-      let e = h .number in
-      (omega (arith, min-le-right (length bytes / 4) (length before)), omega (arith, min-le-left (length bytes / 4) (length before)))
+      let e = h .number in (
+        omega (arith, min-le-right (length bytes / 4) (length before)),
+        omega
+            (arith, min-le-left (length bytes / 4) (length before)),
+      )
 
   known : i ≤ length (wordsOf bytes)
   known = let r = filled-room in let k = h .reached in omega (arith, length-wordsOf bytes)
@@ -35,7 +39,13 @@ module _ (bytes before : List ℕ) (count : ℕ) (words : List ℕ) (i : ℕ) (h
       let r = filled-room in
       let k = h .reached in
       ap length (h .words)
-      ∙ omega (arith, length-append (take i (wordsOf bytes)) (drop i before), length-take-le i (wordsOf bytes) known, length-drop i before)
+      ∙ omega (
+        arith,
+        length-append (take i (wordsOf bytes)) (drop i before),
+        length-take-le i
+            (wordsOf bytes) known,
+        length-drop i before,
+      )
 
   pub filled-next : (w : ℕ) → i < count → w ≡ wordAt bytes (4 * i) → Filled bytes before count (set words i w) (i + 1)
   filled-next w more e =
@@ -63,12 +73,14 @@ module _ (bytes before : List ℕ) (count : ℕ) (words : List ℕ) (i : ℕ) (h
       record { number = e ∙ n ∙ ap (λ (l : ℕ). min l (length before)) (sym (length-wordsOf bytes)); words = h .words }
 
 -- where there is room for all, the words that were unpacked are those of the bytes
-pub unpacked-all : (bytes before after : List ℕ) (count : ℕ) → Unpacked bytes before after count → length bytes ≤ 4 * length before
+pub unpacked-all : (bytes before after : List ℕ) (count : ℕ) → Unpacked bytes before after count
+    → length bytes ≤ 4 * length before
     → (count ≡ length (take count after)) × (take count after ≡ wordsOf bytes)
 unpacked-all bytes before after count h room =
     let s = wordsOf bytes in
     let n : count ≡ length s = h .number ∙ min-eq-left (omega (arith, length-wordsOf bytes)) in
     let e : take count after ≡ s =
-    ap₂ (λ (i : ℕ) (v : List ℕ). take i v) n (h .words ∙ ap (λ (i : ℕ). take i s ++ drop i before) n ∙ ap (λ (v : List ℕ). v ++ drop (length s) before) (take-length s))
+    ap₂ (λ (i : ℕ) (v : List ℕ). take i v) n (h .words ∙ ap (λ (i : ℕ). take i s ++ drop i before) n
+    ∙ ap (λ (v : List ℕ). v ++ drop (length s) before) (take-length s))
     ∙ take-append-seam s (drop (length s) before) in
     (n ∙ sym (ap length e), e)

@@ -14,7 +14,8 @@ use Rattle.reader.specs.declared.system.SystemRead.the-variants.{Accepte
 use Rattle.reader.specs.declared.certificate.Form.{Form as FormValue}
 use Rattle.reader.specs.declared.certificate.Form.the-variants.{Solution, Absence}
 use Rattle.reader.specs.declared.certificate.CertificateRead.{CertificateRead}
-use Rattle.reader.specs.declared.certificate.CertificateRead.the-variants.{Accepted as AcceptedCertificate, Refused as RefusedCertificate}
+use Rattle.reader.specs.declared.certificate.CertificateRead.the-variants.{Accepted as AcceptedCertificate}
+use Rattle.reader.specs.declared.certificate.CertificateRead.the-variants.{Refused as RefusedCertificate}
 
 -- the number of words used
 abbrev pub wordsOutcome : WordsRead → Outcome ℕ

@@ -6,9 +6,8 @@ use crate::word::kind_of;
 use crate::word::payload_of;
 use limits::Limits;
 ghost use mathlib.Core.Path.{_≡_};
-ghost use lib.ListN.{length};
 ghost use Rattle.words.specs.Outcome.{mapped};
-ghost use Rattle.words.specs.Reading.{outcome};
+ghost use Rattle.words.specs.Reading.{told};
 ghost use Rattle.words.specs.Certificate.{certificateForm, certificateHeadFrom, entryCount, readCertificate};
 ghost use Rattle.limits.specs.Value.{limitsOf};
 ghost use Rattle.reader.specs.Answer.{shapeOf, formOf, certificateOutcome};
@@ -29,7 +28,7 @@ pub enum CertificateRead {
 
 // The head, which is the first word.
 fn read_head(words: &[u32]) -> CertificateRead
-    ensures { λ r. ⌜ certificateOutcome r ≡ outcome (length (now (words .entry))) (certificateHeadFrom (now (words .entry))) ⌝ }
+    ensures { λ r. ⌜ certificateOutcome r ≡ told certificateHeadFrom (now (words .entry)) ⌝ }
 {
     if words.len() == 0 {
         return CertificateRead::Refused(24, 0);

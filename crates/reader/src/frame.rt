@@ -5,15 +5,15 @@ use crate::word::kind_of;
 use crate::word::payload_of;
 ghost use mathlib.Core.Path.{_≡_};
 ghost use Prim.Native.Nat.{_≤_};
-ghost use lib.ListN.{length, drop};
-ghost use Rattle.words.specs.Reading.{wordsUsed};
+ghost use lib.ListN.{length};
+ghost use Rattle.words.specs.Reading.{usedFrom};
 ghost use Rattle.words.specs.Frame.{endFrom, bodyFrom};
 ghost use Rattle.reader.specs.Answer.{wordsOutcome, dueOf};
 
 // The end word at `at`, and nothing behind it.
 fn read_end(words: &[u32], at: usize) -> WordsRead
     requires { ⌜ at ≤ length (now words) ⌝ }
-    ensures { λ r. ⌜ wordsOutcome r ≡ wordsUsed (length (now (words .entry))) (endFrom (length (now (words .entry))) (drop at (now (words .entry)))) ⌝ }
+    ensures { λ r. ⌜ wordsOutcome r ≡ usedFrom at (endFrom (length (now (words .entry)))) (now (words .entry)) ⌝ }
 {
     if words.len() <= at {
         return WordsRead::Refused(4, at);
@@ -34,7 +34,7 @@ fn read_end(words: &[u32], at: usize) -> WordsRead
 // `count` polynomials from the second word on, then the end.
 pub fn read_body(words: &[u32], p: u16, limit: u16, count: u32) -> WordsRead
     requires { ⌜ 1 ≤ length (now words) ⌝ }
-    ensures { λ r. ⌜ wordsOutcome r ≡ wordsUsed (length (now (words .entry))) (bodyFrom (dueOf p limit count) (length (now (words .entry))) (drop 1 (now (words .entry)))) ⌝ }
+    ensures { λ r. ⌜ wordsOutcome r ≡ usedFrom 1 (bodyFrom (dueOf p limit count) (length (now (words .entry)))) (now (words .entry)) ⌝ }
 {
     let from: usize = 1;
     let found = read_polynomials(&words[from..], p, limit, count);

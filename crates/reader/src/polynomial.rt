@@ -3,8 +3,8 @@ use crate::word::kind_of;
 use crate::word::payload_of;
 ghost use mathlib.Core.Path.{_≡_};
 ghost use Prim.Native.Nat.{_≤_, _<_};
-ghost use lib.ListN.{length, drop};
-ghost use Rattle.words.specs.Reading.{wordsUsed};
+ghost use lib.ListN.{length};
+ghost use Rattle.words.specs.Reading.{used, usedFrom};
 ghost use Rattle.words.specs.Polynomial.{coefficientsFrom, polynomialFrom, polynomialsFrom};
 ghost use Rattle.reader.specs.Answer.{wordsOutcome};
 
@@ -19,7 +19,7 @@ pub enum WordsRead {
 // So many coefficients, which stand from the second word on.
 fn read_coefficients(words: &[u32], p: u16, count: u32) -> WordsRead
     requires { ⌜ (1 ≤ length (now words)) × (count < 268435456) ⌝ }
-    ensures { λ r. ⌜ wordsOutcome r ≡ wordsUsed (length (now (words .entry))) (coefficientsFrom p count (drop 1 (now (words .entry)))) ⌝ }
+    ensures { λ r. ⌜ wordsOutcome r ≡ usedFrom 1 (coefficientsFrom p count) (now (words .entry)) ⌝ }
 {
     let last = count as usize;
     let mut at: usize = 1;
@@ -47,7 +47,7 @@ fn read_coefficients(words: &[u32], p: u16, count: u32) -> WordsRead
 
 // The polynomial that starts at the first word, of at most `limit` coefficients.
 pub fn read_polynomial(words: &[u32], p: u16, limit: u16) -> WordsRead
-    ensures { λ r. ⌜ wordsOutcome r ≡ wordsUsed (length (now (words .entry))) (polynomialFrom p limit (now (words .entry))) ⌝ }
+    ensures { λ r. ⌜ wordsOutcome r ≡ used (polynomialFrom p limit) (now (words .entry)) ⌝ }
 {
     if words.len() == 0 {
         return WordsRead::Refused(4, 0);
@@ -66,7 +66,7 @@ pub fn read_polynomial(words: &[u32], p: u16, limit: u16) -> WordsRead
 
 // `count` polynomials in a row, the first of them at the first word.
 pub fn read_polynomials(words: &[u32], p: u16, limit: u16, count: u32) -> WordsRead
-    ensures { λ r. ⌜ wordsOutcome r ≡ wordsUsed (length (now (words .entry))) (polynomialsFrom p limit count (now (words .entry))) ⌝ }
+    ensures { λ r. ⌜ wordsOutcome r ≡ used (polynomialsFrom p limit count) (now (words .entry)) ⌝ }
 {
     let mut at: usize = 0;
     let mut due = count;

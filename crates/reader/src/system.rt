@@ -5,9 +5,8 @@ use crate::word::kind_of;
 use limits::Limits;
 use residue::prime::is_prime;
 ghost use mathlib.Core.Path.{_≡_};
-ghost use lib.ListN.{length};
 ghost use Rattle.words.specs.Outcome.{mapped};
-ghost use Rattle.words.specs.Reading.{outcome};
+ghost use Rattle.words.specs.Reading.{told};
 ghost use Rattle.words.specs.System.{shape, oneTo, systemHeadFrom, readSystem};
 ghost use Rattle.limits.specs.Value.{limitsOf};
 ghost use Rattle.reader.specs.Answer.{systemOutcome};
@@ -41,7 +40,7 @@ fn one_to(most: u8, n: u8) -> bool
 
 // The head, which is the first word.
 fn read_head(words: &[u32], limits: Limits) -> SystemRead
-    ensures { λ r. ⌜ systemOutcome r ≡ outcome (length (now (words .entry))) (systemHeadFrom (limitsOf limits) (now (words .entry))) ⌝ }
+    ensures { λ r. ⌜ systemOutcome r ≡ told (systemHeadFrom (limitsOf limits)) (now (words .entry)) ⌝ }
 {
     if words.len() == 0 {
         return SystemRead::Refused(4, 0);

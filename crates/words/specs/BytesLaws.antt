@@ -79,7 +79,8 @@ pub file-broken : (limits : Limits) (bytes : List ℕ) → (length bytes % 4 ≡
 unfolding readSystemFile
 file-broken limits bytes h = simp (ne-eqb _ _ h)
 
-pub file-long : (limits : Limits) (bytes : List ℕ) → length bytes % 4 ≡ 0 → 4 * longestSystem limits < length bytes → readSystemFile limits bytes ≡ refused 10 0
+pub file-long : (limits : Limits) (bytes : List ℕ) → length bytes % 4 ≡ 0 → 4 * longestSystem limits < length bytes
+    → readSystemFile limits bytes ≡ refused 10 0
 unfolding readSystemFile
 file-long limits bytes h k = simp (eq-eqb _ _ h, lt-ltb _ _ k)
 
@@ -89,7 +90,8 @@ unfolding readSystemFile
 file-passed limits bytes h k = simp (eq-eqb _ _ h, le-ltb _ _ k)
 
 -- row 10 was passed
-refuse-passed : {A : Type 0} (b : Bool) (number place : ℕ) (next : Outcome A) (a : A) → refuse b number place next ≡ accepted a → (b ≡ false) × (next ≡ accepted a)
+refuse-passed : {A : Type 0} (b : Bool) (number place : ℕ) (next : Outcome A) (a : A) → refuse b number place next ≡ accepted a
+    → (b ≡ false) × (next ≡ accepted a)
 refuse-passed true number place next a e = absurd (let z : _≡_ {A = ℕ} 0 1 = cc in omega arith)
 refuse-passed false number place next a e = (refl, e)
 
@@ -107,7 +109,8 @@ module _ (limits : Limits) (fit : LimitsFit limits) (s : System) where
       ∙ system-read-of-written limits fit s h
 
   module _ (bytes : List ℕ) (small : Bytes bytes) where
-    pub file-written-of-read : readSystemFile limits bytes ≡ accepted s → (bytes ≡ bytesOf (systemWords s)) × SystemWithin limits s
+    pub file-written-of-read : readSystemFile limits bytes ≡ accepted s
+        → (bytes ≡ bytesOf (systemWords s)) × SystemWithin limits s
     unfolding readSystemFile
     file-written-of-read e =
         let t = refuse-passed (broken bytes || tooLong limits bytes) 10 0 _ s e in

@@ -9,7 +9,8 @@ use Rattle.words.specs.Word.{kind, payload, word}
 use Rattle.words.specs.Outcome.{Outcome}
 use Rattle.words.specs.Reading.{Reading, turnBack, andThen, outcome}
 use Rattle.words.specs.Reading.Reading.{read, fault}
-use Rattle.words.specs.Polynomial.{Within, VectorWithin, polynomialWords, polynomialsWords, coefficientsFrom, polynomialFrom, polynomialsFrom}
+use Rattle.words.specs.Polynomial.{Within, VectorWithin, polynomialWords, polynomialsWords, coefficientsFrom}
+use Rattle.words.specs.Polynomial.{polynomialFrom, polynomialsFrom}
 use Rattle.words.specs.Frame.{Due, Framed, framedWords, endFrom, bodyFrom, framedFrom}
 use Rattle.words.specs.System.{Shape}
 
@@ -25,11 +26,12 @@ pub data Form : Type 0 where
 
 -- ---- limits: "Card polynomials: degree at most 120", for a system of that shape
 
-pub record SolutionWithin (limits : Limits) (h : Shape) (d : List ℕ) (N : List (List ℕ)) (w : List ℕ) (Z : List (List ℕ)) : Type 0 where
-  pub denominator : Within (h .modulus) (limits .certificateCoefficients) d
-  pub numerators : VectorWithin (h .modulus) (limits .certificateCoefficients) (h .columns) N
-  pub certifyingDenominator : Within (h .modulus) (limits .certificateCoefficients) w
-  pub certifyingNumerators : VectorWithin (h .modulus) (limits .certificateCoefficients) (h .rows) Z
+pub record SolutionWithin (limits : Limits) (h : Shape) (d : List ℕ) (N : List (List ℕ)) (w : List ℕ) (Z : List (List ℕ)) : Type 0
+  where
+    pub denominator : Within (h .modulus) (limits .certificateCoefficients) d
+    pub numerators : VectorWithin (h .modulus) (limits .certificateCoefficients) (h .columns) N
+    pub certifyingDenominator : Within (h .modulus) (limits .certificateCoefficients) w
+    pub certifyingNumerators : VectorWithin (h .modulus) (limits .certificateCoefficients) (h .rows) Z
 
 unfoldable pub CertificateWithin : Limits → Shape → Certificate → Type 0
 CertificateWithin limits h (solution d N w Z) = SolutionWithin limits h d N w Z
@@ -76,7 +78,8 @@ certificateDue limits h form = record { modulus = h .modulus; limit = limits .ce
 
 -- the polynomials in written order, taken apart
 unfoldable pub certificateAs : Shape → Form → List (List ℕ) → Certificate
-certificateAs h solving fs = solution (getD fs 0 []) (take (h .columns) (drop 1 fs)) (getD fs (suc (h .columns)) []) (drop (suc (suc (h .columns))) fs)
+certificateAs h solving fs =
+    solution (getD fs 0 []) (take (h .columns) (drop 1 fs)) (getD fs (suc (h .columns)) []) (drop (suc (suc (h .columns))) fs)
 certificateAs h absent fs = absence fs
 
 abbrev pub certificateOf : Shape → Framed Form → Certificate
@@ -84,9 +87,11 @@ certificateOf h v = certificateAs h (v .head) (v .entries)
 
 -- 24 to 29: 4 to 9, in the body, with 20 more
 unfoldable pub certificateFrom : Limits → Shape → List ℕ → Reading Certificate
-certificateFrom limits h ws = andThen (framedFrom 20 certificateHeadFrom (certificateDue limits h) ws) (λ v rest. read (certificateOf h v) rest)
+certificateFrom limits h ws =
+    andThen (framedFrom 20 certificateHeadFrom (certificateDue limits h) ws) (λ v rest. read (certificateOf h v) rest)
 
--- the whole: the values, or number and place
+-- The whole: the values, or number and place; laws go through `certificateFrom-shown`.
 unfoldable pub readCertificate : Limits → Shape → List ℕ → Outcome Certificate
-unfolding certificateFrom certificateHeadFrom formOf entryCount certificateAs framedFrom bodyFrom endFrom polynomialsFrom polynomialFrom coefficientsFrom
+unfolding certificateFrom certificateHeadFrom formOf entryCount certificateAs
+    framedFrom bodyFrom endFrom polynomialsFrom polynomialFrom coefficientsFrom
 readCertificate limits h ws = outcome (length ws) (certificateFrom limits h ws)

@@ -20,7 +20,9 @@ use Rattle.words.specs.Reading.Reading.{read, fault}
 use Rattle.words.specs.Polynomial.{Within, VectorWithin}
 use Rattle.words.specs.Frame.{Framed}
 use Rattle.words.specs.System.{Shape, ShapeWithin}
-use Rattle.words.specs.Certificate.{Certificate, Form, SolutionWithin, CertificateWithin, certificateForm, certificateEntries, formWord, certificateWords, formOf, certificateHeadFrom, entryCount, certificateDue, certificateAs, certificateOf, certificateFrom, readCertificate}
+use Rattle.words.specs.Certificate.{Certificate, Form, SolutionWithin, CertificateWithin, certificateForm}
+use Rattle.words.specs.Certificate.{certificateEntries, formWord, certificateWords, formOf, certificateHeadFrom, entryCount}
+use Rattle.words.specs.Certificate.{certificateDue, certificateAs, certificateOf, certificateFrom, readCertificate}
 use Rattle.words.specs.Certificate.Certificate.{solution, absence}
 use Rattle.words.specs.Certificate.Form.{solving, absent}
 use Rattle.words.specs.ReadingLaws.{fault-read, turnBack-read, and-passed}
@@ -51,15 +53,18 @@ form-read (w ∷ ws) form rest e =
     let k = and-passed (eqb (kind w) 5) (eqb (payload w) 1 || eqb (payload w) 2) (a .0) in
     let ef : formOf (eqb (payload w) 1) ≡ form = cc in
     let er : ws ≡ rest = cc in
-    let ew : w ≡ formWord (formOf (eqb (payload w) 1)) = form-word w (eqb-true (kind w) 5 (k .0)) (eqb (payload w) 1) refl (k .1) in
+    let ew : w ≡ formWord (formOf (eqb (payload w) 1)) =
+    form-word w (eqb-true (kind w) 5 (k .0)) (eqb (payload w) 1) refl (k .1) in
     ap₂ (λ (v : ℕ) (vs : List ℕ). v ∷ vs) (ew ∙ ap formWord ef) er
 
 pub certificate-head-laws : HeadLaws certificateHeadFrom formWord (λ form. Unit {0})
-certificate-head-laws = record { written = λ form _ rest. form-written form rest; read = λ ws form rest e. (form-read ws form rest e, tt) }
+certificate-head-laws =
+    record { written = λ form _ rest. form-written form rest; read = λ ws form rest e. (form-read ws form rest e, tt) }
 
 -- ---- the whole, for a system of the shape h
 
-pub certificateFrom-shown : (limits : Limits) (h : Shape) (ws : List ℕ) → readCertificate limits h ws ≡ outcome (length ws) (certificateFrom limits h ws)
+pub certificateFrom-shown : (limits : Limits) (h : Shape) (ws : List ℕ)
+    → readCertificate limits h ws ≡ outcome (length ws) (certificateFrom limits h ws)
 unfolding readCertificate
 certificateFrom-shown limits h ws = refl
 
@@ -90,27 +95,32 @@ module _ (limits : Limits) (h : Shape) where
       record { valid = tt; entries = vector-count p limit (omega arith) all }
   certificate-parts (absence q) k = record { valid = tt; entries = k }
 
-  together-by : (form : Form) (fs : List (List ℕ)) → VectorWithin p limit (entryCount h form) fs → CertificateWithin limits h (certificateAs h form fs)
+  together-by : (form : Form) (fs : List (List ℕ)) → VectorWithin p limit (entryCount h form) fs
+      → CertificateWithin limits h (certificateAs h form fs)
   unfolding CertificateWithin certificateAs entryCount
   together-by solving fs k =
       let n = h .rows in
       let m = h .columns in
       record {
         denominator = all-at p limit fs (k .entries) 0;
-        numerators = vector-take p limit m (1 + n) (drop 1 fs) (vector-drop p limit 1 (m + (1 + n)) fs (vector-count p limit (omega arith) k));
+        numerators = vector-take p limit m (1 + n) (drop 1 fs)
+            (vector-drop p limit 1 (m + (1 + n)) fs (vector-count p limit (omega arith) k));
         certifyingDenominator = all-at p limit fs (k .entries) (suc m);
         certifyingNumerators = vector-drop p limit (suc (suc m)) n fs (vector-count p limit (omega arith) k);
       }
   together-by absent fs k = k
 
-  together-apart : (c : Certificate) → CertificateWithin limits h c → certificateAs h (certificateForm c) (certificateEntries c) ≡ c
+  together-apart : (c : Certificate) → CertificateWithin limits h c
+      → certificateAs h (certificateForm c) (certificateEntries c) ≡ c
   unfolding CertificateWithin certificateForm certificateEntries certificateAs
   together-apart (solution d N w Z) k =
       let m = h .columns in
       let n = k .numerators .count in
       let eN : take m (N ++ w ∷ Z) ≡ N = take-at N (w ∷ Z) m n in
       let ew : getD (N ++ w ∷ Z) m [] ≡ w = getD-at N w Z [] m n in
-      let eZ : drop (suc m) (N ++ w ∷ Z) ≡ Z = ap (λ (i : ℕ). drop i (N ++ w ∷ Z)) (sym (add-one m)) ∙ sym (drop-drop 1 m (N ++ w ∷ Z)) ∙ ap (drop 1) (drop-at N (w ∷ Z) m n) in
+      let eZ : drop (suc m) (N ++ w ∷ Z) ≡ Z =
+      ap (λ (i : ℕ). drop i (N ++ w ∷ Z)) (sym (add-one m)) ∙ sym (drop-drop 1 m (N ++ w ∷ Z))
+      ∙ ap (drop 1) (drop-at N (w ∷ Z) m n) in
       simp (eN, ew, eZ)
   together-apart (absence q) k = refl
 
@@ -136,7 +146,8 @@ module _ (limits : Limits) (h : Shape) where
 
   -- ---- the theorems
 
-  pub certificate-written-of-read : (ws : List ℕ) (c : Certificate) → readCertificate limits h ws ≡ accepted c → (ws ≡ certificateWords c) × CertificateWithin limits h c
+  pub certificate-written-of-read : (ws : List ℕ) (c : Certificate) → readCertificate limits h ws ≡ accepted c
+      → (ws ≡ certificateWords c) × CertificateWithin limits h c
   unfolding certificateWords readCertificate
   certificate-written-of-read ws c e = format.written-of-read certificateFormat certificate-laws ws c e
 
@@ -152,7 +163,8 @@ module _ (limits : Limits) (h : Shape) where
         let n = entryCount-most form in
         record { modulus = omega arith; limit = omega arith; words = wordsFor-small (omega arith) (fit .certificateCoefficients) }
 
-    pub certificate-read-of-written : (c : Certificate) → CertificateWithin limits h c → readCertificate limits h (certificateWords c) ≡ accepted c
+    pub certificate-read-of-written : (c : Certificate) → CertificateWithin limits h c
+        → readCertificate limits h (certificateWords c) ≡ accepted c
     unfolding certificateWords readCertificate
     certificate-read-of-written c k = format.read-of-written certificateFormat certificate-laws certificate-expressible c k
 
@@ -161,11 +173,15 @@ module _ (limits : Limits) (h : Shape) where
     unfolding certificateWords readCertificate
     certificate-accepted-iff ws c = format.accepted-iff certificateFormat certificate-laws certificate-expressible ws c
 
-    pub certificateWords-injective : (c e : Certificate) → CertificateWithin limits h c → CertificateWithin limits h e → certificateWords c ≡ certificateWords e → c ≡ e
+    pub certificateWords-injective : (c e : Certificate) → CertificateWithin limits h c → CertificateWithin limits h e
+        → certificateWords c ≡ certificateWords e → c ≡ e
     unfolding certificateWords
-    certificateWords-injective c e k l q = format.written-injective certificateFormat certificate-laws certificate-expressible c e k l q
+    certificateWords-injective c e k l q =
+        format.written-injective certificateFormat certificate-laws certificate-expressible c e k l q
 
-    pub certificateWords-most : (c : Certificate) → CertificateWithin limits h c → length (certificateWords c) ≤ longestCertificate limits
+    pub certificateWords-most : (c : Certificate) → CertificateWithin limits h c
+        → length (certificateWords c) ≤ longestCertificate limits
     unfolding certificateWords
     certificateWords-most c k =
-        le-trans (format.written-most certificateFormat certificate-laws c k) (wordsFor-most (limits .certificateCoefficients) (entryCount-most (certificateForm c)))
+        le-trans (format.written-most certificateFormat certificate-laws c k)
+        (wordsFor-most (limits .certificateCoefficients) (entryCount-most (certificateForm c)))

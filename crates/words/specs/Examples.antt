@@ -20,9 +20,8 @@ sheet1 = 0x10110002 ∷ 0x20000002 ∷ 0x30000000 ∷ 0x30000001 ∷ 0x20000001 
 
 card1 : List ℕ
 card1 =
-    0x50000001 ∷ 0x20000002 ∷ 0x30000000 ∷ 0x30000001 ∷ 0x20000001 ∷ 0x30000001 ∷ 0x20000002 ∷ 0x30000000 ∷ 0x30000001 ∷ 0x20000001 ∷ 0x30000001
-    ∷ 0x4000000C
-    ∷ []
+    0x50000001 ∷ 0x20000002 ∷ 0x30000000 ∷ 0x30000001 ∷ 0x20000001 ∷ 0x30000001 ∷ 0x20000002 ∷ 0x30000000 ∷ 0x30000001
+    ∷ 0x20000001 ∷ 0x30000001 ∷ 0x4000000C ∷ []
 
 answer1 : Certificate
 answer1 = solution (0 ∷ 1 ∷ []) ((1 ∷ []) ∷ []) (0 ∷ 1 ∷ []) ((1 ∷ []) ∷ [])
@@ -60,8 +59,9 @@ sheets =
     ∷ (0x10110002 ∷ 0x20000002 ∷ 0x30000000 ∷ 0x30000001 ∷ 0x20000001 ∷ 0x30000001 ∷ 0x40000007 ∷ 0 ∷ [])
     ∷ []
 
-sheets-read : map (readSystem office) sheets ≡
-    refused 4 0 ∷ refused 1 0 ∷ refused 2 0 ∷ refused 3 0 ∷ refused 4 1 ∷ refused 5 1 ∷ refused 6 1 ∷ refused 7 2 ∷ refused 8 2 ∷ refused 9 6 ∷ refused 9 7 ∷ []
+sheets-read : map (readSystem office) sheets
+    ≡ refused 4 0 ∷ refused 1 0 ∷ refused 2 0 ∷ refused 3 0 ∷ refused 4 1 ∷ refused 5 1 ∷ refused 6 1 ∷ refused 7 2 ∷ refused 8 2
+    ∷ refused 9 6 ∷ refused 9 7 ∷ []
 unfolding readSystem sheets
 sheets-read = refl
 
@@ -74,7 +74,8 @@ file-read = refl
 cards : List (List ℕ)
 cards = [] ∷ (0x50000003 ∷ []) ∷ (0x50000001 ∷ []) ∷ (0x50000001 ∷ 0x20000079 ∷ []) ∷ (0x50000001 ∷ 0x2000007A ∷ []) ∷ []
 
-cards-read : map (readCertificate office (shape case1)) cards ≡ refused 24 0 ∷ refused 21 0 ∷ refused 24 1 ∷ refused 24 2 ∷ refused 26 1 ∷ []
+cards-read : map (readCertificate office (shape case1)) cards
+    ≡ refused 24 0 ∷ refused 21 0 ∷ refused 24 1 ∷ refused 24 2 ∷ refused 26 1 ∷ []
 unfolding readCertificate case1 cards
 cards-read = refl
 

@@ -1,4 +1,5 @@
--- Values in framed words: read-of-written, written-of-read and what follows, stated once. Systems and certificates are the two formats.
+-- Values in framed words: read-of-written, written-of-read and what follows, stated once. Systems and certificates are the two
+-- formats.
 use mathlib.Core.Path.{_≡_, refl, sym, ap, _∙_, subst}
 use mathlib.Core.Logic.{_↔_}
 use mathlib.Core.List.{List, []}
@@ -64,7 +65,8 @@ module _ {H A : Type 0} (F : Format H A) where
         let er : t .1 ≡ rest = cc in
         subst (λ (x : A). ValueRead ws x rest) ev
         (record {
-          words = f .words ∙ ap (λ (g : Framed H). framedWords (F .headWord (g .head)) (g .entries)) (sym (laws .apart-together (t .0) parts));
+          words = f .words ∙ ap (λ (g : Framed H). framedWords (F .headWord (g .head)) (g .entries))
+              (sym (laws .apart-together (t .0) parts));
           within = laws .together (t .0) parts;
           end = sym er ∙ f .end;
         })
@@ -103,7 +105,8 @@ module _ {H A : Type 0} (F : Format H A) where
 
     -- ---- lengths
 
-    pub written-most : (v : A) → F .Within v → length (written v) ≤ wordsFor (F .due (F .apart v .head) .count) (F .due (F .apart v .head) .limit)
+    pub written-most : (v : A) → F .Within v
+        → length (written v) ≤ wordsFor (F .due (F .apart v .head) .count) (F .due (F .apart v .head) .limit)
     written-most v within =
         let f = F .apart v in
         framedWords-most (F .headWord (f .head)) (F .due (f .head)) (f .entries) (laws .apart v within .entries)

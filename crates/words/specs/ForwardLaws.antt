@@ -31,7 +31,8 @@ pub record Forward {A : Type 0} (total : ℕ) (r : Reading A) : Type 0 where
   pub number : numberOf r ≤ 9
   pub left : length (remaining r) ≤ total
 
-forward-turnBack : {A : Type 0} (total : ℕ) (b : Bool) (number : ℕ) (ws : List ℕ) (next : Reading A) → number ≤ 9 → length ws ≤ total
+forward-turnBack : {A : Type 0} (total : ℕ) (b : Bool) (number : ℕ) (ws : List ℕ) (next : Reading A) → number ≤ 9
+    → length ws ≤ total
     → Forward total next → Forward total (turnBack b number ws next)
 forward-turnBack total true number ws next n l h = record { number = n; left = l }
 forward-turnBack total false number ws next n l h = h
@@ -46,7 +47,8 @@ forward-more more l h = record { number = h .number; left = le-trans (h .left) l
 
 -- a row of the table at the first word
 module _ {A : Type 0} (w : ℕ) (ws : List ℕ) (next : Reading A) where
-  forward-row : (b : Bool) (number : ℕ) → number ≤ 9 → Forward (suc (length ws)) next → Forward (suc (length ws)) (turnBack b number (w ∷ ws) next)
+  forward-row : (b : Bool) (number : ℕ) → number ≤ 9 → Forward (suc (length ws)) next
+      → Forward (suc (length ws)) (turnBack b number (w ∷ ws) next)
   forward-row b number n h = forward-turnBack (suc (length ws)) b number (w ∷ ws) next n (le-refl (suc (length ws))) h
 
 pub coefficients-forward : (p due : ℕ) (ws : List ℕ) → Forward (length ws) (coefficientsFrom p due ws)
@@ -73,7 +75,8 @@ unfolding polynomialsFrom
 polynomials-forward p limit zero ws = record { number = omega arith; left = le-refl (length ws) }
 polynomials-forward p limit (suc count) ws =
     forward-then (polynomialFrom p limit ws) _ (polynomial-forward p limit ws) (λ f rest l.
-    forward-then (polynomialsFrom p limit count rest) _ (forward-more (length ws) l (polynomials-forward p limit count rest)) (λ fs rest′ l′.
+    forward-then (polynomialsFrom p limit count rest) _ (forward-more (length ws) l (polynomials-forward p limit count rest))
+    (λ fs rest′ l′.
     record { number = omega arith; left = l′ }))
 
 nothing-forward : (ws : List ℕ) → Forward (length ws) (nothingFrom ws)
@@ -98,7 +101,8 @@ body-forward due total ws =
     record { number = omega arith; left = l′ }))
 
 -- what a caller is told of a refusal
-pub forward-refused : {A : Type 0} (total : ℕ) (r : Reading A) (number place : ℕ) → Forward total r → refused number place ≡ wordsUsed total r
+pub forward-refused : {A : Type 0} (total : ℕ) (r : Reading A) (number place : ℕ) → Forward total r
+    → refused number place ≡ wordsUsed total r
     → (number ≤ 9) × (place ≤ total)
 forward-refused total (read a rest) number place h e = absurd (let z : _≡_ {A = ℕ} 0 1 = cc in omega arith)
 forward-refused total (fault n ws) number place h e =

@@ -1,4 +1,5 @@
--- The laws of reading and writing, once for systems and certificates: over the head, what is due behind it, and the refusals' numbers.
+-- The laws of reading and writing, once for systems and certificates: over the head, what is due behind it, and the refusals'
+-- numbers.
 use mathlib.Core.Path.{_≡_, refl, sym, ap, _∙_, subst, subst₂}
 use mathlib.Core.Bool.{not}
 use mathlib.Core.List.{List, [], _∷_, _++_}
@@ -25,7 +26,8 @@ end-written total h =
     let x : payload (word 4 total) ≡ total - 0 = omega arith in
     simp (eq-eqb _ _ (kind-word 4 total h), eq-eqb _ _ x)
 
-end-read : (total : ℕ) (ws : List ℕ) (u : Unit {0}) (rest : List ℕ) → endFrom total ws ≡ read u rest → (ws ≡ word 4 total ∷ []) × (rest ≡ [])
+end-read : (total : ℕ) (ws : List ℕ) (u : Unit {0}) (rest : List ℕ) → endFrom total ws ≡ read u rest
+    → (ws ≡ word 4 total ∷ []) × (rest ≡ [])
 unfolding endFrom
 end-read total [] u rest e = absurd (fault-read e)
 end-read total (w ∷ []) u rest e =
@@ -56,7 +58,9 @@ body-written : (due : Due) (total : ℕ) → Expressible due → total < 2684354
 unfolding bodyFrom
 body-written due total x small fs h =
     let e = polynomials-written (due .modulus) (x .modulus) (due .limit) (x .limit) fs (h .entries) (word 4 total ∷ []) in
-    let e′ = subst (λ (n : ℕ). polynomialsFrom (due .modulus) (due .limit) n (polynomialsWords fs ++ word 4 total ∷ []) ≡ read fs (word 4 total ∷ [])) (h .count) e in
+    let e′ =
+    subst (λ (n : ℕ). polynomialsFrom (due .modulus) (due .limit) n (polynomialsWords fs ++ word 4 total ∷ []) ≡ read fs
+    (word 4 total ∷ [])) (h .count) e in
     simp (e′, end-written total small)
 
 pub record BodyRead (due : Due) (total : ℕ) (ws : List ℕ) (fs : List (List ℕ)) (rest : List ℕ) : Type 0 where
@@ -64,7 +68,8 @@ pub record BodyRead (due : Due) (total : ℕ) (ws : List ℕ) (fs : List (List �
   pub within : Entries due fs
   pub end : rest ≡ []
 
-pub body-read : (due : Due) (total : ℕ) (ws : List ℕ) (fs : List (List ℕ)) (rest : List ℕ) → bodyFrom due total ws ≡ read fs rest → BodyRead due total ws fs rest
+pub body-read : (due : Due) (total : ℕ) (ws : List ℕ) (fs : List (List ℕ)) (rest : List ℕ) → bodyFrom due total ws ≡ read fs rest
+    → BodyRead due total ws fs rest
 unfolding bodyFrom
 body-read due total ws fs rest e =
     let t = andThen-read (polynomialsFrom (due .modulus) (due .limit) (due .count) ws) e in
@@ -83,13 +88,17 @@ unfolding framedWords
 length-framedWords head fs = omega (arith, length-append (polynomialsWords fs) (endWord (1 + length (polynomialsWords fs)) ∷ []))
 
 -- no written form is longer than its limits say
-pub framedWords-most : (head : ℕ) (due : Due) (fs : List (List ℕ)) → Entries due fs → length (framedWords head fs) ≤ wordsFor (due .count) (due .limit)
+pub framedWords-most : (head : ℕ) (due : Due) (fs : List (List ℕ)) → Entries due fs
+    → length (framedWords head fs) ≤ wordsFor (due .count) (due .limit)
 framedWords-most head due fs h =
-    let most = subst (λ (n : ℕ). length (polynomialsWords fs) ≤ n * (1 + due .limit)) (h .count) (length-polynomialsWords (due .modulus) (due .limit) fs (h .entries)) in
+    let most =
+    subst (λ (n : ℕ). length (polynomialsWords fs) ≤ n * (1 + due .limit)) (h .count)
+    (length-polynomialsWords (due .modulus) (due .limit) fs (h .entries)) in
     omega (arith, length-framedWords head fs)
 
 -- the end word has the number of all words
-framedWords-end : (head : ℕ) (fs : List (List ℕ)) → framedWords head fs ≡ head ∷ polynomialsWords fs ++ word 4 (length (framedWords head fs)) ∷ []
+framedWords-end : (head : ℕ) (fs : List (List ℕ))
+    → framedWords head fs ≡ head ∷ polynomialsWords fs ++ word 4 (length (framedWords head fs)) ∷ []
 unfolding framedWords
 framedWords-end head fs =
     let e : 1 + length (polynomialsWords fs) + 1 ≡ length (framedWords head fs) = omega (arith, length-framedWords head fs) in
@@ -110,7 +119,8 @@ module _ {H : Type 0} (headFrom : List ℕ → Reading H) (headWord : H → ℕ)
         let most = framedWords-most (headWord h) (due h) fs within in
         let few = x .words in
         let ws = polynomialsWords fs ++ word 4 total ∷ [] in
-        let eh : headFrom (framedWords (headWord h) fs) ≡ read h ws = ap headFrom (framedWords-end (headWord h) fs) ∙ laws .written h valid ws in
+        let eh : headFrom (framedWords (headWord h) fs) ≡ read h ws =
+        ap headFrom (framedWords-end (headWord h) fs) ∙ laws .written h valid ws in
         let eb : bodyFrom (due h) total ws ≡ read fs [] = body-written (due h) total x (omega arith) fs within in
         simp (eh, eb)
 
@@ -120,7 +130,8 @@ module _ {H : Type 0} (headFrom : List ℕ → Reading H) (headWord : H → ℕ)
       pub within : Entries (due (v .head)) (v .entries)
       pub end : rest ≡ []
 
-    pub framed-read : (ws : List ℕ) (v : Framed H) (rest : List ℕ) → framedFrom by headFrom due ws ≡ read v rest → FramedRead ws v rest
+    pub framed-read : (ws : List ℕ) (v : Framed H) (rest : List ℕ) → framedFrom by headFrom due ws ≡ read v rest
+        → FramedRead ws v rest
     unfolding framedFrom framedWords
     framed-read ws v rest e =
         let t = andThen-read (headFrom ws) e in
@@ -131,8 +142,10 @@ module _ {H : Type 0} (headFrom : List ℕ → Reading H) (headWord : H → ℕ)
         let b = body-read (due h) (length ws) (t .1) fs (u .1) (renumber-read by (bodyFrom (due h) (length ws) (t .1)) (u .2)) in
         let ev : record { head = h; entries = fs } ≡ v = cc in
         let er : u .1 ≡ rest = cc in
-        let ew : ws ≡ headWord h ∷ polynomialsWords fs ++ word 4 (length ws) ∷ [] = a .0 ∙ ap (λ (r : List ℕ). headWord h ∷ r) (b .words) in
-        let el : length ws ≡ 1 + length (polynomialsWords fs) + 1 = omega (arith, ap length ew, length-append (polynomialsWords fs) (word 4 (length ws) ∷ [])) in
+        let ew : ws ≡ headWord h ∷ polynomialsWords fs ++ word 4 (length ws) ∷ [] =
+        a .0 ∙ ap (λ (r : List ℕ). headWord h ∷ r) (b .words) in
+        let el : length ws ≡ 1 + length (polynomialsWords fs) + 1 =
+        omega (arith, ap length ew, length-append (polynomialsWords fs) (word 4 (length ws) ∷ [])) in
         subst₂ (FramedRead ws) ev er
         (record {
           words = ew ∙ ap (λ (n : ℕ). headWord h ∷ polynomialsWords fs ++ word 4 n ∷ []) el;

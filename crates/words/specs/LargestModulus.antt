@@ -17,7 +17,8 @@ Composite start (a ∷ factors) = (1 < a) × (a < start) × ((start + length fac
 prime-before : (p start : ℕ) → Prime p → (factors : List ℕ) → Composite start factors → p < start + length factors → p < start
 unfolding Composite
 prime-before p start prime [] c h = omega arith
-prime-before p start prime (a ∷ factors) c h = go (prime-before p start prime factors (c .3)) (ℕ-discrete (start + length factors) p)
+prime-before p start prime (a ∷ factors) c h =
+    go (prime-before p start prime factors (c .3)) (ℕ-discrete (start + length factors) p)
   where
     go : (p < start + length factors → p < start) → Dec (start + length factors ≡ p) → p < start
     go before (yes e) =

@@ -12,12 +12,15 @@ pub record LimitsFit (limits : Limits) : Type 0 where
   pub certificateCoefficients : limits .certificateCoefficients ≤ 65535
 
 pub office-fits : LimitsFit office
-office-fits = record { rows = omega arith; columns = omega arith; systemCoefficients = omega arith; certificateCoefficients = omega arith }
+office-fits =
+    record { rows = omega arith; columns = omega arith; systemCoefficients = omega arith; certificateCoefficients = omega arith }
 
 pub panel-fits : LimitsFit panel
-panel-fits = record { rows = omega arith; columns = omega arith; systemCoefficients = omega arith; certificateCoefficients = omega arith }
+panel-fits =
+    record { rows = omega arith; columns = omega arith; systemCoefficients = omega arith; certificateCoefficients = omega arith }
 
-pub systemCount-most : {rows columns most widest : ℕ} → rows ≤ most → columns ≤ widest → systemCount rows columns ≤ systemCount most widest
+pub systemCount-most : {rows columns most widest : ℕ} → rows ≤ most → columns ≤ widest
+    → systemCount rows columns ≤ systemCount most widest
 systemCount-most h k = omega (arith, mul-le-mul h k)
 
 pub wordsFor-most : {count most : ℕ} (coefficients : ℕ) → count ≤ most → wordsFor count coefficients ≤ wordsFor most coefficients

@@ -12,7 +12,8 @@ use Rattle.words.specs.Limits.{Limits, longestSystem, longestCertificate
 use Rattle.words.specs.Polynomial.{Within, AllWithin, VectorWithin, polynomialWords, polynomialsWords}
 use Rattle.words.specs.Frame.{framedWords}
 use Rattle.words.specs.System.{System, shape, SystemWithin, headWord, systemEntries, systemWords}
-use Rattle.words.specs.Certificate.{Certificate, CertificateWithin, SolutionWithin, certificateForm, certificateEntries, formWord, certificateWords}
+use Rattle.words.specs.Certificate.{Certificate, CertificateWithin, SolutionWithin, certificateForm, certificateEntries}
+use Rattle.words.specs.Certificate.{formWord, certificateWords}
 use Rattle.words.specs.Certificate.Certificate.{solution}
 use Rattle.words.specs.PolynomialLaws.{length-polynomialWords}
 use Rattle.words.specs.FrameLaws.{length-framedWords}
@@ -43,11 +44,13 @@ module _ (p : ℕ) (large : 1 < p) (size : ℕ) where
   full-within : (count : ℕ) → VectorWithin p size count (full size count)
   full-within count = record { entries = all-full count; count = length-replicate count (ones size) }
 
-length-cons-words : (f : List ℕ) (fs : List (List ℕ)) → length (polynomialsWords (f ∷ fs)) ≡ length (polynomialWords f) + length (polynomialsWords fs)
+length-cons-words : (f : List ℕ) (fs : List (List ℕ))
+    → length (polynomialsWords (f ∷ fs)) ≡ length (polynomialWords f) + length (polynomialsWords fs)
 unfolding polynomialsWords
 length-cons-words f fs = length-append (polynomialWords f) (polynomialsWords fs)
 
-length-append-words : (fs gs : List (List ℕ)) → length (polynomialsWords (fs ++ gs)) ≡ length (polynomialsWords fs) + length (polynomialsWords gs)
+length-append-words : (fs gs : List (List ℕ))
+    → length (polynomialsWords (fs ++ gs)) ≡ length (polynomialsWords fs) + length (polynomialsWords gs)
 unfolding polynomialsWords
 length-append-words [] gs = omega arith
 length-append-words (f ∷ fs) gs =
@@ -95,7 +98,14 @@ module _ (limits : Limits) where
       let c = limits .systemCoefficients in
       let A = full c (limits .rows * limits .columns) in
       let b = full c (limits .rows) in
-      omega (arith, length-systemWords longSystem, length-append-words A b, length-full c (limits .rows * limits .columns), length-full c (limits .rows))
+      omega (
+        arith,
+        length-systemWords longSystem,
+        length-append-words A b,
+        length-full c
+            (limits .rows * limits .columns),
+        length-full c (limits .rows),
+      )
 
   pub certificateWords-reached : length (certificateWords longCertificate) ≡ longestCertificate limits
   unfolding longCertificate certificateEntries

@@ -1,4 +1,5 @@
--- Where the polynomials stand: the words of an accepted system or certificate from the start word of any of its polynomials on, and
+-- Where the polynomials stand: the words of an accepted system or certificate from the start word of any of its polynomials on,
+-- and
 -- the coefficients by the words that hold them. What code needs that loads or shows a polynomial.
 use mathlib.Core.Path.{_≡_, refl, sym, ap, _∙_}
 use mathlib.Core.List.{List, [], _∷_, _++_, map, append-assoc}
@@ -34,7 +35,8 @@ pub entry-words : (head : ℕ) (fs : List (List ℕ)) (k : ℕ)
     → drop (entryPlace fs k) (framedWords head fs) ≡ polynomialsWords (drop k fs) ++ endWord (1 + length (polynomialsWords fs)) ∷ []
 unfolding entryPlace framedWords
 entry-words head fs k =
-    sym (drop-drop (length (polynomialsWords (take k fs))) 1 (framedWords head fs)) ∙ words-from k fs (endWord (1 + length (polynomialsWords fs)) ∷ [])
+    sym (drop-drop (length (polynomialsWords (take k fs))) 1 (framedWords head fs))
+    ∙ words-from k fs (endWord (1 + length (polynomialsWords fs)) ∷ [])
 
 pub entryPlace-zero : (fs : List (List ℕ)) → entryPlace fs 0 ≡ 1
 unfolding entryPlace polynomialsWords
@@ -53,7 +55,8 @@ length-take-next (suc k) (f ∷ fs) h =
       length-take-next k fs (omega arith),
     )
 
-pub entryPlace-next : (fs : List (List ℕ)) (k : ℕ) → k < length fs → entryPlace fs (suc k) ≡ entryPlace fs k + (1 + length (getD fs k []))
+pub entryPlace-next : (fs : List (List ℕ)) (k : ℕ) → k < length fs
+    → entryPlace fs (suc k) ≡ entryPlace fs k + (1 + length (getD fs k []))
 unfolding entryPlace
 entryPlace-next fs k h = omega (arith, length-take-next k fs h, length-polynomialWords (getD fs k []))
 
@@ -64,7 +67,8 @@ pub count-at : (f rest : List ℕ) → length f < 268435456 → payload (getD (p
 unfolding polynomialWords
 count-at f rest h = omega arith
 
-coefficient-in : (p : ℕ) → p ≤ 268435456 → (f rest : List ℕ) → Canonical p f → (i : ℕ) → i < length f → payload (getD (map (word 3) f ++ rest) i 0) ≡ getD f i 0
+coefficient-in : (p : ℕ) → p ≤ 268435456 → (f rest : List ℕ) → Canonical p f → (i : ℕ) → i < length f
+    → payload (getD (map (word 3) f ++ rest) i 0) ≡ getD f i 0
 unfolding Canonical
 coefficient-in p small [] rest h i l = absurd (omega arith)
 coefficient-in p small (a ∷ f) rest h zero l = let b = h .0 in omega arith

@@ -11,7 +11,8 @@ use Rattle.modular.specs.Canonical.{Ends, Canonical}
 use Rattle.words.specs.Word.{kind, payload, word}
 use Rattle.words.specs.Reading.{Reading, turnBack, andThen}
 use Rattle.words.specs.Reading.Reading.{read, fault}
-use Rattle.words.specs.Polynomial.{Within, AllWithin, VectorWithin, polynomialWords, polynomialsWords, coefficientsFrom, polynomialFrom, polynomialsFrom}
+use Rattle.words.specs.Polynomial.{Within, AllWithin, VectorWithin, polynomialWords, polynomialsWords, coefficientsFrom}
+use Rattle.words.specs.Polynomial.{polynomialFrom, polynomialsFrom}
 use Rattle.words.specs.WordLaws.{kind-word, payload-word, word-of}
 use Rattle.words.specs.ReadingLaws.{fault-read, turnBack-read, andThen-read}
 
@@ -24,7 +25,8 @@ ends-passed a [] h = ne-eqb a 0 (λ e. omega arith)
 ends-passed a (b ∷ f) h = simp (ne-eqb (suc (length f)) 0 (λ e. omega arith))
 
 module _ (p : ℕ) (small : p ≤ 268435456) where
-  coefficients-written : (f : List ℕ) → Canonical p f → (rest : List ℕ) → coefficientsFrom p (length f) (map (word 3) f ++ rest) ≡ read f rest
+  coefficients-written : (f : List ℕ) → Canonical p f → (rest : List ℕ)
+      → coefficientsFrom p (length f) (map (word 3) f ++ rest) ≡ read f rest
   unfolding Canonical coefficientsFrom
   coefficients-written [] h rest = refl
   coefficients-written (a ∷ f) h rest =
@@ -46,7 +48,12 @@ module _ (p : ℕ) (small : p ≤ 268435456) where
   unfolding polynomialsFrom polynomialsWords AllWithin
   polynomials-written limit few [] h rest = refl
   polynomials-written limit few (f ∷ fs) h rest =
-      simp (append-assoc, polynomial-written limit few f (h .0) (polynomialsWords fs ++ rest), polynomials-written limit few fs (h .1) rest)
+      simp (
+        append-assoc,
+        polynomial-written limit few f (h .0) (polynomialsWords fs ++ rest),
+        polynomials-written limit few fs
+            (h .1) rest,
+      )
 
 -- ---- what was read
 
@@ -91,7 +98,8 @@ pub record PolynomialRead (p limit : ℕ) (ws f rest : List ℕ) : Type 0 where
   pub words : ws ≡ polynomialWords f ++ rest
   pub within : Within p limit f
 
-pub polynomial-read : (p limit : ℕ) (ws f rest : List ℕ) → polynomialFrom p limit ws ≡ read f rest → PolynomialRead p limit ws f rest
+pub polynomial-read : (p limit : ℕ) (ws f rest : List ℕ) → polynomialFrom p limit ws ≡ read f rest
+    → PolynomialRead p limit ws f rest
 unfolding polynomialFrom polynomialWords
 polynomial-read p limit [] f rest e = absurd (fault-read e)
 polynomial-read p limit (w ∷ ws) f rest e =
@@ -108,7 +116,8 @@ pub record PolynomialsRead (p limit count : ℕ) (ws : List ℕ) (fs : List (Lis
   pub words : ws ≡ polynomialsWords fs ++ rest
   pub within : VectorWithin p limit count fs
 
-pub polynomials-read : (p limit count : ℕ) (ws : List ℕ) (fs : List (List ℕ)) (rest : List ℕ) → polynomialsFrom p limit count ws ≡ read fs rest
+pub polynomials-read : (p limit count : ℕ) (ws : List ℕ) (fs : List (List ℕ)) (rest : List ℕ)
+    → polynomialsFrom p limit count ws ≡ read fs rest
     → PolynomialsRead p limit count ws fs rest
 unfolding polynomialsFrom polynomialsWords AllWithin
 polynomials-read p limit zero ws fs rest e =
@@ -123,7 +132,8 @@ polynomials-read p limit (suc count) ws fs rest e =
     let er : u .1 ≡ rest = cc in
     subst₂ (PolynomialsRead p limit (suc count) ws) ef er
     (record {
-      words = f .words ∙ ap (λ (vs : List ℕ). polynomialWords (t .0) ++ vs) (ih .words) ∙ sym (append-assoc (polynomialWords (t .0)) (polynomialsWords (u .0)) (u .1));
+      words = f .words ∙ ap (λ (vs : List ℕ). polynomialWords (t .0) ++ vs) (ih .words)
+          ∙ sym (append-assoc (polynomialWords (t .0)) (polynomialsWords (u .0)) (u .1));
       within = record { entries = (f .within, ih .within .entries); count = ap suc (ih .within .count) };
     })
 
@@ -133,9 +143,16 @@ pub length-polynomialWords : (f : List ℕ) → length (polynomialWords f) ≡ s
 unfolding polynomialWords
 length-polynomialWords f = ap suc (length-map f (word 3))
 
-pub length-polynomialsWords : (p limit : ℕ) (fs : List (List ℕ)) → AllWithin p limit fs → length (polynomialsWords fs) ≤ length fs * (1 + limit)
+pub length-polynomialsWords : (p limit : ℕ) (fs : List (List ℕ)) → AllWithin p limit fs
+    → length (polynomialsWords fs) ≤ length fs * (1 + limit)
 unfolding polynomialsWords AllWithin
 length-polynomialsWords p limit [] h = omega arith
 length-polynomialsWords p limit (f ∷ fs) h =
     let s = h .0 .size in
-    omega (arith, length-append (polynomialWords f) (polynomialsWords fs), length-polynomialWords f, length-polynomialsWords p limit fs (h .1))
+    omega (
+      arith,
+      length-append (polynomialWords f)
+          (polynomialsWords fs),
+      length-polynomialWords f,
+      length-polynomialsWords p limit fs (h .1),
+    )

@@ -1,11 +1,12 @@
 -- Reading words from a list, one after another (document 01, "Turned back": "Reading goes word by word; the first word at fault
--- decides, its conditions tried in the order of the table"). What was read is given with the words that are left; a refusal, by its
+-- decides, its conditions tried in the order of the table"). What was read is given with the words that are left; a refusal, by
+-- its
 -- number in the table, with the words from the one at fault on. So its place is the number of words before these; where a word is
 -- missing none are left, and the place is the number of all words.
 use Prim.Native.Nat.{ℕ, _+_, _-_}
 use mathlib.Core.Bool.{Bool, true, false}
 use mathlib.Core.List.{List}
-use lib.ListN.{length}
+use lib.ListN.{length, drop}
 use Rattle.words.specs.Outcome.{Outcome}
 use Rattle.words.specs.Outcome.Outcome.{accepted, refused}
 
@@ -37,3 +38,13 @@ outcome total (fault number ws) = refused number (total - length ws)
 abbrev pub wordsUsed : {A : Type 0} → ℕ → Reading A → Outcome ℕ
 wordsUsed total (read a rest) = accepted (total - length rest)
 wordsUsed total (fault number ws) = refused number (total - length ws)
+
+-- the same of a way to read, from the first of the words on, or from word `at` on
+abbrev pub told : {A : Type 0} → (List ℕ → Reading A) → List ℕ → Outcome A
+told reading ws = outcome (length ws) (reading ws)
+
+abbrev pub used : {A : Type 0} → (List ℕ → Reading A) → List ℕ → Outcome ℕ
+used reading ws = wordsUsed (length ws) (reading ws)
+
+abbrev pub usedFrom : {A : Type 0} → ℕ → (List ℕ → Reading A) → List ℕ → Outcome ℕ
+usedFrom at reading ws = wordsUsed (length ws) (reading (drop at ws))

@@ -39,11 +39,13 @@ and-passed false b e = absurd (let z : _≡_ {A = ℕ} 0 1 = cc in omega arith)
 
 -- ---- what a caller is told
 
-pub outcome-accepted : {A : Type 0} (total : ℕ) (r : Reading A) (a : A) → outcome total r ≡ accepted a → (rest : List ℕ) × (r ≡ read a rest)
+pub outcome-accepted : {A : Type 0} (total : ℕ) (r : Reading A) (a : A) → outcome total r ≡ accepted a
+    → (rest : List ℕ) × (r ≡ read a rest)
 outcome-accepted total (read b rest) a e = (rest, let eb : b ≡ a = cc in ap (λ (x : _). read x rest) eb)
 outcome-accepted total (fault number ws) a e = absurd (let z : _≡_ {A = ℕ} 0 1 = cc in omega arith)
 
 -- a value that is only put together from what was read
-pub wordsUsed-map : {A B : Type 0} (total : ℕ) (r : Reading A) (g : A → B) → wordsUsed total (andThen r (λ a rest. read (g a) rest)) ≡ wordsUsed total r
+pub wordsUsed-map : {A B : Type 0} (total : ℕ) (r : Reading A) (g : A → B)
+    → wordsUsed total (andThen r (λ a rest. read (g a) rest)) ≡ wordsUsed total r
 wordsUsed-map total (read a rest) g = refl
 wordsUsed-map total (fault number ws) g = refl

@@ -10,7 +10,8 @@ use Rattle.words.specs.Word.{kind, word}
 use Rattle.words.specs.Outcome.{Outcome}
 use Rattle.words.specs.Reading.{Reading, turnBack, andThen, outcome}
 use Rattle.words.specs.Reading.Reading.{read, fault}
-use Rattle.words.specs.Polynomial.{VectorWithin, polynomialWords, polynomialsWords, coefficientsFrom, polynomialFrom, polynomialsFrom}
+use Rattle.words.specs.Polynomial.{VectorWithin, polynomialWords, polynomialsWords, coefficientsFrom, polynomialFrom}
+use Rattle.words.specs.Polynomial.{polynomialsFrom}
 use Rattle.words.specs.Frame.{Due, Framed, framedWords, endFrom, bodyFrom, framedFrom}
 
 -- ---- values
@@ -74,17 +75,21 @@ headShape w = record { modulus = w % 65536; rows = w / 65536 % 16; columns = w /
 abbrev pub oneTo : ℕ → ℕ → Bool
 oneTo most n = leb 1 n && leb n most
 
+abbrev pub sized : Limits → Shape → Bool
+sized limits h = oneTo (limits .rows) (h .rows) && oneTo (limits .columns) (h .columns)
+
 unfoldable pub systemHeadFrom : Limits → List ℕ → Reading Shape
 systemHeadFrom limits [] = fault 4 []  -- "An empty sheet is 4 at 0"
 systemHeadFrom limits (w ∷ ws) =
     turnBack (not (eqb (kind w) 1 && eqb (w / 16777216 % 16) 0)) 1 (w ∷ ws)  -- 1: kind not 1 or bits 24 to 27 not zero
     (turnBack (not (prime? (headShape w .modulus))) 2 (w ∷ ws)  -- 2: p not prime
-    (turnBack (not (oneTo (limits .rows) (headShape w .rows) && oneTo (limits .columns) (headShape w .columns))) 3 (w ∷ ws)  -- 3: n or m outside 1 to 8
+    (turnBack (not (sized limits (headShape w))) 3 (w ∷ ws)  -- 3: n or m outside 1 to 8
     (read (headShape w) ws)))
 
 -- what is due behind a head: A and b
 abbrev pub systemDue : Limits → Shape → Due
-systemDue limits h = record { modulus = h .modulus; limit = limits .systemCoefficients; count = systemCount (h .rows) (h .columns) }
+systemDue limits h =
+    record { modulus = h .modulus; limit = limits .systemCoefficients; count = systemCount (h .rows) (h .columns) }
 
 unfoldable pub systemOf : Framed Shape → System
 systemOf v = record {
@@ -99,7 +104,9 @@ systemOf v = record {
 unfoldable pub systemFrom : Limits → List ℕ → Reading System
 systemFrom limits ws = andThen (framedFrom 0 (systemHeadFrom limits) (systemDue limits) ws) (λ v rest. read (systemOf v) rest)
 
--- the whole: the values, or number and place
+-- The whole: the values, or number and place. It opens all that the reading is made of, so that examples compute; laws go through
+-- `systemFrom-shown` instead.
 unfoldable pub readSystem : Limits → List ℕ → Outcome System
-unfolding systemFrom systemHeadFrom headShape prime? systemOf framedFrom bodyFrom endFrom polynomialsFrom polynomialFrom coefficientsFrom
+unfolding systemFrom systemHeadFrom headShape prime? systemOf
+    framedFrom bodyFrom endFrom polynomialsFrom polynomialFrom coefficientsFrom
 readSystem limits ws = outcome (length ws) (systemFrom limits ws)

@@ -29,7 +29,8 @@ low : (x r q : ℕ) → x ≡ r + q * 16 → r < 16 → x % 16 ≡ r
 low x r q e h = omega arith
 
 module _ (limits : Limits) where
-  head-written : LimitsFit limits → (h : Shape) → ShapeWithin limits h → (rest : List ℕ) → systemHeadFrom limits (headWord h ∷ rest) ≡ read h rest
+  head-written : LimitsFit limits → (h : Shape) → ShapeWithin limits h → (rest : List ℕ)
+      → systemHeadFrom limits (headWord h ∷ rest) ≡ read h rest
   unfolding systemHeadFrom headWord headShape
   head-written fit h w rest =
       let s = w .modulus in
@@ -44,7 +45,17 @@ module _ (limits : Limits) where
       let ek : kind w₀ ≡ 1 = omega arith in
       let qz : w₀ / 16777216 ≡ 16 = omega arith in
       let ez : w₀ / 16777216 % 16 ≡ 0 = low _ _ 1 qz (omega arith) in
-      simp (eq-eqb _ _ ek, eq-eqb _ _ ez, ep, er, ec, true-of-prime (h .modulus) (w .prime), oneTo-true _ _ (r₁ .0) (r₁ .1), oneTo-true _ _ (c₁ .0) (c₁ .1))
+      simp (
+        eq-eqb _ _ ek,
+        eq-eqb _ _ ez,
+        ep,
+        er,
+        ec,
+        true-of-prime (h .modulus) (w .prime),
+        oneTo-true _ _ (r₁ .0) (r₁ .1),
+        oneTo-true _ _
+            (c₁ .0) (c₁ .1),
+      )
 
   -- a word whose kind is 1 and whose bits 24 to 27 are zero is the head of what it holds
   head-word : (w : ℕ) → kind w ≡ 1 → w / 16777216 % 16 ≡ 0 → w ≡ headWord (headShape w)
@@ -84,4 +95,5 @@ module _ (limits : Limits) where
       })
 
   pub system-head-laws : LimitsFit limits → HeadLaws (systemHeadFrom limits) headWord (ShapeWithin limits)
-  system-head-laws fit = record { written = head-written fit; read = λ ws h rest e. let t = head-read ws h rest e in (t .words, t .within) }
+  system-head-laws fit =
+      record { written = head-written fit; read = λ ws h rest e. let t = head-read ws h rest e in (t .words, t .within) }

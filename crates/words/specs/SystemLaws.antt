@@ -14,7 +14,8 @@ use Rattle.words.specs.Reading.{Reading, outcome}
 use Rattle.words.specs.Reading.Reading.{read, fault}
 use Rattle.words.specs.Polynomial.{Within}
 use Rattle.words.specs.Frame.{Framed}
-use Rattle.words.specs.System.{System, Shape, shape, entry, rightSide, ShapeWithin, SystemWithin, headWord, systemEntries, systemWords, systemHeadFrom, systemDue, systemOf, systemFrom, readSystem}
+use Rattle.words.specs.System.{System, Shape, shape, entry, rightSide, ShapeWithin, SystemWithin, headWord, systemEntries}
+use Rattle.words.specs.System.{systemWords, systemHeadFrom, systemDue, systemOf, systemFrom, readSystem}
 use Rattle.words.specs.LimitsLaws.{LimitsFit, systemCount-most, wordsFor-most, wordsFor-small}
 use Rattle.words.specs.VectorLaws.{all-at, vector-append, vector-take, vector-drop}
 use Rattle.words.specs.FrameLaws.{Expressible}
@@ -42,7 +43,8 @@ module _ (limits : Limits) where
 
   module _ (fit : LimitsFit limits) where
     system-parts : (s : System) → SystemWithin limits s → Parts systemFormat (systemFormat .apart s)
-    system-parts s h = record { valid = h .shape; entries = vector-append (s .modulus) (limits .systemCoefficients) (h .matrix) (h .right) }
+    system-parts s h =
+        record { valid = h .shape; entries = vector-append (s .modulus) (limits .systemCoefficients) (h .matrix) (h .right) }
 
     system-together : (f : Framed Shape) → Parts systemFormat f → SystemWithin limits (systemOf f)
     unfolding systemOf
@@ -50,8 +52,10 @@ module _ (limits : Limits) where
         let g = f .head in
         record {
           shape = h .valid;
-          matrix = vector-take (g .modulus) (limits .systemCoefficients) (g .rows * g .columns) (g .rows) (f .entries) (h .entries);
-          right = vector-drop (g .modulus) (limits .systemCoefficients) (g .rows * g .columns) (g .rows) (f .entries) (h .entries);
+          matrix = vector-take (g .modulus) (limits .systemCoefficients) (g .rows * g .columns) (g .rows) (f .entries)
+              (h .entries);
+          right = vector-drop (g .modulus) (limits .systemCoefficients) (g .rows * g .columns) (g .rows) (f .entries)
+              (h .entries);
         }
 
     system-together-apart : (s : System) → SystemWithin limits s → systemOf (systemFormat .apart s) ≡ s
@@ -64,7 +68,8 @@ module _ (limits : Limits) where
     system-apart-together : (f : Framed Shape) → Parts systemFormat f → systemFormat .apart (systemOf f) ≡ f
     unfolding systemOf
     system-apart-together f h =
-        ap (λ (fs : List (List ℕ)). record { head = f .head; entries = fs }) (take-append-drop (f .head .rows * f .head .columns) (f .entries))
+        ap (λ (fs : List (List ℕ)). record { head = f .head; entries = fs })
+        (take-append-drop (f .head .rows * f .head .columns) (f .entries))
 
     pub system-laws : FormatLaws systemFormat
     system-laws = record {
@@ -82,7 +87,11 @@ module _ (limits : Limits) where
         let m = w .modulus in
         let r′ : h .rows ≤ 15 = le-trans r (fit .rows) in
         let c′ : h .columns ≤ 15 = le-trans c (fit .columns) in
-        record { modulus = omega arith; limit = omega arith; words = wordsFor-small (omega (arith, mul-le-mul r′ c′)) (fit .systemCoefficients) }
+        record {
+          modulus = omega arith;
+          limit = omega arith;
+          words = wordsFor-small (omega (arith, mul-le-mul r′ c′)) (fit .systemCoefficients);
+        }
 
     -- ---- the theorems
 
@@ -90,15 +99,18 @@ module _ (limits : Limits) where
     unfolding systemWords readSystem
     system-read-of-written s h = format.read-of-written systemFormat system-laws system-expressible s h
 
-    pub system-written-of-read : (ws : List ℕ) (s : System) → readSystem limits ws ≡ accepted s → (ws ≡ systemWords s) × SystemWithin limits s
+    pub system-written-of-read : (ws : List ℕ) (s : System) → readSystem limits ws ≡ accepted s
+        → (ws ≡ systemWords s) × SystemWithin limits s
     unfolding systemWords readSystem
     system-written-of-read ws s e = format.written-of-read systemFormat system-laws ws s e
 
-    pub system-accepted-iff : (ws : List ℕ) (s : System) → (readSystem limits ws ≡ accepted s) ↔ ((ws ≡ systemWords s) × SystemWithin limits s)
+    pub system-accepted-iff : (ws : List ℕ) (s : System)
+        → (readSystem limits ws ≡ accepted s) ↔ ((ws ≡ systemWords s) × SystemWithin limits s)
     unfolding systemWords readSystem
     system-accepted-iff ws s = format.accepted-iff systemFormat system-laws system-expressible ws s
 
-    pub systemWords-injective : (s t : System) → SystemWithin limits s → SystemWithin limits t → systemWords s ≡ systemWords t → s ≡ t
+    pub systemWords-injective : (s t : System) → SystemWithin limits s → SystemWithin limits t → systemWords s ≡ systemWords t
+        → s ≡ t
     unfolding systemWords
     systemWords-injective s t h k e = format.written-injective systemFormat system-laws system-expressible s t h k e
 
@@ -107,7 +119,8 @@ module _ (limits : Limits) where
     systemWords-most s h =
         let r = h .shape .rows .1 in
         let c = h .shape .columns .1 in
-        le-trans (format.written-most systemFormat system-laws s h) (wordsFor-most (limits .systemCoefficients) (systemCount-most r c))
+        le-trans (format.written-most systemFormat system-laws s h)
+        (wordsFor-most (limits .systemCoefficients) (systemCount-most r c))
 
 -- ---- the polynomials of a system within the limits; past the last row or column there is zero
 

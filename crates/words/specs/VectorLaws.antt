@@ -40,13 +40,18 @@ module _ (p limit : ℕ) where
   pub vector-count : {m n : ℕ} {fs : List (List ℕ)} → m ≡ n → VectorWithin p limit m fs → VectorWithin p limit n fs
   vector-count e h = record { entries = h .entries; count = h .count ∙ e }
 
-  pub vector-cons : {n : ℕ} {f : List ℕ} {fs : List (List ℕ)} → Within p limit f → VectorWithin p limit n fs → VectorWithin p limit (suc n) (f ∷ fs)
+  pub vector-cons : {n : ℕ} {f : List ℕ} {fs : List (List ℕ)} → Within p limit f → VectorWithin p limit n fs
+      → VectorWithin p limit (suc n) (f ∷ fs)
   unfolding AllWithin
   vector-cons h k = record { entries = (h, k .entries); count = ap suc (k .count) }
 
-  pub vector-append : {m n : ℕ} {fs gs : List (List ℕ)} → VectorWithin p limit m fs → VectorWithin p limit n gs → VectorWithin p limit (m + n) (fs ++ gs)
+  pub vector-append : {m n : ℕ} {fs gs : List (List ℕ)} → VectorWithin p limit m fs → VectorWithin p limit n gs
+      → VectorWithin p limit (m + n) (fs ++ gs)
   vector-append {m} {n} {fs} {gs} h k =
-      record { entries = all-append fs gs (h .entries) (k .entries); count = omega (arith, length-append fs gs, h .count, k .count) }
+      record {
+        entries = all-append fs gs (h .entries) (k .entries);
+        count = omega (arith, length-append fs gs, h .count, k .count);
+      }
 
   pub vector-take : (m n : ℕ) (fs : List (List ℕ)) → VectorWithin p limit (m + n) fs → VectorWithin p limit m (take m fs)
   vector-take m n fs h = record { entries = all-take m fs (h .entries); count = length-take-le m fs (omega (arith, h .count)) }

@@ -11,7 +11,8 @@ use Rattle.words.specs.Polynomial.{Within, AllWithin, VectorWithin, poly
 use Rattle.words.specs.Frame.{Due, endWord, framedWords}
 use Rattle.words.specs.System.{System, shape, SystemWithin, headWord, systemEntries, systemWords}
 use Rattle.words.specs.System.{Shape, ShapeWithin}
-use Rattle.words.specs.Certificate.{Certificate, Form, CertificateWithin, certificateForm, certificateEntries, formWord, certificateWords}
+use Rattle.words.specs.Certificate.{Certificate, Form, CertificateWithin, certificateForm, certificateEntries, formWord}
+use Rattle.words.specs.Certificate.{certificateWords}
 use Rattle.words.specs.Certificate.Form.{solving, absent}
 use Rattle.words.specs.LimitsLaws.{LimitsFit}
 use Rattle.words.specs.FrameLaws.{Expressible, Entries, framedWords-most, length-framedWords}
@@ -38,25 +39,30 @@ module _ (p : ℕ) (small : p ≤ 268435456) (limit : ℕ) (few : limit < 268435
   coefficient-words : (f : List ℕ) → Canonical p f → Words (map (word 3) f)
   unfolding Canonical
   coefficient-words [] h = below-nil _ (omega arith)
-  coefficient-words (a ∷ f) h = let l = h .0 in below-cons _ (word 3 a) (map (word 3) f) (omega arith) (coefficient-words f (h .2))
+  coefficient-words (a ∷ f) h =
+      let l = h .0 in below-cons _ (word 3 a) (map (word 3) f) (omega arith) (coefficient-words f (h .2))
 
   polynomial-words : (f : List ℕ) → Within p limit f → Words (polynomialWords f)
   unfolding polynomialWords
-  polynomial-words f h = let l = h .size in below-cons _ (word 2 (length f)) (map (word 3) f) (omega arith) (coefficient-words f (h .canonical))
+  polynomial-words f h =
+      let l = h .size in below-cons _ (word 2 (length f)) (map (word 3) f) (omega arith) (coefficient-words f (h .canonical))
 
   polynomials-words : (fs : List (List ℕ)) → AllWithin p limit fs → Words (polynomialsWords fs)
   unfolding polynomialsWords AllWithin
   polynomials-words [] h = below-nil _ (omega arith)
-  polynomials-words (f ∷ fs) h = below-append _ (polynomialWords f) (polynomialsWords fs) (polynomial-words f (h .0)) (polynomials-words fs (h .1))
+  polynomials-words (f ∷ fs) h =
+      below-append _ (polynomialWords f) (polynomialsWords fs) (polynomial-words f (h .0)) (polynomials-words fs (h .1))
 
-framed-words : (head : ℕ) (due : Due) (fs : List (List ℕ)) → head < 4294967296 → Expressible due → Entries due fs → Words (framedWords head fs)
+framed-words : (head : ℕ) (due : Due) (fs : List (List ℕ)) → head < 4294967296 → Expressible due → Entries due fs
+    → Words (framedWords head fs)
 unfolding framedWords
 framed-words head due fs h x k =
     let most = framedWords-most head due fs k in
     let few = x .words in
     let ws = polynomialsWords fs in
     below-cons _ head (ws ++ endWord (1 + length ws) ∷ []) h
-    (below-append _ ws (endWord (1 + length ws) ∷ []) (polynomials-words (due .modulus) (x .modulus) (due .limit) (x .limit) fs (k .entries))
+    (below-append _ ws (endWord (1 + length ws) ∷ [])
+    (polynomials-words (due .modulus) (x .modulus) (due .limit) (x .limit) fs (k .entries))
     (below-cons _ (endWord (1 + length ws)) [] (omega (arith, length-framedWords head fs)) (below-nil _ (omega arith))))
 
 headWord-word : (limits : Limits) → LimitsFit limits → (h : Shape) → ShapeWithin limits h → headWord h < 4294967296
@@ -75,10 +81,12 @@ formWord-word absent = omega arith
 pub systemWords-words : (limits : Limits) → LimitsFit limits → (s : System) → SystemWithin limits s → Words (systemWords s)
 unfolding systemWords
 systemWords-words limits fit s h =
-    framed-words (headWord (shape s)) (systemFormat limits .due (shape s)) (systemEntries s) (headWord-word limits fit (shape s) (h .shape))
+    framed-words (headWord (shape s)) (systemFormat limits .due (shape s)) (systemEntries s)
+    (headWord-word limits fit (shape s) (h .shape))
     (system-expressible limits fit (shape s) (h .shape)) (system-laws limits fit .apart s h .entries)
 
-pub certificateWords-words : (limits : Limits) → LimitsFit limits → (h : Shape) → ShapeWithin limits h → (c : Certificate) → CertificateWithin limits h c
+pub certificateWords-words : (limits : Limits) → LimitsFit limits → (h : Shape) → ShapeWithin limits h → (c : Certificate)
+    → CertificateWithin limits h c
     → Words (certificateWords c)
 unfolding certificateWords
 certificateWords-words limits fit h w c k =

@@ -31,12 +31,14 @@ enum-told-2 c = search needs
 returns : tie.Need-returns
 unfolding entryCount
 returns c =
-    ap (λ (f : Form). entryCount (shapeOf (c .before .before .before .before .args .shape)) (formOf f)) (sym (c .enum-told .given .1))
+    ap (λ (f : Form). entryCount (shapeOf (c .before .before .before .before .args .shape)) (formOf f))
+    (sym (c .enum-told .given .1))
 
 returns-2 : tie.Need-returns-2
 unfolding entryCount
 returns-2 c =
-    ap (λ (f : Form). entryCount (shapeOf (c .before .before .before .before .args .shape)) (formOf f)) (sym (c .enum-told2 .given .1))
+    ap (λ (f : Form). entryCount (shapeOf (c .before .before .before .before .args .shape)) (formOf f))
+    (sym (c .enum-told2 .given .1))
 
 pub entry-count-spec : {M : Type 1} → statement M
 entry-count-spec =

@@ -26,14 +26,16 @@ returns-3 : tie.Need-returns-3
 returns-3 c =
     let x = c .before in
     let k = x .before .before in
-    sym (head-solution _ (k .before .before .if1 .left) (sym (k .kind-of .ensures) ∙ x .before .if2 .left) (sym (x .payload-of .ensures) ∙ c .if3 .taken))
+    sym (head-solution _ (k .before .before .if1 .left) (sym (k .kind-of .ensures) ∙ x .before .if2 .left)
+    (sym (x .payload-of .ensures) ∙ c .if3 .taken))
 
 returns-4 : tie.Need-returns-4
 returns-4 c =
     let x = c .before .before in
     let k = x .before .before in
     sym
-    (head-absence _ (k .before .before .if1 .left) (sym (k .kind-of .ensures) ∙ x .before .if2 .left) (λ e. c .before .if3 .left (x .payload-of .ensures ∙ e))
+    (head-absence _ (k .before .before .if1 .left) (sym (k .kind-of .ensures) ∙ x .before .if2 .left)
+    (λ e. c .before .if3 .left (x .payload-of .ensures ∙ e))
     (sym (x .payload-of .ensures) ∙ c .if4 .taken))
 
 returns-5 : tie.Need-returns-5
@@ -41,7 +43,8 @@ returns-5 c =
     let x = c .before .before in
     let k = x .before .before in
     sym
-    (head-form _ (k .before .before .if1 .left) (sym (k .kind-of .ensures) ∙ x .before .if2 .left) (λ e. c .before .if3 .left (x .payload-of .ensures ∙ e))
+    (head-form _ (k .before .before .if1 .left) (sym (k .kind-of .ensures) ∙ x .before .if2 .left)
+    (λ e. c .before .if3 .left (x .payload-of .ensures ∙ e))
     (λ e. c .if4 .left (x .payload-of .ensures ∙ e)))
 
 pub read-head-spec : {M : Type 1} → statement M

@@ -30,14 +30,19 @@ add-read-end c =
     let r = c .before .before .before in
     let e = c .before .found .given in
     let a = r .before .before .before .args in
-    omega (arith, body-used (a .words .now) _ _ _ (r .before .before .before .pre) (e .0 .0) (ap wordsOutcome (sym (e .1)) ∙ r .read-polynomials .ensures) .0)
+    omega (
+      arith,
+      body-used (a .words .now) _ _ _ (r .before .before .before .pre) (e .0 .0)
+          (ap wordsOutcome (sym (e .1)) ∙ r .read-polynomials .ensures) .0,
+    )
 
 read-end-requires : tie.Need-read-end-requires
 read-end-requires c κs =
     let r = c .before .before .before in
     let e = c .before .found .given in
     let a = r .before .before .before .args in
-    body-used (a .words .now) _ _ _ (r .before .before .before .pre) (e .0 .0) (ap wordsOutcome (sym (e .1)) ∙ r .read-polynomials .ensures) .0
+    body-used (a .words .now) _ _ _ (r .before .before .before .pre) (e .0 .0)
+    (ap wordsOutcome (sym (e .1)) ∙ r .read-polynomials .ensures) .0
 
 enum-known-found-2 : tie.Need-enum-known-found-2
 enum-known-found-2 c = search needs
@@ -47,21 +52,27 @@ add-t17 c =
     let r = c .before .before .before in
     let e = c .before .found2 .given in
     let a = r .before .before .before .args in
-    omega (arith, body-refused (a .words .now) _ _ _ (r .before .before .before .pre) (e .0 .0) (e .0 .1 .0) (ap wordsOutcome (sym (e .1)) ∙ r .read-polynomials .ensures) .0)
+    omega (
+      arith,
+      body-refused (a .words .now) _ _ _ (r .before .before .before .pre) (e .0 .0) (e .0 .1 .0)
+          (ap wordsOutcome (sym (e .1)) ∙ r .read-polynomials .ensures) .0,
+    )
 
 returns : tie.Need-returns
 returns c =
     let r = c .before .before .before .before in
     let e = c .before .before .found .given in
     let a = r .before .before .before .args in
-    c .read-end .ensures ∙ sym (body-used (a .words .now) _ _ _ (r .before .before .before .pre) (e .0 .0) (ap wordsOutcome (sym (e .1)) ∙ r .read-polynomials .ensures) .1)
+    c .read-end .ensures ∙ sym (body-used (a .words .now) _ _ _ (r .before .before .before .pre) (e .0 .0)
+    (ap wordsOutcome (sym (e .1)) ∙ r .read-polynomials .ensures) .1)
 
 returns-2 : tie.Need-returns-2
 returns-2 c =
     let r = c .before .before .before in
     let e = c .before .found2 .given in
     let a = r .before .before .before .args in
-    sym (body-refused (a .words .now) _ _ _ (r .before .before .before .pre) (e .0 .0) (e .0 .1 .0) (ap wordsOutcome (sym (e .1)) ∙ r .read-polynomials .ensures) .1)
+    sym (body-refused (a .words .now) _ _ _ (r .before .before .before .pre) (e .0 .0) (e .0 .1 .0)
+    (ap wordsOutcome (sym (e .1)) ∙ r .read-polynomials .ensures) .1)
 
 pub read-body-spec : {M : Type 1} → statement M
 read-body-spec =

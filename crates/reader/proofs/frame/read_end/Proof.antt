@@ -21,7 +21,8 @@ kind-of-requires c κs = search needs
 returns-2 : tie.Need-returns-2
 returns-2 c =
     let k = c .before in
-    sym (end-kind (k .before .before .before .before .args .words .now) _ (k .before .before .if1 .left) (λ e. c .if2 .taken (k .kind-of .ensures ∙ e)))
+    sym (end-kind (k .before .before .before .before .args .words .now) _ (k .before .before .if1 .left)
+    (λ e. c .if2 .taken (k .kind-of .ensures ∙ e)))
 
 payload-of-requires : tie.Need-payload-of-requires
 payload-of-requires c κs = search needs
@@ -37,7 +38,8 @@ returns-3 c =
     let x = c .before in
     let k = x .before .before in
     let ws = k .before .before .before .before .args .words .now in
-    sym (end-payload ws _ (k .before .before .if1 .left) (sym (k .kind-of .ensures) ∙ x .before .if2 .left) (λ e. c .if3 .taken (x .payload-of .ensures ∙ e)))
+    sym (end-payload ws _ (k .before .before .if1 .left) (sym (k .kind-of .ensures) ∙ x .before .if2 .left)
+    (λ e. c .if3 .taken (x .payload-of .ensures ∙ e)))
 
 add-if4 : tie.Need-add-if4
 add-if4 c = search needs
@@ -51,7 +53,8 @@ returns-4 c =
     let k = x .before .before in
     let ws = k .before .before .before .before .args .words .now in
     sym
-    (end-follows ws _ (k .before .before .if1 .left) (sym (k .kind-of .ensures) ∙ x .before .if2 .left) (sym (x .payload-of .ensures) ∙ c .before .if3 .left)
+    (end-follows ws _ (k .before .before .if1 .left) (sym (k .kind-of .ensures) ∙ x .before .if2 .left)
+    (sym (x .payload-of .ensures) ∙ c .before .if3 .left)
     (c .if4 .taken))
 
 add-t4 : tie.Need-add-t4
@@ -63,7 +66,8 @@ returns-5 c =
     let k = x .before .before in
     let ws = k .before .before .before .before .args .words .now in
     sym
-    (end-right ws _ (k .before .before .if1 .left) (sym (k .kind-of .ensures) ∙ x .before .if2 .left) (sym (x .payload-of .ensures) ∙ c .before .if3 .left)
+    (end-right ws _ (k .before .before .if1 .left) (sym (k .kind-of .ensures) ∙ x .before .if2 .left)
+    (sym (x .payload-of .ensures) ∙ c .before .if3 .left)
     (c .if4 .left))
 
 pub read-end-spec : {M : Type 1} → statement M

@@ -1,11 +1,13 @@
--- `reader::polynomial::read_coefficients` meets its contract. The loop's invariant: what is told of all coefficients is what is told of
+-- `reader::polynomial::read_coefficients` meets its contract. The loop's invariant: what is told of all coefficients is what is
+-- told of
 -- those from the loop's word on. The measure is the number of these.
 use mathlib.Core.Path.{_≡_, sym, _∙_}
 use mathlib.Core.Logic.{⊎-elim}
 use Prim.Native.Nat.{_+_, _-_, _≤_, _<_}
 use native.Mathlib.Omega.{arith}
 use borrow.Author.Needs.{needs}
-use Rattle.reader.proofs.CoefficientTurns.{Reached, reached-start, reached-next, reached-end, due-missing, due-kind, due-large, due-last}
+use Rattle.reader.proofs.CoefficientTurns.{Reached, reached-start, reached-next, reached-end, due-missing, due-kind}
+use Rattle.reader.proofs.CoefficientTurns.{due-large, due-last}
 use Rattle.reader.proofs.polynomial.read_coefficients.Statement.{statement}
 use Rattle.reader.proofs.polynomial.read_coefficients.Tie as tie
 
@@ -36,7 +38,8 @@ returns-2 : tie.Need-returns-2 Inv-loop μ-loop
 returns-2 c =
     let e = c .before .before .before in
     let l = e .before .before .loop .inv in
-    sym (l .same ∙ due-kind _ _ _ _ (e .before .loop-test .taken) (e .if1 .left) (λ k. c .if2 .taken (c .before .kind-of .ensures ∙ k)))
+    sym (l .same ∙ due-kind _ _ _ _ (e .before .loop-test .taken) (e .if1 .left)
+    (λ k. c .if2 .taken (c .before .kind-of .ensures ∙ k)))
 
 payload-of-requires : tie.Need-payload-of-requires Inv-loop μ-loop
 payload-of-requires c κs = search needs

@@ -32,7 +32,8 @@ returns-3 : tie.Need-returns-3
 returns-3 c =
     let x = c .before .before in
     let k = x .before in
-    sym (start-many _ _ _ (k .before .before .if1 .left) (sym (k .kind-of .ensures) ∙ c .before .if2 .left) (omega (arith, x .payload-of .ensures)))
+    sym (start-many _ _ _ (k .before .before .if1 .left) (sym (k .kind-of .ensures) ∙ c .before .if2 .left)
+    (omega (arith, x .payload-of .ensures)))
 
 read-coefficients-requires : tie.Need-read-coefficients-requires
 read-coefficients-requires c κs = search needs
@@ -44,7 +45,9 @@ returns-4 c =
     let e = k .before .before in
     let a = e .before .before .args in
     let ws = now (a .words) in
-    let right = start-right (a .p) (a .limit) ws (e .if1 .left) (sym (k .kind-of .ensures) ∙ c .before .before .if2 .left) (omega (arith, x .payload-of .ensures)) in
+    let right =
+    start-right (a .p) (a .limit) ws (e .if1 .left) (sym (k .kind-of .ensures) ∙ c .before .before .if2 .left)
+    (omega (arith, x .payload-of .ensures)) in
     c .read-coefficients .ensures
     ∙ ap (λ (n : ℕ). wordsUsed (length ws) (coefficientsFrom (a .p) n (drop 1 ws))) (x .payload-of .ensures)
     ∙ ap (wordsUsed (length ws)) (sym right)

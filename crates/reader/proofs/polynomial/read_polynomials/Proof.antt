@@ -1,4 +1,5 @@
--- `reader::polynomial::read_polynomials` meets its contract. The loop's invariant: what is told of all polynomials is what is told of
+-- `reader::polynomial::read_polynomials` meets its contract. The loop's invariant: what is told of all polynomials is what is
+-- told of
 -- those that are due, from the loop's word on. The measure is the number of these.
 use mathlib.Core.Path.{sym, ap, _∙_}
 use native.Mathlib.Omega.{arith}
@@ -40,7 +41,11 @@ add-at c =
     let r = c .before .before .before in
     let e = c .before .found .given in
     let told = ap wordsOutcome (sym (e .1)) ∙ r .read-polynomial .ensures in
-    omega (arith, passed-next _ _ _ _ _ _ (r .before .before .before .loop .inv) (r .before .before .loop-test .taken) (e .0 .0) told .within)
+    omega (
+      arith,
+      passed-next _ _ _ _ _ _ (r .before .before .before .loop .inv) (r .before .before .loop-test .taken)
+          (e .0 .0) told .within,
+    )
 
 enum-known-found-2 : tie.Need-enum-known-found-2 Inv-loop μ-loop
 enum-known-found-2 c = search needs
@@ -50,14 +55,19 @@ add-t17 c =
     let r = c .before .before .before in
     let e = c .before .found2 .given in
     let told = ap wordsOutcome (sym (e .1)) ∙ r .read-polynomial .ensures in
-    omega (arith, passed-refused _ _ _ _ _ _ (r .before .before .before .loop .inv) (r .before .before .loop-test .taken) (e .0 .0) (e .0 .1 .0) told .0)
+    omega (
+      arith,
+      passed-refused _ _ _ _ _ _ (r .before .before .before .loop .inv) (r .before .before .loop-test .taken)
+          (e .0 .0) (e .0 .1 .0) told .0,
+    )
 
 returns : tie.Need-returns Inv-loop μ-loop
 returns c =
     let r = c .before .before .before in
     let e = c .before .found2 .given in
     let told = ap wordsOutcome (sym (e .1)) ∙ r .read-polynomial .ensures in
-    sym (passed-refused _ _ _ _ _ _ (r .before .before .before .loop .inv) (r .before .before .loop-test .taken) (e .0 .0) (e .0 .1 .0) told .1)
+    sym (passed-refused _ _ _ _ _ _ (r .before .before .before .loop .inv) (r .before .before .loop-test .taken) (e .0 .0)
+    (e .0 .1 .0) told .1)
 
 sub-due : tie.Need-sub-due Inv-loop μ-loop
 sub-due c = search needs

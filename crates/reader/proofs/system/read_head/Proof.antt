@@ -1,7 +1,8 @@
 -- `reader::system::read_head` meets its contract: each answer is what the definition gives at that test.
 use mathlib.Core.Path.{sym, _∙_}
 use borrow.Author.Tests.{not-true, not-false}
-use Rattle.reader.proofs.SystemHead.{head-missing, head-kind, head-bits, head-composite, head-rows, head-columns, head-right}
+use Rattle.reader.proofs.SystemHead.{head-missing, head-kind, head-bits, head-composite, head-rows, head-columns}
+use Rattle.reader.proofs.SystemHead.{head-right}
 use borrow.Author.Needs.{needs}
 use Rattle.reader.proofs.system.read_head.Statement.{statement}
 use Rattle.reader.proofs.system.read_head.Tie as tie
@@ -38,7 +39,8 @@ returns-4 c =
     let t = q .before in
     let e = t .before in
     let k = e .before in
-    sym (head-composite _ _ (k .before .before .if1 .left) (sym (k .kind-of .ensures) ∙ e .if2 .left) (t .if3 .left) (sym (q .is-prime .ensures) ∙ not-true _ (c .if4 .taken)))
+    sym (head-composite _ _ (k .before .before .if1 .left) (sym (k .kind-of .ensures) ∙ e .if2 .left) (t .if3 .left)
+    (sym (q .is-prime .ensures) ∙ not-true _ (c .if4 .taken)))
 
 cast-rows : tie.Need-cast-rows
 cast-rows c = search needs

@@ -58,7 +58,9 @@ returns c =
     let e = c .before .before .before .before .before .before .head .given in
     let a = r .before .before .args in
     let f = c .enum-told .given in
-    sym (system-read (limitsOf (a .limits)) (a .words .now) (shapeOf (e .0 .0)) (ap systemOutcome (sym (e .1)) ∙ r .read-head .ensures) _ (ap wordsOutcome (sym (f .1)) ∙ c .before .before .read-body .ensures))
+    sym (system-read (limitsOf (a .limits)) (a .words .now) (shapeOf (e .0 .0))
+    (ap systemOutcome (sym (e .1)) ∙ r .read-head .ensures) _
+    (ap wordsOutcome (sym (f .1)) ∙ c .before .before .read-body .ensures))
 
 returns-2 : tie.Need-returns-2
 returns-2 c =
@@ -66,14 +68,17 @@ returns-2 c =
     let e = c .before .before .before .before .before .before .before .head .given in
     let a = r .before .before .args in
     let f = c .before .found .given in
-    sym (system-body-refused (limitsOf (a .limits)) (a .words .now) (shapeOf (e .0 .0)) (ap systemOutcome (sym (e .1)) ∙ r .read-head .ensures) _ _ (ap wordsOutcome (sym (f .1)) ∙ c .before .before .before .read-body .ensures))
+    sym (system-body-refused (limitsOf (a .limits)) (a .words .now) (shapeOf (e .0 .0))
+    (ap systemOutcome (sym (e .1)) ∙ r .read-head .ensures) _ _
+    (ap wordsOutcome (sym (f .1)) ∙ c .before .before .before .read-body .ensures))
 
 returns-3 : tie.Need-returns-3
 returns-3 c =
     let r = c .before .before .before in
     let e = c .before .head2 .given in
     let a = r .before .before .args in
-    sym (system-head-refused (limitsOf (a .limits)) (a .words .now) (e .0 .0) (e .0 .1 .0) (ap systemOutcome (sym (e .1)) ∙ r .read-head .ensures))
+    sym (system-head-refused (limitsOf (a .limits)) (a .words .now) (e .0 .0) (e .0 .1 .0)
+    (ap systemOutcome (sym (e .1)) ∙ r .read-head .ensures))
 
 pub read-system-spec : {M : Type 1} → statement M
 read-system-spec =
