@@ -131,8 +131,7 @@ module _ (limits : Limits) (h : Shape) where
   apart-together solving (f ∷ fs) k =
       let m = h .columns in
       let e : fs ≡ take m fs ++ getD fs m [] ∷ drop (suc m) fs = split-at fs m [] (omega (arith, k .count)) in
-      ap (λ (gs : List (List ℕ)). record { head = solving; entries = f ∷ gs })
-      (sym e)
+      ap (λ (gs : List (List ℕ)). record { head = solving; entries = f ∷ gs }) (sym e)
   apart-together absent fs k = refl
 
   pub certificate-laws : FormatLaws certificateFormat

@@ -1,5 +1,4 @@
--- Values in framed words: read-of-written, written-of-read and what follows, stated once. Systems and certificates are the two
--- formats.
+-- Values in framed words: read-of-written, written-of-read and what follows from them, stated once for both formats.
 use mathlib.Core.Path.{_≡_, refl, sym, ap, _∙_, subst}
 use mathlib.Core.Logic.{_↔_}
 use mathlib.Core.List.{List, []}

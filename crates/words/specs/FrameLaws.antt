@@ -1,5 +1,4 @@
--- The laws of reading and writing, once for systems and certificates: over the head, what is due behind it, and the refusals'
--- numbers.
+-- Framed words read and written, once for systems and certificates: over the head, what is due behind it, the refusals' numbers.
 use mathlib.Core.Path.{_≡_, refl, sym, ap, _∙_, subst, subst₂}
 use mathlib.Core.Bool.{not}
 use mathlib.Core.List.{List, [], _∷_, _++_}

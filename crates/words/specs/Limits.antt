@@ -1,5 +1,4 @@
--- The limits of document 01, "Bounds", and those of the panel (document 02, item 4). Every definition and law takes them as a
--- parameter.
+-- The limits of document 01, "Bounds", and of the panel (document 02, item 4): a parameter of every definition and law.
 use Prim.Native.Nat.{ℕ, _+_, _*_}
 
 pub record Limits : Type 0 where

@@ -1,6 +1,5 @@
--- Where the polynomials stand: the words of an accepted system or certificate from the start word of any of its polynomials on,
--- and
--- the coefficients by the words that hold them. What code needs that loads or shows a polynomial.
+-- Where the polynomials of an accepted system or certificate stand: the words from a start word on, and the coefficients by the
+-- words that hold them. For code that loads or shows a polynomial.
 use mathlib.Core.Path.{_≡_, refl, sym, ap, _∙_}
 use mathlib.Core.List.{List, [], _∷_, _++_, map, append-assoc}
 use Prim.Native.Nat.{ℕ, zero, suc, _+_, _≤_, _<_}

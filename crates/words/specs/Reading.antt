@@ -1,8 +1,6 @@
--- Reading words from a list, one after another (document 01, "Turned back": "Reading goes word by word; the first word at fault
--- decides, its conditions tried in the order of the table"). What was read is given with the words that are left; a refusal, by
--- its
--- number in the table, with the words from the one at fault on. So its place is the number of words before these; where a word is
--- missing none are left, and the place is the number of all words.
+-- Reading words one after another (document 01, "Turned back": "the first word at fault decides, its conditions tried in the order
+-- of the table"). What was read is given with the words that are left; a refusal, by its number, with the words from the one at
+-- fault on, so that its place is the number of words before these; where a word is missing, that of all words.
 use Prim.Native.Nat.{ℕ, _+_, _-_}
 use mathlib.Core.Bool.{Bool, true, false}
 use mathlib.Core.List.{List}

@@ -53,8 +53,7 @@ module _ (limits : Limits) where
         ec,
         true-of-prime (h .modulus) (w .prime),
         oneTo-true _ _ (r₁ .0) (r₁ .1),
-        oneTo-true _ _
-            (c₁ .0) (c₁ .1),
+        oneTo-true _ _ (c₁ .0) (c₁ .1),
       )
 
   -- a word whose kind is 1 and whose bits 24 to 27 are zero is the head of what it holds

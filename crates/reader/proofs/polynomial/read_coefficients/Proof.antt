@@ -1,6 +1,5 @@
 -- `reader::polynomial::read_coefficients` meets its contract. The loop's invariant: what is told of all coefficients is what is
--- told of
--- those from the loop's word on. The measure is the number of these.
+-- told of those from the loop's word on. The measure is the number of these.
 use mathlib.Core.Path.{_≡_, sym, _∙_}
 use mathlib.Core.Logic.{⊎-elim}
 use Prim.Native.Nat.{_+_, _-_, _≤_, _<_}

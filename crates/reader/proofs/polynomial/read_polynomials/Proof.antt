@@ -1,6 +1,5 @@
 -- `reader::polynomial::read_polynomials` meets its contract. The loop's invariant: what is told of all polynomials is what is
--- told of
--- those that are due, from the loop's word on. The measure is the number of these.
+-- told of those that are due, from the loop's word on. The measure is the number of these.
 use mathlib.Core.Path.{sym, ap, _∙_}
 use native.Mathlib.Omega.{arith}
 use borrow.Author.Needs.{needs}
