@@ -1,12 +1,15 @@
-// Cases read from standard input: each is its number of bytes, in four bytes, and these bytes; they hold words of four bytes, lowest first.
+// Cases read from standard input: each is its number of bytes, in four bytes, then these bytes, which hold words of four bytes,
+// lowest first.
 use libc::STDIN_FILENO;
 use polynomial::Polynomial;
+use polynomial::value::zeros;
 use residue::modulus::Modulus;
 ghost use Prim.Native.Nat.{ℕ, _+_, _<_, _≤_};
 ghost use lib.ListN.{length, getD};
 ghost use Rattle.residue.specs.Modulus.{ValidModulus};
 ghost use Rattle.polynomial.specs.Value.{ValidPolynomial};
 
+// A byte as a number of 64 bits.
 fn wide(b: u8) -> u64
     ensures { λ r. ⌜ r < 256 ⌝ }
 {
@@ -86,7 +89,7 @@ pub fn read_operand(case: &[u8], place: usize, m: Modulus) -> Operand
             next: place,
         };
     }
-    let mut words = [0u64; 256];
+    let mut words = zeros();
     let below = unpack(case, place + 1, &mut words, n, m.p);
     let value = Polynomial::from_words(&words, 0, n, m);
     let size = value.size;

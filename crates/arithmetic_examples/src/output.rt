@@ -11,6 +11,7 @@ pub fn number(n: u64) {
     io::print_decimal(STDOUT_FILENO, n);
 }
 
+// The line of a case that is not of the form.
 pub fn skipped() {
     text(b"skipped\n");
 }

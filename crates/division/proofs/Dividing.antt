@@ -8,17 +8,25 @@ use native.Mathlib.Numerals.{add-one}
 use native.Mathlib.Omega.{arith}
 use lib.ListN.{length, getD, set, take, drop, length-set, length-take, length-drop}
 use lib.Seq.{drop-cons, drop-set-lt, getD-take, getD-set-same, length-take-le}
-use Rattle.algebra.specs.Coefficients.{cons, coefficient, leading, add, subtract, scale, shift, factor, divide}
+use Rattle.algebra.specs.Coefficients.{Division, cons, coefficient, add, subtract, scale, shift, factor, divide}
 use Rattle.modular.specs.Modulo.{modulo}
 use Rattle.modular.specs.Canonical.{Canonical}
-use Rattle.modular.specs.Inverse.{inverse-below}
 use Rattle.modular.specs.Coefficientwise.{coefficient-getD, coefficient-below}
 use Rattle.vector.specs.Stored.{stored, length-stored, stored-outside}
 use Rattle.vector.specs.Bound.{AtMost, at-most-stored, at-most-sum}
-use Rattle.vector.specs.Reduced.{polynomial, reduced, canonical-reduced, coefficient-reduced, word-inside}
+use Rattle.vector.specs.Reduced.{polynomial, reduced, canonical-reduced, coefficient-reduced, residue-same, word-inside}
 use Rattle.vector.specs.Multiple.{sumAt, GainsMultiple}
 use Rattle.division.specs.Long.{Divisor, Divided}
-use Rattle.division.proofs.Step.{extend-is, canonical-drop, polynomial-first, subtract-multiple, reduced-canonical, polynomial-zero, polynomial-rest, divide-short}
+use Rattle.division.proofs.Rest.{canonical-drop, polynomial-first, reduced-canonical, polynomial-zero, polynomial-rest}
+use Rattle.division.proofs.Step.{extend-is, subtract-multiple, divide-short}
+
+-- what is divided: n words of h, with zeros q for the quotient, by the e + 1 words of w
+pub record Task (p : ℕ) (h q : List ℕ) (n : ℕ) (w : List ℕ) (e inverse : ℕ) : Type 0 where
+  pub large : 1 < p
+  pub divisor : Divisor p w e inverse
+  pub canonical : Canonical p (take n h)
+  pub room-h : n ≤ length h
+  pub room-q : n ≤ length q
 
 pub record Dividing (p : ℕ) (h₀ q₀ : List ℕ) (n : ℕ) (d q h : List ℕ) (i : ℕ) : Type 0 where
   pub same-quotient : length q ≡ length q₀
@@ -34,17 +42,23 @@ unfolding stored
 at-most-set b v l i small words =
     subst (λ (j : ℕ). AtMost b (set l j v)) (add-zero i) (at-most-stored b (λ _. v) l i 1 (λ _ _. small) words)
 
-module _ (p : ℕ) (positive : 0 < p) (h₀ q₀ : List ℕ) (n : ℕ) (w : List ℕ) (e inverse : ℕ) (by : Divisor p w e inverse) (canonical : Canonical p (take n h₀)) where
+module _ {p : ℕ} {h₀ q₀ : List ℕ} {n : ℕ} {w : List ℕ} {e inverse : ℕ} (task : Task p h₀ q₀ n w e inverse) where
   abbrev d : List ℕ
   d = take (e + 1) w
 
+  abbrev f : List ℕ
+  f = take n h₀
+
+  positive : 0 < p
+  positive = omega (arith, task .large)
+
   size-d : length d ≡ e + 1
-  size-d = length-take-le (e + 1) w (by .room)
+  size-d = length-take-le (e + 1) w (task .divisor .room)
 
   pub dividing-start : AtMost 0 q₀ → AtMost p h₀ → Dividing p h₀ q₀ n d q₀ h₀ (n - e)
   dividing-start zeros small =
-      let few : length (drop (n - e) (take n h₀)) < length d = simp (length-drop, length-take) (omega (arith, size-d)) in
-      let short = divide-short p positive (drop (n - e) (take n h₀)) d (canonical-drop p (n - e) (take n h₀) canonical) few in
+      let few : length (drop (n - e) f) < length d = simp (length-drop, length-take) (omega (arith, size-d)) in
+      let short = divide-short p (drop (n - e) f) d (canonical-drop p (n - e) f (task .canonical)) few in
       record {
         same-quotient = refl;
         same-remainder = refl;
@@ -52,41 +66,47 @@ module _ (p : ℕ) (positive : 0 < p) (h₀ q₀ : List ℕ) (n : ℕ) (w : List
         small-remainder = λ j. omega (arith, small j);
         before = λ j lt. refl;
         quotient = polynomial-zero p positive q₀ (n - e) (n - (n - e)) zeros ∙ sym (ap (λ x. x .quotient) short);
-        remainder = polynomial-rest p positive h₀ (n - e) n canonical ∙ sym (ap (λ x. x .remainder) short);
+        remainder = polynomial-rest p positive h₀ (n - e) n (task .canonical) ∙ sym (ap (λ x. x .remainder) short);
       }
 
-  module _ (q h : List ℕ) (i : ℕ) (so-far : Dividing p h₀ q₀ n d q h (i + 1)) (inside : i + e < n) (room-h : n ≤ length h₀) (room-q : n ≤ length q₀) (c : ℕ)
-      (by-c : c ≡ getD h (i + e) 0 % p * inverse % p) where
+  -- a turn at the place i: c is the factor, from the word at d's highest power
+  module _ {q h : List ℕ} (i : ℕ) (so-far : Dividing p h₀ q₀ n d q h (i + 1)) (inside : i + e < n) (c : ℕ)
+      (by : c ≡ getD h (i + e) 0 % p * inverse % p) where
     a : ℕ
     a = getD h₀ i 0
 
     r : List ℕ
     r = polynomial p h i (n - i)
 
-    small-c : c < p
-    small-c = rw by-c (mod-lt (getD h (i + e) 0 % p * inverse) positive)
+    w₊ : Division ℕ
+    w₊ = divide (modulo p) (drop (i + 1) f) d
 
-    split : drop i (take n h₀) ≡ a ∷ drop (i + 1) (take n h₀)
+    small-c : c < p
+    small-c = rw by (mod-lt (getD h (i + e) 0 % p * inverse) positive)
+
+    split : drop i f ≡ a ∷ drop (i + 1) f
     unfolding a
     split =
-        let here : i < length (take n h₀) = simp length-take (omega arith) in
+        let here : i < length f = simp length-take (omega (arith, task .room-h)) in
         let lt : i < n = omega arith in
-        drop-cons (take n h₀) i 0 here
-        ∙ ap₂ (λ (x j : ℕ). x ∷ drop j (take n h₀)) (getD-take n h₀ i 0 lt) (sym (add-one i))
+        drop-cons f i 0 here ∙ ap₂ (λ (x j : ℕ). x ∷ drop j f) (getD-take n h₀ i 0 lt) (sym (add-one i))
 
     below-a : a < p
     unfolding a
     below-a =
         let lt : i < n = omega arith in
-        subst (λ (x : ℕ). x < p) (coefficient-getD p (take n h₀) i ∙ getD-take n h₀ i 0 lt) (coefficient-below p positive (take n h₀) i canonical)
+        subst
+        (λ (x : ℕ). x < p)
+        (coefficient-getD p f i ∙ getD-take n h₀ i 0 lt)
+        (coefficient-below p positive f i (task .canonical))
 
-    first : cons (modulo p) a (divide (modulo p) (drop (i + 1) (take n h₀)) d .remainder) ≡ r
-    unfolding a r
+    first : cons (modulo p) a (w₊ .remainder) ≡ r
+    unfolding a r w₊
     first =
         let kept : getD h i 0 ≡ getD h₀ i 0 = so-far .before i (omega arith) in
         sym
-        (polynomial-first p h i n (omega arith) (omega (arith, so-far .same-remainder))
-        ∙ ap₂ (cons (modulo p)) (ap (λ (x : ℕ). x % p) kept ∙ mod-eq-of-lt below-a) (so-far .remainder))
+        (polynomial-first p h i n (omega arith) (omega (arith, so-far .same-remainder, task .room-h))
+        ∙ ap₂ (cons (modulo p)) (residue-same p kept ∙ mod-eq-of-lt below-a) (so-far .remainder))
 
     factor-c : factor (modulo p) d r ≡ c
     unfolding modulo r
@@ -94,71 +114,80 @@ module _ (p : ℕ) (positive : 0 < p) (h₀ q₀ : List ℕ) (n : ℕ) (w : List
         let lt : e < n - i = omega arith in
         let top : length d - 1 ≡ e = omega (arith, size-d) in
         let at : coefficient (modulo p) (polynomial p h i (n - i)) (length d - 1) ≡ getD h (i + e) 0 % p =
-        ap (coefficient (modulo p) (polynomial p h i (n - i))) top ∙ coefficient-reduced p positive (take (n - i) (drop i h)) e ∙ ap (λ (x : ℕ). x % p) (word-inside h i (n - i) e lt) in
-        ap₂ (λ (x y : ℕ). x * y % p) at (sym (by .inverts)) ∙ sym by-c
+        ap (coefficient (modulo p) (polynomial p h i (n - i))) top
+        ∙ coefficient-reduced p positive (take (n - i) (drop i h)) e
+        ∙ residue-same p (word-inside h i (n - i) e lt) in
+        ap₂ (λ (x y : ℕ). x * y % p) at (sym (task .divisor .inverts)) ∙ sym by
 
-    step : divide (modulo p) (drop i (take n h₀)) d
-        ≡ record { quotient = cons (modulo p) c (divide (modulo p) (drop (i + 1) (take n h₀)) d .quotient); remainder = subtract (modulo p) r (scale (modulo p) c d) }
-    unfolding divide
-    step = ap (λ (f : List ℕ). divide (modulo p) f d) split ∙ extend-is p d a (divide (modulo p) (drop (i + 1) (take n h₀)) d) r c first factor-c
+    step : divide (modulo p) (drop i f) d
+        ≡ record { quotient = cons (modulo p) c (w₊ .quotient); remainder = subtract (modulo p) r (scale (modulo p) c d) }
+    unfolding divide w₊
+    step = ap (λ (l : List ℕ). divide (modulo p) l d) split ∙ extend-is p d a w₊ r c first factor-c
 
-    pub product-small : (j : ℕ) → (p - c) * getD w (0 + j) 0 ≤ p * p
-    product-small j = mul-le-mul {n₁ = p - c} {m₁ = getD w (0 + j) 0} {n₂ = p} {m₂ = p} (omega arith) (by .small (0 + j))
+    product-small : (j : ℕ) → (p - c) * getD w (0 + j) 0 ≤ p * p
+    product-small j =
+        mul-le-mul {n₁ = p - c} {m₁ = getD w (0 + j) 0} {n₂ = p} {m₂ = p} (omega arith) (task .divisor .small (0 + j))
 
-    pub dividing-turn : (h′ : List ℕ) → h′ ≡ stored (sumAt h i w 0 (p - c)) h i (e + 1) → GainsMultiple h h′ i w 0 (e + 1) (p - c) →
+    pub dividing-turn : {h′ : List ℕ} → h′ ≡ stored (sumAt h i w 0 (p - c)) h i (e + 1) → GainsMultiple h h′ i w 0 (e + 1) (p - c) →
         Dividing p h₀ q₀ n d (set q i c) h′ i
-    unfolding r shift
-    dividing-turn h′ words gains = record {
+    unfolding r w₊ shift
+    dividing-turn words gains = record {
       same-quotient = length-set q i c ∙ so-far .same-quotient;
       same-remainder = ap length words ∙ length-stored (sumAt h i w 0 (p - c)) h i (e + 1) ∙ so-far .same-remainder;
       small-quotient = at-most-set p c q i (omega (arith, small-c)) (so-far .small-quotient);
       small-remainder =
           let as-sum : n - i ≡ n - (i + 1) + 1 = omega arith in
+          let b : ℕ = p + (n - (i + 1)) * (p * p) in
           rw (words, as-sum) (λ j.
           omega (
             arith,
-            at-most-sum (p + (n - (i + 1)) * (p * p)) (p * p) h i w 0 (e + 1) (p - c) (so-far .small-remainder) (λ t l. product-small t) j,
+            at-most-sum b (p * p) h i w 0 (e + 1) (p - c) (so-far .small-remainder) (λ t l. product-small t) j,
             add-mul (n - (i + 1)) 1 (p * p),
           ));
-      before = λ j lt. ap (λ (l : List ℕ). getD l j 0) words ∙ stored-outside (sumAt h i w 0 (p - c)) h i (e + 1) j (inl lt) ∙ so-far .before j (omega arith);
+      before =
+          λ j lt.
+          ap (λ (l : List ℕ). getD l j 0) words
+          ∙ stored-outside (sumAt h i w 0 (p - c)) h i (e + 1) j (inl lt)
+          ∙ so-far .before j (omega arith);
       quotient =
-          polynomial-first p (set q i c) i n (omega arith) (rw length-set (omega (arith, so-far .same-quotient)))
+          polynomial-first p (set q i c) i n (omega arith) (rw length-set (omega (arith, so-far .same-quotient, task .room-q)))
           ∙ ap₂
           (cons (modulo p))
-          (ap (λ (x : ℕ). x % p) (getD-set-same q i c 0 (omega (arith, so-far .same-quotient))) ∙ mod-eq-of-lt small-c)
+          (residue-same p (getD-set-same q i c 0 (omega (arith, so-far .same-quotient, task .room-q))) ∙ mod-eq-of-lt small-c)
           (ap (λ (l : List ℕ). reduced p (take (n - (i + 1)) l)) (drop-set-lt (i + 1) q i c (omega arith)) ∙ so-far .quotient)
           ∙ sym (ap (λ x. x .quotient) step);
       remainder =
           gains p i 0 (n - i) positive (omega arith) (omega arith)
-          ∙ ap (λ (l : List ℕ). add (modulo p) (polynomial p h i (n - i)) (scale (modulo p) (p - c) l)) (reduced-canonical p positive d (by .canonical))
-          ∙ subtract-multiple p positive (polynomial p h i (n - i)) d c (omega (arith, small-c)) (canonical-reduced p positive (take (n - i) (drop i h)))
+          ∙ ap
+          (λ (l : List ℕ). add (modulo p) (polynomial p h i (n - i)) (scale (modulo p) (p - c) l))
+          (reduced-canonical p positive d (task .divisor .canonical))
+          ∙ subtract-multiple
+          p
+          positive
+          (polynomial p h i (n - i))
+          d
+          c
+          (omega (arith, small-c))
+          (canonical-reduced p positive (take (n - i) (drop i h)))
           ∙ sym (ap (λ x. x .remainder) step);
     }
-
--- room for one product more in a word, and for a reduction
-pub room : (p n t : ℕ) → 1 < p → p ≤ 65521 → n ≤ 256 → t ≤ n → p + t * (p * p) + p * p < 4294967296 * p
-room p n t large limit few le = omega (arith, mul-le-mul-right (p * p) le, mul-le-mul-right (p * p) few, mul-le-mul-right p limit)
 
 -- a word of the hand is small enough for a reduction, and stays so with one product more
 pub word-small : (p n i : ℕ) (h : List ℕ) → 1 < p → p ≤ 65521 → n ≤ 256 → AtMost (p + (n - i) * (p * p)) h →
     (j : ℕ) → getD h j 0 + p * p < 4294967296 * p
-word-small p n i h large limit few small j = omega (arith, small j, room p n (n - i) large limit few (omega arith))
-
-pub inverse-small : (p : ℕ) (w : List ℕ) (e inverse : ℕ) → 1 < p → Divisor p w e inverse → inverse < p
-unfolding modulo
-inverse-small p w e inverse large by = rw (by .inverts) (inverse-below p (leading (modulo p) (take (e + 1) w)) large)
+word-small p n i h large limit few small j =
+    let steps : n - i ≤ 256 = omega arith in
+    omega (arith, small j, mul-le-mul-right (p * p) steps, mul-le-mul-right p limit)
 
 -- what a turn puts into the quotient
-pub factor-small : (p x y v c : ℕ) → 1 < p → v ≡ x % p → c ≡ modulo p .mul v y → (c ≡ x % p * y % p) × (c < p)
+pub factor-is : (p x y : ℕ) {v c : ℕ} → v ≡ x % p → c ≡ modulo p .mul v y → c ≡ x % p * y % p
 unfolding modulo
-factor-small p x y v c large ev ec =
-    let e : c ≡ x % p * y % p = rw (← ev) ec in
-    (e, rw e (mod-lt (x % p * y) (omega arith)))
+factor-is p x y ev ec = rw (← ev) ec
 
 -- at the end all coefficients are divided
-pub dividing-end : (p : ℕ) (h₀ q₀ : List ℕ) (n : ℕ) (b q h : List ℕ) (i : ℕ) → 1 < p → p ≤ 65521 → n ≤ 256 → i ≡ 0 →
+pub dividing-end : (p : ℕ) {h₀ q₀ : List ℕ} {n : ℕ} {b q h : List ℕ} {i : ℕ} → 1 < p → p ≤ 65521 → n ≤ 256 → i ≡ 0 →
     Dividing p h₀ q₀ n b q h i → Divided p (take n h₀) n b q h
-dividing-end p h₀ q₀ n b q h i large limit few end state =
+dividing-end p {h₀} {q₀} {n} {b} {q} {h} large limit few end state =
     let last : Dividing p h₀ q₀ n b q h 0 = rw end at state in
     let all : n - 0 ≡ n = omega arith in
     record {

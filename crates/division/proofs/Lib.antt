@@ -1,3 +1,4 @@
+pub mod Rest
 pub mod Step
 pub mod Dividing
 pub mod Values

@@ -24,8 +24,14 @@ nothing [] e = refl
 nothing (a ∷ l) e = absurd (omega arith)
 
 module _ (p : ℕ) (prime : Prime p) (f g a b : Polynomial) (so-far : Descending p f g a b) where
-  module _ (some : 0 < b .size) (r : Polynomial) (is : Represents p r (remainder (modulo p) (coefficientsOf a) (coefficientsOf b))) where
-    positive : 0 < length (coefficientsOf b)
+  abbrev A : List ℕ
+  A = coefficientsOf a
+
+  abbrev B : List ℕ
+  B = coefficientsOf b
+
+  module _ (some : 0 < b .size) (r : Polynomial) (is : Represents p r (remainder (modulo p) A B)) where
+    positive : 0 < length B
     positive = omega (arith, size-length p b (so-far .second))
 
     pub descending-turn : Descending p f g b r
@@ -33,8 +39,8 @@ module _ (p : ℕ) (prime : Prime p) (f g a b : Polynomial) (so-far : Descending
       first = so-far .second;
       second = is .valid;
       same =
-          ap (gcd (modulo p) (coefficientsOf b)) (is .same)
-          ∙ sym (gcd-step p prime (coefficientsOf a) (coefficientsOf b) (so-far .first .canonical) (so-far .second .canonical) positive)
+          ap (gcd (modulo p) B) (is .same)
+          ∙ sym (gcd-step p prime A B (so-far .first .canonical) (so-far .second .canonical) positive)
           ∙ so-far .same;
     }
 
@@ -42,14 +48,14 @@ module _ (p : ℕ) (prime : Prime p) (f g a b : Polynomial) (so-far : Descending
     descending-less =
         omega (
           arith,
-          length-remainder p prime (coefficientsOf a) (coefficientsOf b) (so-far .first .canonical) (so-far .second .canonical) positive,
+          length-remainder p prime A B (so-far .first .canonical) (so-far .second .canonical) positive,
           ap length (is .same),
           size-length p r (is .valid),
           size-length p b (so-far .second),
         )
 
-  pub descending-end : b .size ≤ 0 → (r : Polynomial) → Represents p r (monic (modulo p) (coefficientsOf a)) →
+  pub descending-end : b .size ≤ 0 → (r : Polynomial) → Represents p r (monic (modulo p) A) →
       Represents p r (gcd (modulo p) (coefficientsOf f) (coefficientsOf g))
   descending-end none r is =
-      let zero : coefficientsOf b ≡ [] = nothing (coefficientsOf b) (size-length p b (so-far .second) ∙ omega arith) in
-      represents-is is (sym (gcd-nil p prime (coefficientsOf a)) ∙ ap (gcd (modulo p) (coefficientsOf a)) (sym zero) ∙ so-far .same)
+      let zero : B ≡ [] = nothing B (size-length p b (so-far .second) ∙ omega arith) in
+      represents-is is (sym (gcd-nil p prime A) ∙ ap (gcd (modulo p) A) (sym zero) ∙ so-far .same)

@@ -16,7 +16,8 @@ module _ (p : ℕ) (positive : 0 < p) (d : Polynomial) (valid : ValidPolynomial 
   unfolding coefficientsOf
   all-coefficients = let e : d .size - 1 + 1 ≡ d .size = omega arith in ap (λ (n : ℕ). take n (d .coefficients)) e
 
-  pub divisor : (v : ℕ) → v ≡ modulo p .inverse (leading (modulo p) (coefficientsOf d)) → Divisor p (d .coefficients) (d .size - 1) v
+  pub divisor : (v : ℕ) → v ≡ modulo p .inverse (leading (modulo p) (coefficientsOf d)) →
+      Divisor p (d .coefficients) (d .size - 1) v
   divisor v e = record {
     room = omega (arith, valid .room, valid .within);
     canonical = subst (λ (l : List ℕ). Canonical p l) (sym all-coefficients) (valid .canonical);
@@ -24,5 +25,6 @@ module _ (p : ℕ) (positive : 0 < p) (d : Polynomial) (valid : ValidPolynomial 
     inverts = e ∙ ap (λ (l : List ℕ). modulo p .inverse (leading (modulo p) l)) (sym all-coefficients);
   }
 
-  pub divided : (f : List ℕ) (n : ℕ) (q h : List ℕ) → Divided p f n (take (d .size - 1 + 1) (d .coefficients)) q h → Divided p f n (coefficientsOf d) q h
-  divided f n q h by = subst (λ (l : List ℕ). Divided p f n l q h) all-coefficients by
+  pub divided : {f : List ℕ} {n : ℕ} {q h : List ℕ} → Divided p f n (take (d .size - 1 + 1) (d .coefficients)) q h →
+      Divided p f n (coefficientsOf d) q h
+  divided {f} {n} {q} {h} by = subst (λ (l : List ℕ). Divided p f n l q h) all-coefficients by

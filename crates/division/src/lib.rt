@@ -1,4 +1,4 @@
-// Division of polynomials modulo a prime, and what is made of it: remainder, exact quotient and greatest common divisor.
+// Division of polynomials modulo a prime, and what is made of it: remainder, quotient and greatest common divisor.
 use polynomial::Polynomial;
 use polynomial::value::zeros;
 use residue::modulus::Modulus;
@@ -9,7 +9,7 @@ ghost use Rattle.residue.specs.Modulus.{ValidModulus};
 ghost use Rattle.polynomial.specs.Value.{coefficientsOf, ValidPolynomial, Represents};
 
 pub mod euclid;
-pub mod long;
+mod long;
 
 pub use euclid::gcd;
 

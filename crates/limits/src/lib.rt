@@ -1,4 +1,4 @@
-// The limits of document 01, "Bounds", and of the panel: constants of two types, and a value for the functions that serve both.
+// The limits of document 01, "Bounds", and of the panel: constants of two types, and a value to hand to functions.
 ghost use mathlib.Core.Path.{_≡_};
 ghost use Rattle.words.specs.Limits.{office, panel, longestSystem, longestCertificate, wordsFor};
 ghost use Rattle.limits.specs.Value.{limitsOf};

@@ -2,7 +2,7 @@
 use mathlib.Core.Path.{_≡_, refl, sym, ap, ap₂, _∙_}
 use mathlib.Core.List.{List}
 use Prim.Native.Nat.{ℕ, _+_, _*_, _%_, _≤_, _<_}
-use native.Mathlib.Nat.{le-antisymm, mul-le-mul, add-mul}
+use native.Mathlib.Nat.{le-antisymm, mul-le-mul, zero-add, add-mul}
 use native.Mathlib.Numerals.{add-one}
 use native.Mathlib.Omega.{arith}
 use lib.ListN.{length, getD, take, drop}
@@ -12,7 +12,7 @@ use Rattle.modular.specs.Closed.{canonical-multiple}
 use Rattle.modular.specs.Product.{rows, canonical-rows}
 use Rattle.vector.specs.Stored.{stored, length-stored}
 use Rattle.vector.specs.Bound.{AtMost, at-most-sum}
-use Rattle.vector.specs.Reduced.{polynomial, canonical-reduced, coefficient-reduced, word-inside}
+use Rattle.vector.specs.Reduced.{polynomial, canonical-reduced, coefficient-reduced, word-inside, residue-same}
 use Rattle.vector.specs.Multiple.{sumAt, GainsMultiple}
 use Rattle.polynomial.specs.Product.{GainsProduct}
 use Rattle.polynomial.proofs.Rows.{add-nil, rows-mul, length-polynomial, scale-mod, add-assoc}
@@ -57,7 +57,18 @@ module _ (h f : List ℕ) (n : ℕ) (g : List ℕ) (k : ℕ) where
           rw words (λ j.
           omega (
             arith,
-            at-most-sum (b + i * (q * q)) (q * q) h′ i g 0 k (getD f i 0) (so-far .bound b q hb hf hg) (λ t l. mul-le-mul {n₁ = getD f i 0} {m₁ = getD g (0 + t) 0} {n₂ = q} {m₂ = q} (hf i) (hg (0 + t))) j,
+            at-most-sum
+                (b + i * (q * q))
+                (q * q)
+                h′
+                i
+                g
+                0
+                k
+                (getD f i 0)
+                (so-far .bound b q hb hf hg)
+                (λ t l. mul-le-mul {n₁ = getD f i 0} {m₁ = getD g (0 + t) 0} {n₂ = q} {m₂ = q} (hf i) (hg (0 + t)))
+                j,
             add-mul i 1 (q * q),
           ));
       sum = row;
@@ -68,8 +79,11 @@ module _ (h f : List ℕ) (n : ℕ) (g : List ℕ) (k : ℕ) where
         row p m positive all =
             let F = polynomial p f 0 n in
             let G = polynomial p g 0 k in
-            let at : coefficient (modulo p) F i ≡ getD f i 0 % p = coefficient-reduced p positive (take n (drop 0 f)) i ∙ ap (λ (x : ℕ). x % p) (word-inside f 0 n i lt ∙ ap (λ (x : ℕ). getD f x 0) (omega arith)) in
-            let same : scale (modulo p) (getD f i 0) G ≡ scale (modulo p) (coefficient (modulo p) F i) G = scale-mod p positive (getD f i 0) G ∙ ap (λ (c : ℕ). scale (modulo p) c G) (sym at) in
+            let at : coefficient (modulo p) F i ≡ getD f i 0 % p =
+            coefficient-reduced p positive (take n (drop 0 f)) i
+            ∙ residue-same p (word-inside f 0 n i lt ∙ ap (λ (x : ℕ). getD f x 0) (zero-add i)) in
+            let same : scale (modulo p) (getD f i 0) G ≡ scale (modulo p) (coefficient (modulo p) F i) G =
+            scale-mod p positive (getD f i 0) G ∙ ap (λ (c : ℕ). scale (modulo p) c G) (sym at) in
             gains p 0 i m positive (omega arith) (omega arith)
             ∙ ap₂ (λ (x y : List ℕ). add (modulo p) x (shift (modulo p) i y)) (so-far .sum p m positive all) same
             ∙ add-assoc
@@ -91,5 +105,7 @@ module _ (h f : List ℕ) (n : ℕ) (g : List ℕ) (k : ℕ) where
           sum =
               λ p m positive all-in.
               so-far .sum p m positive all-in
-              ∙ ap (λ (x : List ℕ). add (modulo p) (polynomial p h 0 m) x) (rows-mul p positive (polynomial p f 0 n) (polynomial p g 0 k) i (omega (arith, length-polynomial p positive f 0 n)));
+              ∙ ap
+              (add (modulo p) (polynomial p h 0 m))
+              (rows-mul p positive (polynomial p f 0 n) (polynomial p g 0 k) i (omega (arith, length-polynomial p f 0 n)));
         }

@@ -1,5 +1,6 @@
 -- The values 0 and 1, and what the words of a value say of its coefficients.
-use mathlib.Core.Path.{_≡_, refl, sym, _∙_}
+use mathlib.Core.Path.{_≡_, refl, sym, ap, _∙_, subst}
+use mathlib.Core.Bool.{Bool}
 use mathlib.Core.List.{List, [], _∷_}
 use Prim.Native.Nat.{ℕ, zero, suc, _-_, _≤_, _<_}
 use native.Mathlib.Omega.{arith}
@@ -10,7 +11,8 @@ use Rattle.algebra.specs.Coefficients.{one, leading}
 use Rattle.modular.specs.Modulo.{modulo}
 use Rattle.modular.specs.Closed.{canonical-nil, canonical-one}
 use Rattle.modular.specs.Coefficientwise.{coefficient-getD, coefficient-last}
-use Rattle.polynomial.specs.Value.{Represents, represents, zero?}
+use Rattle.polynomial.specs.Decides.{Decides, decides-yes, decides-no}
+use Rattle.polynomial.specs.Value.{Represents, represents}
 
 pub zeros-are-zero : (n i : ℕ) → getD {A = ℕ} (replicate n 0) i 0 ≡ 0
 zeros-are-zero zero i = refl
@@ -20,7 +22,15 @@ zeros-are-zero (suc n) (suc i) = zeros-are-zero n i
 module _ (p : ℕ) (words : List ℕ) (room : length words ≡ 256) (zeros : (i : ℕ) → getD words i 0 ≡ 0) where
   pub represents-zero : Represents p (record { size = 0; coefficients = words }) []
   represents-zero =
-      represents p (record { size = 0; coefficients = words }) [] (canonical-nil p) room refl (omega arith) (λ i. zeros i ∙ sym (coefficient-getD p [] i))
+      represents
+      p
+      (record { size = 0; coefficients = words })
+      []
+      (canonical-nil p)
+      room
+      refl
+      (omega arith)
+      (λ i. zeros i ∙ sym (coefficient-getD p [] i))
 
   pub represents-one : 1 < p → Represents p (record { size = 1; coefficients = set words 0 1 }) (one (modulo p))
   unfolding one modulo
@@ -39,11 +49,15 @@ module _ (p : ℕ) (words : List ℕ) (room : length words ≡ 256) (zeros : (i 
       word zero = getD-set-same words 0 1 0 (omega arith)
       word (suc i) = getD-set-other words 0 (suc i) 1 0 (λ e. omega arith) ∙ zeros (suc i)
 
-pub zero?-size : (n : ℕ) (words : List ℕ) → 0 < length words → eqb n 0 ≡ zero? (take n words)
-unfolding zero?
-zero?-size zero words some = refl
-zero?-size (suc n) [] some = absurd (omega arith)
-zero?-size (suc n) (a ∷ words) some = eqb·suc-zero n
+-- no coefficients, and some
+pub decides-zero : (n : ℕ) (words : List ℕ) → 0 < length words → Decides (eqb n 0) (take n words ≡ [])
+decides-zero zero words some = decides-yes refl
+decides-zero (suc n) [] some = absurd (omega arith)
+decides-zero (suc n) (a ∷ words) some =
+    subst
+    (λ (b : Bool). Decides b (a ∷ take n words ≡ []))
+    (sym (eqb·suc-zero n))
+    (decides-no (λ e. let z = ap length e in omega arith))
 
 pub leading-last : (p n : ℕ) (words : List ℕ) → n ≤ length words → 0 < n → getD words (n - 1) 0 ≡ leading (modulo p) (take n words)
 leading-last p n words room some =

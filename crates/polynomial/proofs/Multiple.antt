@@ -52,13 +52,16 @@ module _ (p : ℕ) (positive : 0 < p) where
       (negate (modulo p) f)
       (canonical-scale p positive (p - 1) f)
       (canonical-negate p positive f)
-      (λ n. coefficient-scale p (p - 1) f n ∙ opposite (coefficient (modulo p) f n) (coefficient-below p positive f n h) ∙ sym (coefficient-negate p f n))
+      (λ n.
+      coefficient-scale p (p - 1) f n
+      ∙ opposite (coefficient (modulo p) f n) (coefficient-below p positive f n h)
+      ∙ sym (coefficient-negate p f n))
 
   pub subtract-is : (f g : List ℕ) → Canonical p g → add (modulo p) f (scale (modulo p) (p - 1) g) ≡ subtract (modulo p) f g
   unfolding subtract
   subtract-is f g h = ap (add (modulo p) f) (scale-opposite g h)
 
-  module _ (f g : Polynomial) (hf : ValidPolynomial p f) (hg : ValidPolynomial p g) (c : ℕ) (small : c < p) where
+  module _ {f g : Polynomial} (hf : ValidPolynomial p f) (hg : ValidPolynomial p g) (c : ℕ) (small : c < p) where
     product-small : (j : ℕ) → c * getD (g .coefficients) (0 + j) 0 ≤ p * p
     product-small j =
         let below : getD (g .coefficients) (0 + j) 0 < p = word-below p g hg positive (0 + j) in
@@ -67,20 +70,23 @@ module _ (p : ℕ) (positive : 0 < p) where
     words-small : AtMost p (f .coefficients)
     words-small j = let below : getD (f .coefficients) j 0 < p = word-below p f hf positive j in omega arith
 
+    -- what `add_scaled` stores
+    abbrev sums : List ℕ
+    sums = stored (sumAt (f .coefficients) 0 (g .coefficients) 0 c) (f .coefficients) 0 (g .size)
+
     pub multiple-fits : p ≤ 65521 → (j : ℕ) → j < g .size → sumAt (f .coefficients) 0 (g .coefficients) 0 c j < 18446744073709551616
     multiple-fits limit j lt = omega (arith, words-small (0 + j), product-small j, mul-le-mul-right p limit)
 
-    pub multiple-small : p ≤ 65521 → (h : List ℕ) → h ≡ stored (sumAt (f .coefficients) 0 (g .coefficients) 0 c) (f .coefficients) 0 (g .size) →
-        (i : ℕ) → getD h i 0 < 4294967296 * p
-    multiple-small limit h words i =
+    pub multiple-small : p ≤ 65521 → {h : List ℕ} → h ≡ sums → (i : ℕ) → getD h i 0 < 4294967296 * p
+    multiple-small limit words i =
         rw words (omega (
           arith,
           at-most-sum p (p * p) (f .coefficients) 0 (g .coefficients) 0 (g .size) c words-small (λ j lt. product-small j) i,
           mul-le-mul-right p limit,
         ))
 
-    pub multiple-is : (h : List ℕ) (n : ℕ) → GainsMultiple (f .coefficients) h 0 (g .coefficients) 0 (g .size) c → f .size ≤ n → g .size ≤ n →
-        polynomial p h 0 n ≡ add (modulo p) (coefficientsOf f) (scale (modulo p) c (coefficientsOf g))
+    pub multiple-is : (h : List ℕ) (n : ℕ) → GainsMultiple (f .coefficients) h 0 (g .coefficients) 0 (g .size) c →
+        f .size ≤ n → g .size ≤ n → polynomial p h 0 n ≡ add (modulo p) (coefficientsOf f) (scale (modulo p) c (coefficientsOf g))
     unfolding shift
     multiple-is h n gains all-f all-g =
         gains p 0 0 n positive refl (omega arith)

@@ -17,7 +17,7 @@ module _ (p : ℕ) (positive : 0 < p) where
   pub words-at-most : (b : ℕ) → p ≤ b → (f : Polynomial) → ValidPolynomial p f → AtMost b (f .coefficients)
   words-at-most b le f valid i = omega (arith, word-below p f valid positive i)
 
-  module _ (s f g : Polynomial) (hs : ValidPolynomial p s) (hf : ValidPolynomial p f) (hg : ValidPolynomial p g) (h : List ℕ)
+  module _ {s f g : Polynomial} (hs : ValidPolynomial p s) (hf : ValidPolynomial p f) (hg : ValidPolynomial p g) {h : List ℕ}
       (gains : GainsProduct (s .coefficients) (f .coefficients) (f .size) (g .coefficients) (g .size) h) where
     pub products-small : p ≤ 65521 → (i : ℕ) → getD h i 0 < 4294967296 * p
     products-small limit i =
@@ -37,4 +37,7 @@ module _ (p : ℕ) (positive : 0 < p) where
         ∙ ap₂
         (λ (x y : List ℕ). add (modulo p) x y)
         (value-polynomial p s hs positive n all-s)
-        (ap₂ (mul (modulo p)) (value-polynomial p f hf positive (f .size) (omega arith)) (value-polynomial p g hg positive (g .size) (omega arith)))
+        (ap₂
+        (mul (modulo p))
+        (value-polynomial p f hf positive (f .size) (omega arith))
+        (value-polynomial p g hg positive (g .size) (omega arith)))

@@ -86,5 +86,5 @@ module _ {words : List ℕ} {a n : ℕ} {zeros copied : List ℕ} (by : Copied w
         (canonical-reduced p positive (take n (drop a words)))
         (ap length reduces ∙ length-stored (λ j. getD copied j 0 % p) copied 0 n ∙ long)
         (size ∙ ap length same)
-        (omega (arith, by .few, length-polynomial p positive words a n))
+        (omega (arith, by .few, length-polynomial p words a n))
         word

@@ -4,15 +4,16 @@ use mathlib.Core.List.{List, [], _∷_}
 use Prim.Native.Nat.{ℕ, zero, suc, _+_, _-_, _%_, _≤_, _<_}
 use native.Mathlib.Nat.{zero-mod, zero-mul, mod-add-mod, add-mod-mod}
 use native.Mathlib.Omega.{arith}
-use lib.ListN.{length, take, drop}
+use lib.ListN.{length, take, drop, length-take}
 use Rattle.algebra.specs.Coefficients.{cons, coefficient, add, scale, shift, mul}
 use Rattle.modular.specs.Modulo.{modulo}
 use Rattle.modular.specs.Canonical.{Canonical}
 use Rattle.modular.specs.Remainder.{mod-mul-mod}
 use Rattle.modular.specs.Closed.{canonical-add, canonical-scale}
-use Rattle.modular.specs.Coefficientwise.{coefficient-beyond, coefficient-add, coefficient-scale, canonical-same, length-bound}
+use Rattle.modular.specs.Coefficientwise.{coefficient-beyond, coefficient-add, coefficient-scale, canonical-same}
 use Rattle.modular.specs.Product.{rows, mul-rows}
-use Rattle.vector.specs.Reduced.{polynomial, canonical-reduced, coefficient-reduced, word-behind}
+use Rattle.vector.specs.Reduced.{polynomial}
+use Rattle.vector.specs.Size.{size-reduced}
 
 pub add-nil : (p : ℕ) (f : List ℕ) → add (modulo p) f [] ≡ f
 unfolding add
@@ -27,7 +28,7 @@ shift-nil p (suc k) = ap (λ (f : List ℕ). cons (modulo p) 0 f) (shift-nil p k
 pub scale-zero : (p : ℕ) (f : List ℕ) → scale (modulo p) 0 f ≡ []
 unfolding modulo scale cons
 scale-zero p [] = refl
-scale-zero p (a ∷ f) = ap₂ (λ (x : ℕ) (g : List ℕ). cons (modulo p) x g) (ap (λ (x : ℕ). x % p) (zero-mul a) ∙ zero-mod p) (scale-zero p f)
+scale-zero p (a ∷ f) = ap₂ (cons (modulo p)) (ap (λ (x : ℕ). x % p) (zero-mul a) ∙ zero-mod p) (scale-zero p f)
 
 rows-behind : (p : ℕ) (f g : List ℕ) (j : ℕ) → rows p f g (j + length f) ≡ rows p f g (length f)
 unfolding rows
@@ -43,15 +44,14 @@ rows-behind p f g (suc j) =
     ∙ add-nil p (rows p f g (j + length f))
     ∙ rows-behind p f g j
 
+pub length-polynomial : (p : ℕ) (l : List ℕ) (a n : ℕ) → length (polynomial p l a n) ≤ n
+length-polynomial p l a n = omega (arith, size-reduced p (take n (drop a l)), length-take n (drop a l))
+
 module _ (p : ℕ) (positive : 0 < p) where
   pub rows-mul : (f g : List ℕ) (n : ℕ) → length f ≤ n → rows p f g n ≡ mul (modulo p) f g
   rows-mul f g n le =
       let e : n ≡ n - length f + length f = omega arith in
       ap (rows p f g) e ∙ rows-behind p f g (n - length f) ∙ sym (mul-rows p positive f g)
-
-  pub length-polynomial : (l : List ℕ) (a n : ℕ) → length (polynomial p l a n) ≤ n
-  length-polynomial l a n =
-      length-bound p (polynomial p l a n) n (canonical-reduced p positive (take n (drop a l))) (λ i ge. coefficient-reduced p positive (take n (drop a l)) i ∙ ap (λ (x : ℕ). x % p) (word-behind l a n i ge) ∙ zero-mod p)
 
   pub scale-mod : (c : ℕ) (f : List ℕ) → scale (modulo p) c f ≡ scale (modulo p) (c % p) f
   scale-mod c f =
@@ -83,4 +83,6 @@ module _ (p : ℕ) (positive : 0 < p) where
       coefficient-add p positive (add (modulo p) f g) h n fg hh
       ∙ ap (λ (x : ℕ). (x + coefficient (modulo p) h n) % p) (coefficient-add p positive f g n hf hg)
       ∙ sum (coefficient (modulo p) f n) (coefficient (modulo p) g n) (coefficient (modulo p) h n)
-      ∙ sym (coefficient-add p positive f (add (modulo p) g h) n hf gh ∙ ap (λ (x : ℕ). (coefficient (modulo p) f n + x) % p) (coefficient-add p positive g h n hg hh)))
+      ∙ sym
+      (coefficient-add p positive f (add (modulo p) g h) n hf gh
+      ∙ ap (λ (x : ℕ). (coefficient (modulo p) f n + x) % p) (coefficient-add p positive g h n hg hh)))

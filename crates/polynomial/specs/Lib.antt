@@ -1,3 +1,3 @@
+pub mod Decides
 pub mod Value
-pub mod Equal
 pub mod Product

@@ -2,12 +2,10 @@
 -- callers need of a value, so that no proof above looks at its words.
 use mathlib.Core.Path.{_≡_, sym, ap, _∙_, subst}
 use mathlib.Core.Logic.{⊎-elim}
-use mathlib.Core.Bool.{Bool, true, false}
-use mathlib.Core.List.{List, [], _∷_}
+use mathlib.Core.List.{List}
 use Prim.Native.Nat.{ℕ, _%_, _<_, _≤_}
 use native.Mathlib.Nat.{mod-eq-of-lt, zero-add}
 use native.Mathlib.Omega.{arith}
-use lib.Dec.{eqb}
 use lib.ListN.{length, getD, take, drop, length-take, List·getD-eq-default}
 use lib.Seq.{length-take-le, getD-take, ext-getD}
 use Rattle.algebra.specs.Coefficients.{coefficient, leading}
@@ -34,15 +32,6 @@ pub record Represents (p : ℕ) (f : Polynomial) (l : List ℕ) : Type 0 where
   pub valid : ValidPolynomial p f
   pub same : coefficientsOf f ≡ l
 
--- whether l is the zero polynomial
-unfoldable pub zero? : List ℕ → Bool
-zero? [] = true
-zero? (a ∷ l) = false
-
--- whether the leading coefficient of l is 1
-unfoldable pub monic? : ℕ → List ℕ → Bool
-monic? p l = eqb (leading (modulo p) l) 1
-
 module _ (p : ℕ) (f : Polynomial) (valid : ValidPolynomial p f) where
   pub size-length : length (coefficientsOf f) ≡ f .size
   unfolding coefficientsOf
@@ -53,15 +42,20 @@ module _ (p : ℕ) (f : Polynomial) (valid : ValidPolynomial p f) where
   word-coefficient i =
       ⊎-elim
       (λ lt. sym (getD-take (f .size) (f .coefficients) i 0 lt))
-      (λ ge. valid .behind i ge ∙ sym (List·getD-eq-default (take (f .size) (f .coefficients)) 0 (simp length-take (omega arith))))
+      (λ ge.
+      valid .behind i ge
+      ∙ sym (List·getD-eq-default (take (f .size) (f .coefficients)) 0 (simp length-take (omega arith))))
       (below-or-not i (f .size))
       ∙ sym (coefficient-getD p (take (f .size) (f .coefficients)) i)
 
   module _ (positive : 0 < p) where
     -- the leading coefficient of a value that is not zero has an inverse
-    pub leading-residue : 0 < f .size → (0 < leading (modulo p) (coefficientsOf f)) × (leading (modulo p) (coefficientsOf f) < p)
-    leading-residue some =
-        (leading-positive p (coefficientsOf f) (valid .canonical) (omega (arith, size-length)), leading-below p positive (coefficientsOf f) (valid .canonical))
+    pub leading-residue : 0 < f .size →
+        (0 < leading (modulo p) (coefficientsOf f)) × (leading (modulo p) (coefficientsOf f) < p)
+    leading-residue some = (
+      leading-positive p (coefficientsOf f) (valid .canonical) (omega (arith, size-length)),
+      leading-below p positive (coefficientsOf f) (valid .canonical),
+    )
 
     pub word-below : (i : ℕ) → getD (f .coefficients) i 0 < p
     word-below i = rw (word-coefficient i) (coefficient-below p positive (coefficientsOf f) i (valid .canonical))

@@ -4,12 +4,12 @@ ghost use mathlib.Core.Path.{_≡_};
 ghost use Prim.Native.Nat.{_≤_};
 ghost use lib.ListN.{length, take};
 ghost use Rattle.polynomial.specs.Value.{coefficientsOf};
-ghost use Rattle.polynomial.specs.Equal.{equal?};
+ghost use Rattle.polynomial.specs.Decides.{Decides};
 
 // Whether the first n words of both are the same.
 fn same_words(f: &[u64], g: &[u64], n: usize) -> bool
     requires { ⌜ (n ≤ length (now f)) × (n ≤ length (now g)) ⌝ }
-    ensures { λ r. ⌜ r ≡ equal? (take n (now (f .entry))) (take n (now (g .entry))) ⌝ }
+    ensures { λ r. ⌜ Decides r (take n (now (f .entry)) ≡ take n (now (g .entry))) ⌝ }
 {
     let mut i = 0;
     while i < n {
@@ -24,7 +24,7 @@ fn same_words(f: &[u64], g: &[u64], n: usize) -> bool
 impl Polynomial {
     pub fn equal(self, g: Polynomial) -> bool
         requires { ⌜ (self .size ≤ 256) × (g .size ≤ 256) ⌝ }
-        ensures { λ r. ⌜ r ≡ equal? (coefficientsOf self) (coefficientsOf g) ⌝ }
+        ensures { λ r. ⌜ Decides r (coefficientsOf self ≡ coefficientsOf g) ⌝ }
     {
         let n = self.size;
         if n != g.size {

@@ -1,4 +1,4 @@
-// Products, by sums that are reduced once at the end.
+// Products: all terms of a product are added up before they are reduced.
 use crate::linear::larger;
 use crate::value::Polynomial;
 use residue::modulus::Modulus;
@@ -12,8 +12,8 @@ ghost use Rattle.vector.specs.Bound.{AtMost};
 ghost use Rattle.polynomial.specs.Value.{coefficientsOf, ValidPolynomial, Represents};
 ghost use Rattle.polynomial.specs.Product.{GainsProduct};
 
-// h += f g, for n words of f and k words of g.
-pub fn add_products(h: &mut [u64], f: &[u64], n: usize, g: &[u64], k: usize)
+// h += f g, for n words of f and k words of g: a row c x^i g for each coefficient c of f.
+pub fn add_rows(h: &mut [u64], f: &[u64], n: usize, g: &[u64], k: usize)
     requires { ⌜ (n ≤ length (now f)) × (k ≤ length (now g)) × (n + k ≤ length (now h) + 1) × (n ≤ 256) ⌝ }
     requires small { ⌜ AtMost 65535 (now h) × AtMost 65535 (now f) × AtMost 65535 (now g) ⌝ }
     ensures { λ _. ⌜ GainsProduct (now (h .entry)) (now (f .entry)) n (now (g .entry)) k (now (h .exit)) ⌝ }
@@ -33,7 +33,7 @@ impl Polynomial {
         ensures { λ r. ⌜ Represents (m .p) r (add (modulo (m .p)) (coefficientsOf self) (mul (modulo (m .p)) (coefficientsOf f) (coefficientsOf g))) ⌝ }
     {
         let mut h = self.coefficients;
-        add_products(&mut h, &f.coefficients, f.size, &g.coefficients, g.size);
+        add_rows(&mut h, &f.coefficients, f.size, &g.coefficients, g.size);
         Polynomial::from_words(&h, 0, larger(self.size + 1, f.size + g.size) - 1, m)
     }
 

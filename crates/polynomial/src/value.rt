@@ -6,12 +6,14 @@ use vector::reduce_range;
 ghost use mathlib.Core.Path.{_≡_};
 ghost use mathlib.Core.List.{[]};
 ghost use Prim.Native.Nat.{ℕ, _+_, _*_, _<_, _≤_};
+ghost use lib.Dec.{eqb};
 ghost use lib.ListN.{length, getD};
 ghost use Rattle.algebra.specs.Coefficients.{one, leading};
 ghost use Rattle.modular.specs.Modulo.{modulo};
 ghost use Rattle.residue.specs.Modulus.{ValidModulus};
 ghost use Rattle.vector.specs.Reduced.{polynomial};
-ghost use Rattle.polynomial.specs.Value.{coefficientsOf, Represents, zero?, monic?};
+ghost use Rattle.polynomial.specs.Decides.{Decides};
+ghost use Rattle.polynomial.specs.Value.{coefficientsOf, Represents};
 
 // `size` coefficients, lowest power first, the last not 0, and zeros behind them.
 pub struct Polynomial {
@@ -66,8 +68,9 @@ impl Polynomial {
         }
     }
 
+    // Whether it is the zero polynomial.
     pub fn is_zero(self) -> bool
-        ensures { λ r. ⌜ r ≡ zero? (coefficientsOf self) ⌝ }
+        ensures { λ r. ⌜ Decides r (coefficientsOf self ≡ []) ⌝ }
     {
         self.size == 0
     }
@@ -84,9 +87,10 @@ impl Polynomial {
         self.coefficients[n - 1]
     }
 
+    // Whether the leading coefficient is 1.
     pub fn is_monic(self) -> bool
         requires { ⌜ self .size ≤ 256 ⌝ }
-        ensures { λ r. ⌜ ((p : ℕ) → r ≡ monic? p (coefficientsOf self)) ⌝ }
+        ensures { λ r. ⌜ ((p : ℕ) → r ≡ eqb (leading (modulo p) (coefficientsOf self)) 1) ⌝ }
     {
         self.leading() == 1
     }

@@ -33,12 +33,12 @@ fn show(answer: SystemRead) {
     }
 }
 
-fn sheet(words: &[u32]) {
+fn system(words: &[u32]) {
     show(read_system(words, Office::limits()));
 }
 
 // A certificate for a system modulo 2 with one row and one column.
-fn card(words: &[u32]) {
+fn certificate(words: &[u32]) {
     let shape = Shape {
         modulus: 2,
         rows: 1,
@@ -61,23 +61,23 @@ fn card(words: &[u32]) {
 }
 
 // Rows 1 to 9 of the table, and case 1.
-fn sheets() {
+fn systems() {
     let head_1: [u32; 1] = [0x00110002];
-    sheet(&head_1[..0]);
-    sheet(&head_1);
+    system(&head_1[..0]);
+    system(&head_1);
     let prime_2: [u32; 1] = [0x10110004];
-    sheet(&prime_2);
+    system(&prime_2);
     let size_3: [u32; 1] = [0x10010002];
-    sheet(&size_3);
+    system(&size_3);
     let kind_5: [u32; 2] = [0x10110002, 0x30000001];
-    sheet(&kind_5[..1]);
-    sheet(&kind_5);
+    system(&kind_5[..1]);
+    system(&kind_5);
     let many_6: [u32; 2] = [0x10110002, 0x20000011];
-    sheet(&many_6);
+    system(&many_6);
     let large_7: [u32; 3] = [0x10110002, 0x20000001, 0x30000002];
-    sheet(&large_7);
+    system(&large_7);
     let zero_8: [u32; 3] = [0x10110002, 0x20000001, 0x30000000];
-    sheet(&zero_8);
+    system(&zero_8);
     let mut case_1: [u32; 8] = [
         0x10110002,
         0x20000002,
@@ -88,10 +88,10 @@ fn sheets() {
         0x40000008,
         0,
     ];
-    sheet(&case_1[..7]);
+    system(&case_1[..7]);
     case_1[6] = 0x40000007;
-    sheet(&case_1);
-    sheet(&case_1[..7]);
+    system(&case_1);
+    system(&case_1[..7]);
 }
 
 // Row 10, and case 1 as a file.
@@ -105,13 +105,13 @@ fn files() {
 }
 
 // Rows 21 to 29, and case 1.
-fn cards() {
+fn certificates() {
     let head_21: [u32; 1] = [0x50000003];
-    card(&head_21[..0]);
-    card(&head_21);
+    certificate(&head_21[..0]);
+    certificate(&head_21);
     let many_26: [u32; 2] = [0x50000001, 0x2000007a];
-    card(&many_26[..1]);
-    card(&many_26);
+    certificate(&many_26[..1]);
+    certificate(&many_26);
     let case_1: [u32; 12] = [
         0x50000001,
         0x20000002,
@@ -126,29 +126,29 @@ fn cards() {
         0x30000001,
         0x4000000c,
     ];
-    card(&case_1);
-    card(&case_1[..11]);
+    certificate(&case_1);
+    certificate(&case_1[..11]);
     let absence: [u32; 4] = [0x50000002, 0x20000001, 0x30000001, 0x40000004];
-    card(&absence);
+    certificate(&absence);
 }
 
 // Case 11: p, then n, which the panel bounds too.
 fn heads() {
     let largest: [u32; 4] = [0x1011fff1, 0x20000000, 0x20000000, 0x40000004];
-    sheet(&largest);
+    system(&largest);
     let composite: [u32; 1] = [0x1011ffff];
-    sheet(&composite);
+    system(&composite);
     let one: [u32; 1] = [0x10110001];
-    sheet(&one);
+    system(&one);
     let zero: [u32; 1] = [0x10110000];
-    sheet(&zero);
+    system(&zero);
     let mut rows_8 = [0x20000000u32; 18];
     rows_8[0] = 0x10180002;
     rows_8[17] = 0x40000012;
-    sheet(&rows_8);
+    system(&rows_8);
     show(read_system(&rows_8, Panel::limits()));
     let rows_9: [u32; 1] = [0x10190002];
-    sheet(&rows_9);
+    system(&rows_9);
 }
 
 // Case 11: the number of coefficients, and the largest of them.
@@ -159,18 +159,18 @@ fn coefficients() {
     size_16[17] = 0x30000002;
     size_16[18] = 0x20000000;
     size_16[19] = 0x40000014;
-    sheet(&size_16);
+    system(&size_16);
     size_16[1] = 0x20000011;
-    sheet(&size_16);
+    system(&size_16);
     size_16[1] = 0x20000010;
     size_16[2] = 0x30000003;
-    sheet(&size_16);
+    system(&size_16);
 }
 
 fn main() {
-    sheets();
+    systems();
     files();
-    cards();
+    certificates();
     heads();
     coefficients();
 }

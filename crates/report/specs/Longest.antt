@@ -69,7 +69,7 @@ report-length limits small (refused number place) h =
     let second = decimal-length 9 place (omega arith) in
     simp length-append (omega arith)
 
--- 767 bytes, which some denominator takes
+-- 767 bytes, which some list of 121 coefficients takes
 longest-reached : length (reportText (accepted (least (replicate 121 65520)))) ≡ longestReport office
 unfolding reportText denominatorLine feedbackLine decimal
 longest-reached = refl

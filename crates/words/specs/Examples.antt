@@ -15,37 +15,37 @@ use Rattle.words.specs.Bytes.{readSystemFile}
 case1 : System
 case1 = record { modulus = 2; rows = 1; columns = 1; matrix = (0 ∷ 1 ∷ []) ∷ []; right = (1 ∷ []) ∷ [] }
 
-sheet1 : List ℕ
-sheet1 = 0x10110002 ∷ 0x20000002 ∷ 0x30000000 ∷ 0x30000001 ∷ 0x20000001 ∷ 0x30000001 ∷ 0x40000007 ∷ []
+system1 : List ℕ
+system1 = 0x10110002 ∷ 0x20000002 ∷ 0x30000000 ∷ 0x30000001 ∷ 0x20000001 ∷ 0x30000001 ∷ 0x40000007 ∷ []
 
-card1 : List ℕ
-card1 =
+certificate1 : List ℕ
+certificate1 =
     0x50000001 ∷ 0x20000002 ∷ 0x30000000 ∷ 0x30000001 ∷ 0x20000001 ∷ 0x30000001 ∷ 0x20000002 ∷ 0x30000000 ∷ 0x30000001
     ∷ 0x20000001 ∷ 0x30000001 ∷ 0x4000000C ∷ []
 
 answer1 : Certificate
 answer1 = solution (0 ∷ 1 ∷ []) ((1 ∷ []) ∷ []) (0 ∷ 1 ∷ []) ((1 ∷ []) ∷ [])
 
-sheet1-written : systemWords case1 ≡ sheet1
-unfolding systemWords case1 sheet1
-sheet1-written = refl
+system1-written : systemWords case1 ≡ system1
+unfolding systemWords case1 system1
+system1-written = refl
 
-sheet1-read : readSystem office sheet1 ≡ accepted case1
-unfolding readSystem case1 sheet1
-sheet1-read = refl
+system1-read : readSystem office system1 ≡ accepted case1
+unfolding readSystem case1 system1
+system1-read = refl
 
-card1-written : certificateWords answer1 ≡ card1
-unfolding certificateWords answer1 card1
-card1-written = refl
+certificate1-written : certificateWords answer1 ≡ certificate1
+unfolding certificateWords answer1 certificate1
+certificate1-written = refl
 
-card1-read : readCertificate office (shape case1) card1 ≡ accepted answer1
-unfolding readCertificate case1 answer1 card1
-card1-read = refl
+certificate1-read : readCertificate office (shape case1) certificate1 ≡ accepted answer1
+unfolding readCertificate case1 answer1 certificate1
+certificate1-read = refl
 
 -- ---- the table: rows 1 to 9, with the empty sheet first and words that follow last
 
-sheets : List (List ℕ)
-sheets =
+systems : List (List ℕ)
+systems =
     []
     ∷ (0x00110002 ∷ [])
     ∷ (0x10110004 ∷ [])
@@ -59,11 +59,11 @@ sheets =
     ∷ (0x10110002 ∷ 0x20000002 ∷ 0x30000000 ∷ 0x30000001 ∷ 0x20000001 ∷ 0x30000001 ∷ 0x40000007 ∷ 0 ∷ [])
     ∷ []
 
-sheets-read : map (readSystem office) sheets
+systems-read : map (readSystem office) systems
     ≡ refused 4 0 ∷ refused 1 0 ∷ refused 2 0 ∷ refused 3 0 ∷ refused 4 1 ∷ refused 5 1 ∷ refused 6 1 ∷ refused 7 2 ∷ refused 8 2
     ∷ refused 9 6 ∷ refused 9 7 ∷ []
-unfolding readSystem sheets
-sheets-read = refl
+unfolding readSystem systems
+systems-read = refl
 
 -- row 10
 file-read : readSystemFile office (0 ∷ 0 ∷ 0 ∷ 0 ∷ 0 ∷ []) ≡ refused 10 0
@@ -71,15 +71,15 @@ unfolding readSystemFile
 file-read = refl
 
 -- rows 21 and 24, and 26 with its own limit: 121 coefficients are read on, 122 are refused
-cards : List (List ℕ)
-cards = [] ∷ (0x50000003 ∷ []) ∷ (0x50000001 ∷ []) ∷ (0x50000001 ∷ 0x20000079 ∷ []) ∷ (0x50000001 ∷ 0x2000007A ∷ []) ∷ []
+certificates : List (List ℕ)
+certificates = [] ∷ (0x50000003 ∷ []) ∷ (0x50000001 ∷ []) ∷ (0x50000001 ∷ 0x20000079 ∷ []) ∷ (0x50000001 ∷ 0x2000007A ∷ []) ∷ []
 
-cards-read : map (readCertificate office (shape case1)) cards
+certificates-read : map (readCertificate office (shape case1)) certificates
     ≡ refused 24 0 ∷ refused 21 0 ∷ refused 24 1 ∷ refused 24 2 ∷ refused 26 1 ∷ []
-unfolding readCertificate case1 cards
-cards-read = refl
+unfolding readCertificate case1 certificates
+certificates-read = refl
 
--- ---- "Longest sheet 1,226 words, longest card 2,198 words"; on the panel cards have at most 302
+-- ---- "Longest sheet 1,226 words, longest card 2,198 words"; on the panel certificates have at most 302
 
 longest : longestSystem office ∷ longestCertificate office ∷ longestCertificate panel ∷ [] ≡ 1226 ∷ 2198 ∷ 302 ∷ []
 longest = refl

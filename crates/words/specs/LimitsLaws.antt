@@ -26,7 +26,7 @@ systemCount-most h k = omega (arith, mul-le-mul h k)
 pub wordsFor-most : {count most : ℕ} (coefficients : ℕ) → count ≤ most → wordsFor count coefficients ≤ wordsFor most coefficients
 wordsFor-most {count} {most} coefficients h = omega (arith, mul-le-mul h (native.Mathlib.Nat.le-refl (1 + coefficients)))
 
--- a sheet or a card of at most 240 polynomials has its count of words in the end word
+-- a system or a certificate of at most 240 polynomials has its count of words in the end word
 pub wordsFor-small : {count coefficients : ℕ} → count ≤ 240 → coefficients ≤ 65535 → wordsFor count coefficients < 268435456
 wordsFor-small {count} {coefficients} h k =
     let k′ : 1 + coefficients ≤ 65536 = omega arith in

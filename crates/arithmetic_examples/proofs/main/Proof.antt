@@ -31,7 +31,9 @@ array-share-prefix-case : tie.Need-array-share-prefix-case Inv-loop μ-loop
 array-share-prefix-case c = c .before .before .read-case .ensures
 
 slice-aggregate-run : tie.Need-slice-aggregate-run Inv-loop μ-loop
-slice-aggregate-run c = sym (length-take-le (c .before .before .before .read-case .result) (c .before .before .before .read-case .last .0) (c .before .before .before .read-case .ensures))
+slice-aggregate-run c =
+    let case = c .before .before .before .read-case in
+    sym (length-take-le (case .result) (case .last .0) (case .ensures))
 
 run-requires : tie.Need-run-requires Inv-loop μ-loop
 run-requires c κs = tt

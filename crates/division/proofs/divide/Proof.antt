@@ -46,12 +46,13 @@ divide-words-requires c κs =
     let f = S .pre .1 in
     let fresh = c .before .before .before .before .before .zeros in
     let inverse = c .before .before .before .before .before .before .before .inverse in
-    let first = c .before .before .before .before .before .before .before .before .leading in (
+    let first = c .before .before .before .before .before .before .before .before .leading in
+    let inverts = inverse .ensures ∙ ap (modulo p .inverse) (first .ensures p) in (
       (m, f .within, omega (arith, f .room, f .within), omega (arith, f .within, fresh .ensures .0)),
       (
         (f .canonical, λ i. omega (arith, word-below p (S .args .f) f positive i)),
         (
-          divisor p positive (S .args .t2) (S .pre .2) (S .pre .3) (inverse .result) (inverse .ensures ∙ ap (modulo p .inverse) (first .ensures p)),
+          divisor p positive (S .args .t2) (S .pre .2) (S .pre .3) (inverse .result) inverts,
           λ i. omega (arith, fresh .ensures .1 i),
         ),
       ),
@@ -65,7 +66,7 @@ from-words-requires c κs =
     let S = c .before .before .before .before .before .before .before .before .before .before .before .before .before in
     let called = c .before .before .before .divide-words in
     let long : length (called .last .1 .1 .0) ≡ 256 = search needs in
-    ((S .pre .0, S .pre .1 .within, omega (arith, S .pre .1 .within)), λ i lt. called .ensures .small-quotient (0 + i))
+    ((S .pre .0, omega (arith, S .pre .1 .within), omega (arith, S .pre .1 .within)), λ i lt. called .ensures .small-quotient (0 + i))
 
 slice-aggregate-from-words-2 : tie.Need-slice-aggregate-from-words-2
 slice-aggregate-from-words-2 c = search needs
@@ -75,7 +76,7 @@ from-words-requires-2 c κs =
     let S = c .before .before .before .before .before .before .before .before .before .before .before .before .before .before .before in
     let called = c .before .before .before .before .before .divide-words in
     let long : length (called .last .0) ≡ 256 = search needs in
-    ((S .pre .0, S .pre .1 .within, omega (arith, S .pre .1 .within)), λ i lt. called .ensures .small-remainder (0 + i))
+    ((S .pre .0, omega (arith, S .pre .1 .within), omega (arith, S .pre .1 .within)), λ i lt. called .ensures .small-remainder (0 + i))
 
 returns : tie.Need-returns
 unfolding coefficientsOf
@@ -83,8 +84,10 @@ returns c =
     let S = c .before .before .before .before .before .before .before .before .before .before .before .before .before .before .before .before in
     let p : ℕ = S .args .m .p in
     let by = c .before .before .before .before .before .before .divide-words .ensures in
-    let done = divided p (omega (arith, S .pre .0 .prime .large)) (S .args .t2) (S .pre .2) (S .pre .3) _ _ _ _ by in
-    (represents-is (c .before .before .from-words .ensures) (done .quotient), represents-is (c .from-words2 .ensures) (done .remainder))
+    let done = divided p (omega (arith, S .pre .0 .prime .large)) (S .args .t2) (S .pre .2) (S .pre .3) by in (
+      represents-is (c .before .before .from-words .ensures) (done .quotient),
+      represents-is (c .from-words2 .ensures) (done .remainder),
+    )
 
 pub divide-spec : {M : Type 1} → statement M
 divide-spec =

@@ -1,5 +1,6 @@
 -- The loop keeps a `Descending`; its measure is the size of the second polynomial.
 use native.Mathlib.Omega.{arith}
+use borrow.Author.Needs.{needs}
 use Rattle.division.proofs.Remainders.{Descending, descending-start, descending-turn, descending-less, descending-end}
 use Rattle.division.proofs.euclid.gcd.Statement.{statement}
 use Rattle.division.proofs.euclid.gcd.Tie as tie
@@ -14,9 +15,7 @@ loop-holds : tie.Need-loop-holds Inv-loop μ-loop
 loop-holds c = descending-start _ _ _ (c .pre .1) (c .pre .2)
 
 remainder-requires : tie.Need-remainder-requires Inv-loop μ-loop
-remainder-requires c κs =
-    let I = c .before .before .loop .inv in
-    (c .before .before .before .pre .0, I .first, I .second, omega arith)
+remainder-requires c κs = search needs
 
 loop-less : tie.Need-loop-less Inv-loop μ-loop
 loop-less c =
@@ -29,7 +28,7 @@ loop-again c =
     descending-turn _ (S .pre .0 .prime) _ _ _ _ (c .before .before .before .loop .inv) (omega arith) _ (c .remainder .ensures)
 
 monic-requires : tie.Need-monic-requires Inv-loop μ-loop
-monic-requires c κs = (c .before .before .before .pre .0, c .before .before .loop .inv .first)
+monic-requires c κs = search needs
 
 returns : tie.Need-returns Inv-loop μ-loop
 returns c =

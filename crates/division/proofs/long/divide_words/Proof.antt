@@ -1,14 +1,25 @@
 -- The loop keeps a `Dividing` at the place k - e.
 use mathlib.Core.Path.{_≡_, subst}
-use Prim.Native.Nat.{ℕ, _+_, _-_, _≤_}
+use mathlib.Core.List.{List}
+use Prim.Native.Nat.{ℕ, _+_, _-_, _<_, _≤_}
 use native.Mathlib.Nat.{mod-lt, mul-le-mul}
 use native.Mathlib.Omega.{arith}
-use lib.ListN.{getD, take}
+use lib.ListN.{length, getD, take}
 use borrow.Author.Needs.{needs}
+use Rattle.modular.specs.Canonical.{Canonical}
+use Rattle.residue.specs.declared.modulus.Modulus.{Modulus}
 use Rattle.residue.specs.Modulus.{ValidModulus}
-use Rattle.division.proofs.Dividing.{word-small, inverse-small, factor-small, dividing-end, Dividing, dividing-start, dividing-turn, room}
+use Rattle.residue.specs.Below.{mul-below, inverse-below}
+use Rattle.division.specs.Long.{Divisor}
+use Rattle.division.proofs.Dividing.{Task, Dividing, dividing-start, dividing-turn, dividing-end, word-small, factor-is}
 use Rattle.division.proofs.long.divide_words.Statement.{statement}
 use Rattle.division.proofs.long.divide_words.Tie as tie
+
+-- the preconditions as a task
+task : {h q : List ℕ} {n : ℕ} {d : List ℕ} {e inverse : ℕ} (m : Modulus) → ValidModulus m → n ≤ length h → n ≤ length q →
+    Canonical (m .p) (take n h) → Divisor (m .p) d e inverse → Task (m .p) h q n d e inverse
+task m valid room-h room-q canonical divisor =
+    record { large = valid .prime .large; divisor = divisor; canonical = canonical; room-h = room-h; room-q = room-q }
 
 abbrev Inv-loop : tie.InvT-loop
 Inv-loop h₀ n q₀ d e inverse m k₀ h q k = Dividing (m .p) h₀ q₀ n (take (e + 1) d) q h (k - e) × (k ≤ n)
@@ -19,8 +30,8 @@ abbrev μ-loop : tie.MeasureT-loop
 loop-holds : tie.Need-loop-holds Inv-loop μ-loop
 loop-holds c =
     let S = c .before .before .before in
-    let m : ValidModulus (S .args .m) = S .pre .0 .0 in
-    (dividing-start _ (omega (arith, m .prime .large)) _ _ _ _ _ _ (S .pre .1 .1 .0) (S .pre .1 .0 .0) (S .pre .1 .1 .1) (S .pre .1 .0 .1), omega arith)
+    let by = task (S .args .m) (S .pre .0 .0) (S .pre .0 .2) (S .pre .0 .3) (S .pre .1 .0 .0) (S .pre .1 .1 .0) in
+    (dividing-start by (S .pre .1 .1 .1) (S .pre .1 .0 .1), omega arith)
 
 sub-k : tie.Need-sub-k Inv-loop μ-loop
 sub-k c = search needs
@@ -36,13 +47,19 @@ reduce-requires c κs =
     let S = c .before .before .before .before .before .before in
     let m : ValidModulus (S .args .m) = S .pre .0 .0 in
     let L = c .before .before .loop in
-    (m, omega (arith, word-small (S .args .m .p) (S .args .n) (L .k - S .args .e) (L .h) (m .prime .large) (m .limit) (S .pre .0 .1) (L .inv .0 .small-remainder) (L .k - 1)))
+    let small = L .inv .0 .small-remainder in
+    let e : ℕ = S .args .e in
+    let word = word-small (S .args .m .p) (S .args .n) (L .k - e) (L .h) (m .prime .large) (m .limit) (S .pre .0 .1) small in
+    (m, omega (arith, word (L .k - 1)))
 
 mul-requires : tie.Need-mul-requires Inv-loop μ-loop
 mul-requires c κs =
     let S = c .before .before .before .before .before .before .before in
-    let m : ValidModulus (S .args .m) = S .pre .0 .0 in
-    (m, rw (c .reduce .ensures) (mod-lt _ (omega (arith, m .prime .large))), inverse-small _ _ _ _ (m .prime .large) (S .pre .1 .1 .0))
+    let m : ValidModulus (S .args .m) = S .pre .0 .0 in (
+      m,
+      rw (c .reduce .ensures) (mod-lt _ (omega (arith, m .prime .large))),
+      rw (S .pre .1 .1 .0 .inverts) (inverse-below (S .args .m .p) (m .prime .large) _),
+    )
 
 sub-q : tie.Need-sub-q Inv-loop μ-loop
 sub-q c = search needs
@@ -62,8 +79,10 @@ add-add-scaled c = search needs
 sub-add-scaled-2 : tie.Need-sub-add-scaled-2 Inv-loop μ-loop
 sub-add-scaled-2 c =
     let S = c .before .before .before .before .before .before .before .before .before .before in
-    let m : ValidModulus (S .args .m) = S .pre .0 .0 in
-    omega (arith, factor-small _ _ _ _ _ (m .prime .large) (c .before .before .before .reduce .ensures) (c .before .before .mul .ensures) .1)
+    let p : ℕ = S .args .m .p in
+    let below : c .before .before .mul .result < p =
+    rw (c .before .before .mul .ensures) (mul-below p (S .pre .0 .0 .prime .large) _ _) in
+    omega arith
 
 add-scaled-requires : tie.Need-add-scaled-requires Inv-loop μ-loop
 add-scaled-requires c κs =
@@ -75,7 +94,8 @@ add-scaled-requires c κs =
     let p : ℕ = S .args .m .p in
     let v : ℕ = c .before .before .mul .result in
     let limit : p ≤ 65521 = m .limit in
-    let word = word-small p (S .args .n) (L .k - e) (L .h) (m .prime .large) (m .limit) (S .pre .0 .1) (L .inv .0 .small-remainder) in (
+    let small = L .inv .0 .small-remainder in
+    let word = word-small p (S .args .n) (L .k - e) (L .h) (m .prime .large) limit (S .pre .0 .1) small in (
       (omega (arith, L .inv .0 .same-remainder), omega (arith, by .room), omega arith),
       (
         (λ j lt. omega (arith, by .small (0 + j))),
@@ -94,40 +114,23 @@ loop-less c = search needs
 loop-again : tie.Need-loop-again Inv-loop μ-loop
 loop-again c =
     let S = c .before .before .before .before .before .before .before .before .before .before .before .before .before in
-    let m : ValidModulus (S .args .m) = S .pre .0 .0 in
     let L = c .before .before .before .before .before .before .before .before .before .loop in
-    let k : ℕ = L .k in
+    let p : ℕ = S .args .m .p in
     let e : ℕ = S .args .e in
+    let i : ℕ = L .k - 1 - e in
+    let place : L .k - 1 ≡ i + e = omega arith in
+    let next : L .k - e ≡ i + 1 = omega arith in
+    let by = task (S .args .m) (S .pre .0 .0) (S .pre .0 .2) (S .pre .0 .3) (S .pre .1 .0 .0) (S .pre .1 .1 .0) in
+    let reduced = c .before .before .before .before .before .before .reduce .ensures in
+    let multiplied = c .before .before .before .before .before .mul .ensures in
+    let factor = factor-is p (getD (L .h) (L .k - 1) 0) (S .args .inverse) reduced multiplied in
     let called = c .before .before .add-scaled in
-    let next : k - e ≡ k - 1 - e + 1 = omega arith in
-    let state = subst (λ (i : ℕ). Dividing (S .args .m .p) (S .args .h .now) (S .args .q .now) (S .args .n) (take (e + 1) (S .args .d .now)) (L .q) (L .h) i) next (L .inv .0) in
-    let made = factor-small _ _ _ _ _ (m .prime .large) (c .before .before .before .before .before .before .reduce .ensures) (c .before .before .before .before .before .mul .ensures) in
-    let place : k - 1 ≡ k - 1 - e + e = omega arith in (
-      dividing-turn
-          (S .args .m .p)
-          (omega (arith, m .prime .large))
-          (S .args .h .now)
-          (S .args .q .now)
-          (S .args .n)
-          (S .args .d .now)
-          e
-          (S .args .inverse)
-          (S .pre .1 .1 .0)
-          (S .pre .1 .0 .0)
-          (L .q)
-          (L .h)
-          (k - 1 - e)
-          state
-          (omega arith)
-          (S .pre .0 .2)
-          (S .pre .0 .3)
-          (c .before .before .before .before .before .mul .result)
-          (rw place at (made .0))
-          (called .last .0)
-          (called .ensures .0)
-          (called .ensures .1),
-      omega arith,
-    )
+    let so-far =
+    subst
+    (λ (j : ℕ). Dividing p (S .args .h .now) (S .args .q .now) (S .args .n) (take (e + 1) (S .args .d .now)) (L .q) (L .h) j)
+    next
+    (L .inv .0) in
+    (dividing-turn by i so-far (omega arith) _ (rw place at factor) (called .ensures .0) (called .ensures .1), omega arith)
 
 same-length : tie.Need-same-length Inv-loop μ-loop
 same-length c = search needs
@@ -139,7 +142,7 @@ returns : tie.Need-returns Inv-loop μ-loop
 returns c =
     let S = c .before .before .before .before .before in
     let m : ValidModulus (S .args .m) = S .pre .0 .0 in
-    dividing-end _ _ _ _ _ _ _ _ (m .prime .large) (m .limit) (S .pre .0 .1) (omega arith) (c .before .loop .inv .0)
+    dividing-end (S .args .m .p) (m .prime .large) (m .limit) (S .pre .0 .1) (omega arith) (c .before .loop .inv .0)
 
 pub divide-words-spec : {M : Type 1} → statement M
 divide-words-spec =

@@ -33,7 +33,8 @@ shared-slice-read-if1-2 c = search needs
 returns : tie.Need-returns Inv-loop μ-loop
 returns c =
     let S = c .before .before .before .before .before in
-    compared-differ (S .args .f .now) (S .args .g .now) (S .args .n) (c .before .before .before .before .loop .i) (omega arith) (c .if1 .taken)
+    let i = c .before .before .before .before .loop .i in
+    compared-differ (S .args .f .now) (S .args .g .now) (S .args .n) i (omega arith) (c .if1 .taken)
 
 add-i : tie.Need-add-i Inv-loop μ-loop
 add-i c = search needs
@@ -47,7 +48,8 @@ loop-again c = (omega arith, below-more _ _ (c .before .before .before .before .
 returns-2 : tie.Need-returns-2 Inv-loop μ-loop
 returns-2 c =
     let S = c .before .before in
-    compared-same (S .args .f .now) (S .args .g .now) (S .args .n) (omega arith) (omega arith) (λ k lt. c .before .loop .inv .1 k (omega arith))
+    let same = c .before .loop .inv .1 in
+    compared-same (S .args .f .now) (S .args .g .now) (S .args .n) (omega arith) (omega arith) (λ k lt. same k (omega arith))
 
 pub same-words-spec : {M : Type 1} → statement M
 same-words-spec =

@@ -17,7 +17,9 @@ returns c =
     let S = c .before in
     represents-is
     (c .add-multiple .ensures)
-    (ap (add (modulo (S .args .m .p)) _) (scale-one (S .args .m .p) (omega (arith, S .pre .0 .prime .large)) _ (S .pre .2 .canonical)))
+    (ap
+    (add (modulo (S .args .m .p)) _)
+    (scale-one (S .args .m .p) (omega (arith, S .pre .0 .prime .large)) _ (S .pre .2 .canonical)))
 
 pub add-spec : {M : Type 1} → statement M
 add-spec = tie.close (tie.spec add-multiple-requires returns)

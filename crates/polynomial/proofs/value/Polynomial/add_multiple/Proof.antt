@@ -22,7 +22,7 @@ add-scaled-requires c κs =
       (omega (arith, S .pre .1 .room, g .within), omega (arith, g .room, g .within), omega (arith, m .limit, S .pre .2)),
       (
         (λ j lt. omega (arith, word-below (S .args .m .p) (S .args .t3) g positive (0 + j), m .limit)),
-        multiple-fits (S .args .m .p) positive (S .args .self) (S .args .t3) (S .pre .1) g (S .args .c) (S .pre .2) (m .limit),
+        multiple-fits (S .args .m .p) positive (S .pre .1) g (S .args .c) (S .pre .2) (m .limit),
       ),
     )
 
@@ -38,8 +38,8 @@ from-words-requires c κs =
     let m : ValidModulus (S .args .m) = S .pre .0 in
     let positive : 0 < S .args .m .p = omega (arith, m .prime .large) in
     let called = c .before .before .before .add-scaled in
-    let small =
-    multiple-small (S .args .m .p) positive (S .args .self) (S .args .t3) (S .pre .1) (S .pre .3) (S .args .c) (S .pre .2) (m .limit) (called .last .0) (called .ensures .0) in
+    let p = S .args .m .p in
+    let small = multiple-small p positive (S .pre .1) (S .pre .3) (S .args .c) (S .pre .2) (m .limit) (called .ensures .0) in
     let long : length (called .last .0) ≡ 256 = search needs in
     let fits : c .larger .result ≤ 256 = omega (arith, c .larger .ensures, S .pre .1 .within, S .pre .3 .within) in
     ((m, fits, omega arith), λ i lt. small (0 + i))
@@ -55,8 +55,6 @@ returns c =
     (multiple-is
     (S .args .m .p)
     positive
-    (S .args .self)
-    (S .args .t3)
     (S .pre .1)
     (S .pre .3)
     (S .args .c)

@@ -10,11 +10,11 @@ use Rattle.polynomial.proofs.Products.{words-at-most, products-small, p
 use Rattle.polynomial.proofs.value.Polynomial.add_product.Statement.{statement}
 use Rattle.polynomial.proofs.value.Polynomial.add_product.Tie as tie
 
-slice-aggregate-add-products : tie.Need-slice-aggregate-add-products
-slice-aggregate-add-products c = search needs
+slice-aggregate-add-rows : tie.Need-slice-aggregate-add-rows
+slice-aggregate-add-rows c = search needs
 
-add-products-requires : tie.Need-add-products-requires
-add-products-requires c κs =
+add-rows-requires : tie.Need-add-rows-requires
+add-rows-requires c κs =
     let S = c .before .before .before .before .before .before .before .before in
     let m : ValidModulus (S .args .m) = S .pre .0 .0 in
     let positive : 0 < S .args .m .p = omega (arith, m .prime .large) in
@@ -45,20 +45,16 @@ from-words-requires : tie.Need-from-words-requires
 from-words-requires c κs =
     let S = c .before .before .before .before .before .before .before .before .before .before .before .before .before in
     let m : ValidModulus (S .args .m) = S .pre .0 .0 in
-    let called = c .before .before .before .before .add-products in
+    let called = c .before .before .before .before .add-rows in
     let long : length (called .last .0) ≡ 256 = search needs in
     let fits : c .larger .result - 1 ≤ 256 = omega (arith, c .larger .ensures, S .pre .0 .1 .within) in
     let small =
     products-small
     (S .args .m .p)
     (omega (arith, m .prime .large))
-    (S .args .self)
-    (S .args .t2)
-    (S .args .t3)
     (S .pre .0 .1)
     (S .pre .0 .2)
     (S .pre .0 .3)
-    (called .last .0)
     (called .ensures)
     (m .limit) in
     ((m, fits, omega arith), λ i lt. small (0 + i))
@@ -66,20 +62,16 @@ from-words-requires c κs =
 returns : tie.Need-returns
 returns c =
     let S = c .before .before .before .before .before .before .before .before .before .before .before .before .before .before in
-    let called = c .before .before .before .before .before .add-products in
+    let called = c .before .before .before .before .before .add-rows in
     let n = c .before .larger .result in
     represents-is
     (c .from-words .ensures)
     (products-are
     (S .args .m .p)
     (omega (arith, S .pre .0 .0 .prime .large))
-    (S .args .self)
-    (S .args .t2)
-    (S .args .t3)
     (S .pre .0 .1)
     (S .pre .0 .2)
     (S .pre .0 .3)
-    (called .last .0)
     (called .ensures)
     (n - 1)
     (omega (arith, c .before .larger .ensures))
@@ -89,8 +81,8 @@ pub add-product-spec : {M : Type 1} → statement M
 add-product-spec =
     tie.close
     (tie.spec
-    slice-aggregate-add-products
-    add-products-requires
+    slice-aggregate-add-rows
+    add-rows-requires
     slice-aggregate-from-words
     add-larger
     add-larger-2

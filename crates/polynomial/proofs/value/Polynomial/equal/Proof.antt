@@ -1,11 +1,11 @@
 -- Values of one size are compared word by word; of two sizes they differ.
-use mathlib.Core.Path.{_≡_, ap, _∙_}
+use mathlib.Core.Path.{_≡_, subst}
 use Prim.Native.Nat.{ℕ}
 use native.Mathlib.Omega.{arith}
 use lib.ListN.{length, take}
 use borrow.Author.Needs.{needs}
 use Rattle.polynomial.specs.Value.{coefficientsOf}
-use Rattle.polynomial.specs.Equal.{equal?}
+use Rattle.polynomial.specs.Decides.{Decides}
 use Rattle.polynomial.proofs.Compared.{compared-sizes}
 use Rattle.polynomial.proofs.value.Polynomial.equal.Statement.{statement}
 use Rattle.polynomial.proofs.value.Polynomial.equal.Tie as tie
@@ -27,8 +27,11 @@ unfolding coefficientsOf
 returns-2 c =
     let S = c .before .before .before .before .before .before .before .before in
     let same : S .args .t1 .size ≡ S .args .t2 .size = omega arith in
-    c .same-words .ensures
-    ∙ ap (λ (n : ℕ). equal? (take (S .args .t1 .size) (S .args .t1 .coefficients)) (take n (S .args .t2 .coefficients))) same
+    let f = S .args .t1 in
+    subst
+    (λ (n : ℕ). Decides (c .same-words .result) (take (f .size) (f .coefficients) ≡ take n (S .args .t2 .coefficients)))
+    same
+    (c .same-words .ensures)
 
 pub equal-spec : {M : Type 1} → statement M
 equal-spec = tie.close (tie.spec returns same-words-requires returns-2)

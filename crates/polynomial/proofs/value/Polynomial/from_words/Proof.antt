@@ -28,7 +28,7 @@ reduce-range-requires c κs =
     let by : Copied (S .args .words .now) (S .args .a) (S .args .n) (fresh .result) (copies .last .0) =
     record { few = S .pre .0 .1; room = fresh .ensures .0; zero = fresh .ensures .1; copies = copies .ensures } in
     let long : length (copies .last .0) ≡ 256 = search needs in
-    ((S .pre .0 .0, omega (arith, by .few)), λ j lt. rw (copied-word by j lt) (S .pre .1 j lt))
+    ((S .pre .0 .0, omega (arith, by .few)), λ j lt. rw (copied-word by j (omega arith)) (S .pre .1 j (omega arith)))
 
 slice-aggregate-find-leading : tie.Need-slice-aggregate-find-leading
 slice-aggregate-find-leading c = search needs
@@ -44,7 +44,7 @@ find-leading-requires c κs =
     record { few = S .pre .0 .1; room = fresh .ensures .0; zero = fresh .ensures .1; copies = copies .ensures } in
     let long : length (reduces .last .0) ≡ 256 = search needs in
     let small = residue-small by (S .args .m .p) (omega arith) (reduces .ensures) in
-    ((S .pre .0 .0, omega (arith, by .few)), λ j lt. omega (arith, small j lt))
+    ((S .pre .0 .0, omega (arith, by .few)), λ j lt. omega (arith, small j (omega arith)))
 
 returns : tie.Need-returns
 returns c =

@@ -3,7 +3,6 @@ use mathlib.Core.Path.{ap}
 use Prim.Native.Nat.{ℕ}
 use lib.Dec.{eqb}
 use borrow.Author.Needs.{needs}
-use Rattle.polynomial.specs.Value.{monic?}
 use Rattle.polynomial.proofs.value.Polynomial.is_monic.Statement.{statement}
 use Rattle.polynomial.proofs.value.Polynomial.is_monic.Tie as tie
 
@@ -11,7 +10,6 @@ leading-requires : tie.Need-leading-requires
 leading-requires c κs = search needs
 
 returns : tie.Need-returns
-unfolding monic?
 returns c = λ p. ap (λ (x : ℕ). eqb x 1) (c .leading .ensures p)
 
 pub is-monic-spec : {M : Type 1} → statement M

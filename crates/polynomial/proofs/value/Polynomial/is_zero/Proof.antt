@@ -4,7 +4,7 @@ use native.Mathlib.Omega.{arith}
 use lib.ListN.{length}
 use borrow.Author.Needs.{needs}
 use Rattle.polynomial.specs.Value.{coefficientsOf}
-use Rattle.polynomial.proofs.Made.{zero?-size}
+use Rattle.polynomial.proofs.Made.{decides-zero}
 use Rattle.polynomial.proofs.value.Polynomial.is_zero.Statement.{statement}
 use Rattle.polynomial.proofs.value.Polynomial.is_zero.Tie as tie
 
@@ -13,7 +13,7 @@ unfolding coefficientsOf
 returns c =
     let f = c .before .args .self in
     let room : length (f .coefficients) ≡ 256 = search needs in
-    zero?-size (f .size) (f .coefficients) (omega arith)
+    decides-zero (f .size) (f .coefficients) (omega arith)
 
 pub is-zero-spec : {M : Type 1} → statement M
 is-zero-spec = tie.close (tie.spec returns)

@@ -1,7 +1,8 @@
 -- Zero as it is; any other leading coefficient has an inverse.
-use mathlib.Core.Path.{sym, ap, _∙_}
+use mathlib.Core.Path.{_≡_, sym, ap, _∙_}
 use Prim.Native.Nat.{ℕ}
 use native.Mathlib.Omega.{arith}
+use lib.ListN.{length}
 use borrow.Author.Needs.{needs}
 use Rattle.algebra.specs.Coefficients.{leading, scale, monic}
 use Rattle.modular.specs.Modulo.{modulo}
@@ -15,7 +16,8 @@ use Rattle.polynomial.proofs.value.Polynomial.monic.Tie as tie
 returns : tie.Need-returns
 returns c =
     let S = c .before .before in
-    record { valid = S .pre .1; same = sym (monic-zero (S .args .m .p) (coefficientsOf (S .args .self)) (size-length _ _ (S .pre .1) ∙ omega arith)) }
+    let none : length (coefficientsOf (S .args .self)) ≡ 0 = size-length (S .args .m .p) (S .args .self) (S .pre .1) ∙ omega arith in
+    record { valid = S .pre .1; same = sym (monic-zero (S .args .m .p) (coefficientsOf (S .args .self)) none) }
 
 leading-requires : tie.Need-leading-requires
 leading-requires c κs = search needs
@@ -41,7 +43,9 @@ returns-2 c =
     let p : ℕ = S .args .m .p in
     represents-is
     (c .scale .ensures)
-    (ap (λ (x : ℕ). scale (modulo p) x (coefficientsOf (S .args .self))) (c .before .inverse .ensures ∙ ap (modulo p .inverse) (c .before .before .leading .ensures p)))
+    (ap
+    (λ (x : ℕ). scale (modulo p) x (coefficientsOf (S .args .self)))
+    (c .before .inverse .ensures ∙ ap (modulo p .inverse) (c .before .before .leading .ensures p)))
 
 pub monic-spec : {M : Type 1} → statement M
 monic-spec =

@@ -24,7 +24,9 @@ returns c =
     let p : ℕ = S .args .m .p in
     represents-is
     (c .add-product .ensures)
-    (ap (λ (f : List ℕ). add (modulo p) f (mul (modulo p) (coefficientsOf (S .args .self)) (coefficientsOf (S .args .g)))) (c .before .zero .ensures p .same))
+    (ap
+    (λ (f : List ℕ). add (modulo p) f (mul (modulo p) (coefficientsOf (S .args .self)) (coefficientsOf (S .args .g))))
+    (c .before .zero .ensures p .same))
 
 pub multiply-spec : {M : Type 1} → statement M
 multiply-spec = tie.close (tie.spec zero-requires add-product-requires returns)

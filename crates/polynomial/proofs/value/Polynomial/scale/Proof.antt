@@ -24,7 +24,9 @@ returns c =
     let p : ℕ = S .args .m .p in
     represents-is
     (c .add-multiple .ensures)
-    (ap (λ (f : List ℕ). add (modulo p) f (scale (modulo p) (S .args .c) (coefficientsOf (S .args .self)))) (c .before .zero .ensures p .same))
+    (ap
+    (λ (f : List ℕ). add (modulo p) f (scale (modulo p) (S .args .c) (coefficientsOf (S .args .self))))
+    (c .before .zero .ensures p .same))
 
 pub scale-spec : {M : Type 1} → statement M
 scale-spec = tie.close (tie.spec zero-requires add-multiple-requires returns)

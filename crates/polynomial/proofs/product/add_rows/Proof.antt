@@ -3,8 +3,8 @@ use Prim.Native.Nat.{_+_, _-_}
 use native.Mathlib.Omega.{arith}
 use borrow.Author.Needs.{needs}
 use Rattle.polynomial.proofs.Adding.{Adding, adding-start, adding-fits, adding-turn, adding-end}
-use Rattle.polynomial.proofs.product.add_products.Statement.{statement}
-use Rattle.polynomial.proofs.product.add_products.Tie as tie
+use Rattle.polynomial.proofs.product.add_rows.Statement.{statement}
+use Rattle.polynomial.proofs.product.add_rows.Tie as tie
 
 abbrev Inv-loop : tie.InvT-loop
 Inv-loop h₀ f n g k i₀ h i = Adding h₀ f n g k h i
@@ -27,7 +27,10 @@ add-scaled-requires c κs =
     let L = c .before .before .before .loop in
     let I : Adding (S .args .h .now) (S .args .f .now) (S .args .n) (S .args .g .now) (S .args .k) (L .h) (L .i) = L .inv in (
       (omega (arith, I .same-length), omega arith, omega (arith, S .pre .1 .1 (L .i))),
-      ((λ j lt. omega (arith, S .pre .1 .2 (0 + j))), adding-fits _ _ _ _ _ _ _ I (S .pre .0 .3) (S .pre .1 .0) (S .pre .1 .1) (S .pre .1 .2)),
+      (
+        (λ j lt. omega (arith, S .pre .1 .2 (0 + j))),
+        adding-fits _ _ _ _ _ _ _ I (S .pre .0 .3) (S .pre .1 .0) (S .pre .1 .1) (S .pre .1 .2),
+      ),
     )
 
 add-i : tie.Need-add-i Inv-loop μ-loop
@@ -49,8 +52,8 @@ same-length c = search needs
 returns : tie.Need-returns Inv-loop μ-loop
 returns c = adding-end _ _ _ _ _ _ _ (c .before .loop .inv) (omega arith)
 
-pub add-products-spec : {M : Type 1} → statement M
-add-products-spec =
+pub add-rows-spec : {M : Type 1} → statement M
+add-rows-spec =
     tie.close
     (tie.spec
     Inv-loop
