@@ -1,7 +1,7 @@
 -- The definitions compute: small examples.
 use mathlib.Core.Path.{_≡_, refl}
-use mathlib.Core.List.{List, [], _∷_}
-use Prim.Native.Nat.{ℕ, _+_}
+use mathlib.Core.List.{[], _∷_}
+use Prim.Native.Nat.{_+_}
 use Rattle.algebra.specs.Coefficients.{cons}
 use Rattle.modular.specs.Modulo.{modulo}
 use Rattle.vector.specs.Stored.{stored}

@@ -1,0 +1,171 @@
+-- What a writer answers, trial by trial, and that it leaves the lent words so.
+use mathlib.Core.Path.{_≡_, sym, ap, _∙_, subst}
+use mathlib.Core.List.{List, [], _∷_}
+use Prim.Native.Nat.{ℕ, _+_, _≤_, _<_}
+use native.Mathlib.Omega.{arith}
+use lib.ListN.{length}
+use borrow.Author.Tests.{lt-ltb, le-ltb}
+use Rattle.modular.specs.Canonical.{Canonical}
+use Rattle.words.specs.Word.{AllBelow}
+use Rattle.words.specs.Outcome.{Outcome, mapped}
+use Rattle.words.specs.Outcome.Outcome.{accepted, refused}
+use Rattle.words.specs.Polynomial.{Within, AllWithin}
+use Rattle.words.specs.Limits.{Limits}
+use Rattle.words.specs.Frame.{framedWords}
+use Rattle.words.specs.System.{Shape}
+use Rattle.words.specs.Certificate.{Form}
+use Rattle.words.specs.VectorLaws.{all-at}
+use Rattle.words.specs.WidthLaws.{below-nil, below-cons}
+use Rattle.writer.specs.declared.answer.Written.{Written}
+use Rattle.writer.specs.declared.answer.Written.the-variants.{Count, Refused}
+use Rattle.writer.specs.declared.format.Format.{Format}
+use Rattle.writer.specs.Writing.{passed, refuseShape, refusePolynomials, refuseRoom, writeSystem, writeCertificate, lentAfter}
+use Rattle.writer.specs.WritingLaws.{after, shape-first, polynomials-first, polynomials-passed}
+use Rattle.writer.specs.ValuesLaws.{length-polynomialIn, getD-polynomialsIn}
+use Rattle.writer.specs.Values.{polynomialIn, systemIn, certificateIn}
+use Rattle.writer.specs.Framing.{Writable, Wrote, entriesIn, writeFramed}
+use Rattle.writer.specs.Formats.{systemFormat, certificateFormat, system-framed, certificate-framed}
+use Rattle.writer.specs.Answer.{Writes}
+
+-- ---- a trial before the rest
+
+module _ (trial : Outcome (Unit {0})) (next outcome : Outcome (List ℕ)) (first : outcome ≡ after trial next) where
+  pub writes-refused : (entry : List ℕ) (number place : ℕ) → refused number place ≡ trial
+      → Writes outcome entry (Refused number place) entry
+  unfolding lentAfter
+  writes-refused entry number place e =
+      let o : outcome ≡ refused number place = first ∙ ap (λ (t : Outcome (Unit {0})). after t next) (sym e) in
+      record { told = sym (ap (mapped length) o); lent = sym (ap (λ (p : Outcome (List ℕ)). lentAfter p entry) o) }
+
+  pub writes-passed : (entry exit : List ℕ) (answer : Written) → passed ≡ trial → Writes next entry answer exit
+      → Writes outcome entry answer exit
+  writes-passed entry exit answer e w =
+      let o : outcome ≡ next = first ∙ ap (λ (t : Outcome (Unit {0})). after t next) (sym e) in
+      subst (λ (p : Outcome (List ℕ)). Writes p entry answer exit) (sym o) w
+
+-- ---- room
+
+module _ (longest lent : ℕ) (ws entry : List ℕ) where
+  pub writes-short : lent < longest → Writes (refuseRoom longest lent (accepted ws)) entry (Refused 11 0) entry
+  unfolding lentAfter
+  writes-short h = record { told = simp (lt-ltb lent longest h); lent = simp (lt-ltb lent longest h) }
+
+  pub writes-words : (exit : List ℕ) (n : ℕ) → longest ≤ lent → Wrote ws entry exit n
+      → Writes (refuseRoom longest lent (accepted ws)) entry (Count n) exit
+  unfolding lentAfter
+  writes-words exit n h w = record { told = simp (le-ltb lent longest h) (ap accepted (w .count)); lent = simp (le-ltb lent longest h) (w .words) }
+
+-- ---- polynomials in which nothing was refused can be written
+
+canonical-below : (p bound : ℕ) → p ≤ bound → 0 < bound → (f : List ℕ) → Canonical p f → AllBelow bound f
+unfolding Canonical
+canonical-below p bound small pos [] h = below-nil bound pos
+canonical-below p bound small pos (a ∷ f) h =
+    let b = h .0 in below-cons bound a f (omega arith) (canonical-below p bound small pos f (h .2))
+
+writable : (format : Format) (sizes coefficients : List ℕ) (p : ℕ) → p ≤ 268435456
+    → AllWithin p (format .limit) (entriesIn format sizes coefficients)
+    → Writable format sizes coefficients
+writable format sizes coefficients p small all = record {
+  few = λ k h. omega (arith, within k h .size, length-polynomialIn (format .limit) sizes coefficients k);
+  payloads =
+      λ k h. canonical-below p 268435456 small (omega arith) (polynomialIn (format .limit) sizes coefficients k) (within k h .canonical);
+}
+  where
+    within : (k : ℕ) → k < format .count → Within p (format .limit) (polynomialIn (format .limit) sizes coefficients k)
+    within k h =
+        let z : _≡_ {A = ℕ} (0 + k) k = omega arith in
+        subst (Within p (format .limit)) (getD-polynomialsIn (format .limit) sizes coefficients 0 (format .count) k h ∙ ap (polynomialIn (format .limit) sizes coefficients) z)
+        (all-at p (format .limit) (entriesIn format sizes coefficients) all k)
+
+-- ---- what writing values gives
+
+module _ (format : Format) (p : ℕ) (sizes coefficients : List ℕ) where
+  abbrev entries : List (List ℕ)
+  entries = entriesIn format sizes coefficients
+
+  -- the polynomials by themselves
+  abbrev pub trial : Outcome (Unit {0})
+  trial = refusePolynomials p (format .limit) (format .by) 1 entries passed
+
+  pub values-writable : passed ≡ trial → p ≤ 268435456 → Writable format sizes coefficients
+  values-writable e small =
+      writable format sizes coefficients p small (polynomials-passed p (format .limit) (format .by) passed 1 entries (sym e) .0)
+
+  module _ (lent : List ℕ) where
+    abbrev all : Outcome (List ℕ)
+    all = writeFramed format p (length lent) sizes coefficients
+
+    -- what comes behind the polynomials
+    abbrev rest : Outcome (List ℕ)
+    rest = refuseRoom (format .longest) (length lent) (accepted (framedWords (format .head) entries))
+
+    trial-first : all ≡ after trial rest
+    trial-first = polynomials-first p (format .limit) (format .by) rest 1 entries
+
+    pub values-refused : (number place : ℕ) → refused number place ≡ trial → Writes all lent (Refused number place) lent
+    values-refused = writes-refused trial rest all trial-first lent
+
+    pub values-short : passed ≡ trial → length lent < format .longest → Writes all lent (Refused 11 0) lent
+    values-short e h =
+        writes-passed trial rest all trial-first lent lent (Refused 11 0) e (writes-short (format .longest) (length lent) (framedWords (format .head) entries) lent h)
+
+    pub values-words : passed ≡ trial → format .longest ≤ length lent → (exit : List ℕ) (n : ℕ)
+        → Wrote (framedWords (format .head) entries) lent exit n
+        → Writes all lent (Count n) exit
+    values-words e h exit n w =
+        writes-passed trial rest all trial-first lent exit (Count n) e (writes-words (format .longest) (length lent) (framedWords (format .head) entries) lent exit n h w)
+
+-- ---- a shape before values
+
+module _ (limits : Limits) (h : Shape) (format : Format) (sizes coefficients lent : List ℕ) {outcome : Outcome (List ℕ)}
+    (framed : outcome ≡ refuseShape limits h (writeFramed format (h .modulus) (length lent) sizes coefficients))
+  where
+    -- first the shape, then the values
+    first : outcome ≡ after (refuseShape limits h passed) (writeFramed format (h .modulus) (length lent) sizes coefficients)
+    first = framed ∙ shape-first limits h (writeFramed format (h .modulus) (length lent) sizes coefficients)
+
+    shape-refused : (number place : ℕ) → refused number place ≡ refuseShape limits h passed
+        → Writes outcome lent (Refused number place) lent
+    shape-refused = writes-refused _ _ outcome first lent
+
+    -- the format is what code computed
+    shape-written : {computed : Format} {answer : Written} {exit : List ℕ} → passed ≡ refuseShape limits h passed
+        → computed ≡ format
+        → Writes (writeFramed computed (h .modulus) (length lent) sizes coefficients) lent answer exit
+        → Writes outcome lent answer exit
+    shape-written {computed} {answer} {exit} e f w =
+        writes-passed _ _ outcome first lent exit answer e
+        (subst (λ (g : Format). Writes (writeFramed g (h .modulus) (length lent) sizes coefficients) lent answer exit) f w)
+
+module _ (limits : Limits) (h : Shape) (sizes coefficients lent : List ℕ) where
+  abbrev system : Outcome (List ℕ)
+  system = writeSystem limits (length lent) (systemIn limits h sizes coefficients)
+
+  pub system-refused : (number place : ℕ) → refused number place ≡ refuseShape limits h passed
+      → Writes system lent (Refused number place) lent
+  system-refused =
+      shape-refused limits h (systemFormat limits h) sizes coefficients lent (system-framed limits h sizes coefficients (length lent))
+
+  pub system-written : {computed : Format} {answer : Written} {exit : List ℕ} → passed ≡ refuseShape limits h passed
+      → computed ≡ systemFormat limits h
+      → Writes (writeFramed computed (h .modulus) (length lent) sizes coefficients) lent answer exit
+      → Writes system lent answer exit
+  system-written =
+      shape-written limits h (systemFormat limits h) sizes coefficients lent (system-framed limits h sizes coefficients (length lent))
+
+  module _ (form : Form) where
+    abbrev certificate : Outcome (List ℕ)
+    certificate = writeCertificate limits (length lent) h (certificateIn limits h form sizes coefficients)
+
+    pub certificate-refused : (number place : ℕ) → refused number place ≡ refuseShape limits h passed
+        → Writes certificate lent (Refused number place) lent
+    certificate-refused =
+        shape-refused limits h (certificateFormat limits h form) sizes coefficients lent (certificate-framed limits h sizes coefficients (length lent) form)
+
+    pub certificate-written : {computed : Format} {answer : Written} {exit : List ℕ} → passed ≡ refuseShape limits h passed
+        → computed ≡ certificateFormat limits h form
+        → Writes (writeFramed computed (h .modulus) (length lent) sizes coefficients) lent answer exit
+        → Writes certificate lent answer exit
+    certificate-written =
+        shape-written limits h (certificateFormat limits h form) sizes coefficients lent (certificate-framed limits h sizes coefficients (length lent) form)

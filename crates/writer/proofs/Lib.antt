@@ -1,0 +1,6 @@
+pub mod Coefficients
+pub mod Polynomials
+pub mod Overwriting
+pub mod Framed
+pub mod Answers
+pub mod Ready

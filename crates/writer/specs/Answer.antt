@@ -1,0 +1,36 @@
+-- What the answers of the writers and of their trials say, in document 01's numbers and values.
+use Prim.Native.Nat.{ℕ}
+use mathlib.Core.Path.{_≡_}
+use mathlib.Core.List.{List}
+use lib.ListN.{length}
+use Rattle.words.specs.Outcome.{Outcome, mapped}
+use Rattle.words.specs.Outcome.Outcome.{accepted, refused}
+use Rattle.writer.specs.declared.answer.Written.{Written}
+use Rattle.writer.specs.declared.answer.Written.the-variants as written
+use Rattle.writer.specs.declared.answer.Tried.{Tried}
+use Rattle.writer.specs.declared.answer.Tried.the-variants as tried
+use Rattle.words.specs.Certificate.{Form}
+use Rattle.words.specs.Certificate.Form.{solving, absent}
+use Rattle.writer.specs.declared.certificate.Form.{Form as FormValue}
+use Rattle.writer.specs.declared.certificate.Form.the-variants as form
+use Rattle.writer.specs.Writing.{lentAfter}
+
+-- the count of the words, or number and place
+abbrev pub answerOf : Written → Outcome ℕ
+answerOf (written.Count n) = accepted n
+answerOf (written.Refused number place) = refused number place
+
+-- nothing refused, or number and place
+abbrev pub trialOf : Tried → Outcome (Unit {0})
+trialOf tried.Passed = accepted tt
+trialOf (tried.Refused number place) = refused number place
+
+-- which kind of certificate is handed over
+abbrev pub formOf : FormValue → Form
+formOf form.Solution = solving
+formOf form.Absence = absent
+
+-- a writer that is to give an outcome answers with it, and leaves the lent words so
+pub record Writes (outcome : Outcome (List ℕ)) (entry : List ℕ) (answer : Written) (exit : List ℕ) : Type 0 where
+  pub told : answerOf answer ≡ mapped length outcome
+  pub lent : exit ≡ lentAfter outcome entry

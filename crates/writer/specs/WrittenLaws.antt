@@ -1,0 +1,172 @@
+-- What the writers write: the written forms of values within the limits, and of all these where there is room. So a reader gives
+-- the values back.
+use mathlib.Core.Path.{_≡_, sym, ap, _∙_}
+use mathlib.Core.List.{List, [], _∷_, _++_}
+use Prim.Native.Nat.{ℕ, _≤_}
+use native.Mathlib.Omega.{arith}
+use lib.ListN.{length, take, drop}
+use lib.Seq.{take-at}
+use lib.Dec.{ltb}
+use borrow.Author.Tests.{ltb-false, le-ltb}
+use Rattle.words.specs.Limits.{Limits, longestSystem, longestCertificate}
+use Rattle.words.specs.Outcome.{Outcome}
+use Rattle.words.specs.Outcome.Outcome.{accepted, refused}
+use Rattle.words.specs.Polynomial.{AllWithin}
+use Rattle.words.specs.System.{System, Shape, shape, ShapeWithin, SystemWithin, systemWords, systemEntries, readSystem}
+use Rattle.words.specs.Certificate.{Certificate, Form, SolutionWithin, CertificateWithin, certificateWords, certificateEntries, readCertificate}
+use Rattle.words.specs.Certificate.Form.{solving, absent}
+use Rattle.words.specs.LimitsLaws.{LimitsFit}
+use Rattle.words.specs.SystemLaws.{system-laws, system-read-of-written}
+use Rattle.words.specs.CertificateLaws.{certificate-laws, certificate-read-of-written}
+use Rattle.writer.specs.Writing.{refuseShape, refusePolynomials, refuseRoom, writeSystem, writeCertificate, lentAfter}
+use Rattle.writer.specs.WritingLaws.{refuse-passed, shape-passed, shape-within, polynomials-passed, polynomials-within}
+use Rattle.writer.specs.Values.{systemIn, certificateIn}
+use Rattle.writer.specs.ValuesLaws.{length-polynomialsIn}
+use Rattle.writer.specs.declared.answer.Written.the-variants.{Count}
+use Rattle.writer.specs.Answer.{Writes}
+
+-- ---- both writers
+
+module _ (limits : Limits) (h : Shape) (limit by longest lent : ℕ) (fs : List (List ℕ)) (words : List ℕ) where
+  -- all that is tried, in order
+  abbrev write : Outcome (List ℕ)
+  write = refuseShape limits h (refusePolynomials (h .modulus) limit by 1 fs (refuseRoom longest lent (accepted words)))
+
+  record WriteAccepted (ws : List ℕ) : Type 0 where
+    shape : ShapeWithin limits h
+    entries : AllWithin (h .modulus) limit fs
+    room : longest ≤ lent
+    form : words ≡ ws
+
+  write-accepted : (ws : List ℕ) → write ≡ accepted ws → WriteAccepted ws
+  write-accepted ws e =
+      let s = shape-passed limits h _ e in
+      let f = polynomials-passed (h .modulus) limit by _ 1 fs (s .1) in
+      let r = refuse-passed (ltb lent longest) 11 0 (accepted words) (f .1) in
+      record { shape = s .0; entries = f .0; room = ltb-false lent longest (r .0); form = cc }
+
+  write-within : ShapeWithin limits h → AllWithin (h .modulus) limit fs → longest ≤ lent → write ≡ accepted words
+  write-within shape entries room =
+      let last = refuseRoom longest lent (accepted words) in
+      shape-within limits h (refusePolynomials (h .modulus) limit by 1 fs last) shape
+      ∙ polynomials-within (h .modulus) limit by last 1 fs entries
+      ∙ simp (le-ltb lent longest room)
+
+all-split : (p limit : ℕ) (fs gs : List (List ℕ)) → AllWithin p limit (fs ++ gs) → AllWithin p limit fs × AllWithin p limit gs
+unfolding AllWithin
+all-split p limit [] gs h = (tt, h)
+all-split p limit (f ∷ fs) gs h = let t = all-split p limit fs gs (h .1) in ((h .0, t .0), t .1)
+
+-- ---- systems
+
+module _ (limits : Limits) (lent : ℕ) where
+  pub system-writes : LimitsFit limits → (s : System) → SystemWithin limits s → longestSystem limits ≤ lent
+      → writeSystem limits lent s ≡ accepted (systemWords s)
+  unfolding writeSystem
+  system-writes fit s h room =
+      write-within limits (shape s) (limits .systemCoefficients) 0 (longestSystem limits) lent (systemEntries s) (systemWords s) (h .shape)
+      (system-laws limits fit .apart s h .entries .entries) room
+
+  module _ (h : Shape) (sizes coefficients : List ℕ) where
+    abbrev system : System
+    system = systemIn limits h sizes coefficients
+
+    pub system-accepted : (ws : List ℕ) → writeSystem limits lent system ≡ accepted ws
+        → SystemWithin limits system × (systemWords system ≡ ws)
+    unfolding writeSystem systemIn
+    system-accepted ws e =
+        let limit = limits .systemCoefficients in
+        let w = write-accepted limits h limit 0 (longestSystem limits) lent (systemEntries system) (systemWords system) ws e in
+        let each = all-split (h .modulus) limit (system .matrix) (system .right) (w .entries) in (
+          record {
+            shape = w .shape;
+            matrix = record { entries = each .0; count = length-polynomialsIn limit sizes coefficients _ _ };
+            right = record { entries = each .1; count = length-polynomialsIn limit sizes coefficients _ _ };
+          },
+          w .form,
+        )
+
+    pub system-written-is-read : LimitsFit limits → (ws : List ℕ) → writeSystem limits lent system ≡ accepted ws
+        → readSystem limits ws ≡ accepted system
+    system-written-is-read fit ws e =
+        let w = system-accepted ws e in
+        ap (readSystem limits) (sym (w .1)) ∙ system-read-of-written limits fit system (w .0)
+
+-- ---- certificates
+
+module _ (limits : Limits) (lent : ℕ) (h : Shape) where
+  pub certificate-writes : ShapeWithin limits h → (c : Certificate) → CertificateWithin limits h c
+      → longestCertificate limits ≤ lent
+      → writeCertificate limits lent h c ≡ accepted (certificateWords c)
+  unfolding writeCertificate
+  certificate-writes shape c k room =
+      write-within limits h (limits .certificateCoefficients) 20 (longestCertificate limits) lent (certificateEntries c) (certificateWords c) shape
+      (certificate-laws limits h .apart c k .entries .entries) room
+
+  solution-within : (d : List ℕ) (N : List (List ℕ)) (w : List ℕ) (Z : List (List ℕ)) → length N ≡ h .columns → length Z ≡ h .rows
+      → AllWithin (h .modulus) (limits .certificateCoefficients) (d ∷ N ++ w ∷ Z) → SolutionWithin limits h d N w Z
+  unfolding AllWithin
+  solution-within d N w Z eN eZ k =
+      let each = all-split (h .modulus) (limits .certificateCoefficients) N (w ∷ Z) (k .1) in
+      record {
+        denominator = k .0;
+        numerators = record { entries = each .0; count = eN };
+        certifyingDenominator = each .1 .0;
+        certifyingNumerators = record { entries = each .1 .1; count = eZ };
+      }
+
+  module _ (sizes coefficients : List ℕ) where
+    abbrev certificate : Form → Certificate
+    certificate form = certificateIn limits h form sizes coefficients
+
+    certificate-within : (form : Form)
+        → AllWithin (h .modulus) (limits .certificateCoefficients) (certificateEntries (certificate form))
+        → CertificateWithin limits h (certificate form)
+    unfolding certificateIn certificateEntries CertificateWithin
+    certificate-within solving k =
+        let count = length-polynomialsIn (limits .certificateCoefficients) sizes coefficients in
+        solution-within _ _ _ _ (count _ _) (count _ _) k
+    certificate-within absent k = record { entries = k; count = length-polynomialsIn (limits .certificateCoefficients) sizes coefficients _ _ }
+
+    pub record CertificateWritten (form : Form) (ws : List ℕ) : Type 0 where
+      pub shape : ShapeWithin limits h
+      pub within : CertificateWithin limits h (certificate form)
+      pub words : certificateWords (certificate form) ≡ ws
+
+    pub certificate-accepted : (form : Form) (ws : List ℕ) → writeCertificate limits lent h (certificate form) ≡ accepted ws
+        → CertificateWritten form ws
+    unfolding writeCertificate
+    certificate-accepted form ws e =
+        let c = certificate form in
+        let w = write-accepted limits h (limits .certificateCoefficients) 20 (longestCertificate limits) lent (certificateEntries c) (certificateWords c) ws e in
+        record { shape = w .shape; within = certificate-within form (w .entries); words = w .form }
+
+    pub certificate-written-is-read : LimitsFit limits → (form : Form) (ws : List ℕ)
+        → writeCertificate limits lent h (certificate form) ≡ accepted ws
+        → readCertificate limits h ws ≡ accepted (certificate form)
+    certificate-written-is-read fit form ws e =
+        let w = certificate-accepted form ws e in
+        ap (readCertificate limits h) (sym (w .words))
+        ∙ certificate-read-of-written limits h fit (w .shape) (certificate form) (w .within)
+
+-- ---- a call that answers with a count: the first so many of the lent words are the written form, and read as the values
+
+pub count-words : (outcome : Outcome (List ℕ)) {entry exit : List ℕ} {n : ℕ} → Writes outcome entry (Count n) exit
+    → outcome ≡ accepted (take n exit)
+unfolding lentAfter
+count-words (accepted ws) {entry} {exit} {n} w =
+    let t = w .told in
+    let e : n ≡ length ws = cc in
+    ap accepted (sym (ap (take n) (w .lent) ∙ take-at ws (drop (length ws) entry) n (sym e)))
+count-words (refused number place) w = absurd (let t = w .told in let z : _≡_ {A = ℕ} 0 1 = cc in omega arith)
+
+module _ (limits : Limits) (fit : LimitsFit limits) (h : Shape) (sizes coefficients : List ℕ) {entry exit : List ℕ} {n : ℕ} where
+  pub system-call-is-read : Writes (writeSystem limits (length entry) (systemIn limits h sizes coefficients)) entry (Count n) exit
+      → readSystem limits (take n exit) ≡ accepted (systemIn limits h sizes coefficients)
+  system-call-is-read w = system-written-is-read limits (length entry) h sizes coefficients fit (take n exit) (count-words _ w)
+
+  pub certificate-call-is-read : (form : Form)
+      → Writes (writeCertificate limits (length entry) h (certificateIn limits h form sizes coefficients)) entry (Count n) exit
+      → readCertificate limits h (take n exit) ≡ accepted (certificateIn limits h form sizes coefficients)
+  certificate-call-is-read form w =
+      certificate-written-is-read limits (length entry) h sizes coefficients fit form (take n exit) (count-words _ w)
