@@ -4,21 +4,28 @@ mod input;
 mod operations;
 mod output;
 
-use input::read_case;
-use operations::run;
+use cases::input::CASES;
+use cases::input::WORDS;
+use cases::input::read_words;
 
-// Standard input holds at most so many cases.
-const CASES: usize = 65536;
+// The next case; whether there was one.
+fn run() -> bool {
+    let mut case = [0u32; WORDS];
+    let list = read_words(&mut case);
+    if !list.found {
+        return false;
+    }
+    let n = list.count;
+    operations::run(&case[0..n]);
+    true
+}
 
 fn main() {
-    let mut case = io::buffer();
     let mut left = CASES;
     while 0 < left {
-        let n = read_case(&mut case);
-        if n == 0 {
+        if !run() {
             return;
         }
-        run(&case[..n]);
-        left -= 1;
+        left = left - 1;
     }
 }

@@ -1,10 +1,10 @@
 // The operations by their codes.
 use crate::input::read_operand;
 use crate::input::word;
-use crate::output::number;
 use crate::output::show;
-use crate::output::skipped;
-use crate::output::text;
+use cases::output::number;
+use cases::output::skipped;
+use cases::output::text;
 use division::gcd;
 use division::quotient;
 use division::remainder;
@@ -16,7 +16,7 @@ ghost use Rattle.residue.specs.Modulus.{ValidModulus};
 ghost use Rattle.polynomial.specs.Value.{ValidPolynomial};
 
 // A case: its code, p and operands.
-pub fn run(case: &[u8]) {
+pub fn run(case: &[u32]) {
     let code = word(case, 0);
     let p = word(case, 1);
     if 65535 < p {
@@ -39,8 +39,7 @@ pub fn run(case: &[u8]) {
     }
 }
 
-// The operations modulo a prime.
-fn modulo(case: &[u8], code: u64, m: Modulus)
+fn modulo(case: &[u32], code: u64, m: Modulus)
     requires { ⌜ ValidModulus m ⌝ }
 {
     match code {
@@ -80,7 +79,7 @@ fn residues(a: u64, b: u64, m: Modulus)
 }
 
 // c f.
-fn multiple(case: &[u8], m: Modulus)
+fn multiple(case: &[u32], m: Modulus)
     requires { ⌜ ValidModulus m ⌝ }
 {
     let c = word(case, 2);
@@ -96,7 +95,7 @@ fn multiple(case: &[u8], m: Modulus)
 }
 
 // f made monic.
-fn associate(case: &[u8], m: Modulus)
+fn associate(case: &[u32], m: Modulus)
     requires { ⌜ ValidModulus m ⌝ }
 {
     let operand = read_operand(case, 2, m);
@@ -108,8 +107,7 @@ fn associate(case: &[u8], m: Modulus)
     }
 }
 
-// An operation on two polynomials.
-fn two(case: &[u8], code: u64, m: Modulus)
+fn two(case: &[u32], code: u64, m: Modulus)
     requires { ⌜ ValidModulus m ⌝ }
 {
     let first = read_operand(case, 2, m);
@@ -125,7 +123,7 @@ fn two(case: &[u8], code: u64, m: Modulus)
     skipped();
 }
 
-// The operation that the code names.
+// The operations on two polynomials.
 fn together(code: u64, f: Polynomial, g: Polynomial, m: Modulus)
     requires { ⌜ ValidModulus m × ValidPolynomial (m .p) f × ValidPolynomial (m .p) g ⌝ }
 {
@@ -139,7 +137,6 @@ fn together(code: u64, f: Polynomial, g: Polynomial, m: Modulus)
     }
 }
 
-// The product, where a value can hold it.
 fn product(f: Polynomial, g: Polynomial, m: Modulus)
     requires { ⌜ ValidModulus m × ValidPolynomial (m .p) f × ValidPolynomial (m .p) g ⌝ }
 {
@@ -150,7 +147,6 @@ fn product(f: Polynomial, g: Polynomial, m: Modulus)
     }
 }
 
-// Whether f and g are equal.
 fn compare(f: Polynomial, g: Polynomial)
     requires { ⌜ (f .size ≤ 256) × (g .size ≤ 256) ⌝ }
 {

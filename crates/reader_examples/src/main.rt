@@ -1,4 +1,7 @@
 // Runs the readers on the example inputs of document 01's table "Turned back" and on the edges of case 11, a line for each.
+use cases::output::number;
+use cases::output::refused;
+use cases::output::text;
 use limits::Limits;
 use limits::Office;
 use limits::Panel;
@@ -10,26 +13,18 @@ use reader::system::Shape;
 use reader::system::SystemRead;
 use reader::system::read_system;
 
-fn refused(number: u8, place: usize) {
-    io::write_all(1, b"refused ");
-    io::print_decimal(1, number as u64);
-    io::write_all(1, b" at ");
-    io::print_decimal(1, place as u64);
-    io::write_all(1, b"\n");
-}
-
 fn show(answer: SystemRead) {
     match answer {
         SystemRead::Accepted(shape) => {
-            io::write_all(1, b"system modulo ");
-            io::print_decimal(1, shape.modulus as u64);
-            io::write_all(1, b", rows ");
-            io::print_decimal(1, shape.rows as u64);
-            io::write_all(1, b", columns ");
-            io::print_decimal(1, shape.columns as u64);
-            io::write_all(1, b"\n");
+            text(b"system modulo ");
+            number(shape.modulus as u64);
+            text(b", rows ");
+            number(shape.rows as u64);
+            text(b", columns ");
+            number(shape.columns as u64);
+            text(b"\n");
         }
-        SystemRead::Refused(number, place) => refused(number, place),
+        SystemRead::Refused(refusal, place) => refused(refusal, place),
     }
 }
 
@@ -48,15 +43,11 @@ fn certificate(words: &[u32]) {
     match answer {
         CertificateRead::Accepted(form) => {
             match form {
-                Form::Solution => {
-                    io::write_all(1, b"solution\n");
-                }
-                Form::Absence => {
-                    io::write_all(1, b"absence\n");
-                }
+                Form::Solution => text(b"solution\n"),
+                Form::Absence => text(b"absence\n"),
             }
         }
-        CertificateRead::Refused(number, place) => refused(number, place),
+        CertificateRead::Refused(refusal, place) => refused(refusal, place),
     }
 }
 

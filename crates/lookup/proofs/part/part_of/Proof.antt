@@ -1,0 +1,65 @@
+-- `lookup::part::part_of` meets its contract: what stands at the place to which the start words lead.
+use mathlib.Core.Path.{sym, _∙_}
+use native.Mathlib.Omega.{arith}
+use Rattle.lookup.proofs.Walk.{stands-inside, stands-none, stands-more, stands-shown}
+use borrow.Author.Needs.{needs}
+use Rattle.lookup.proofs.part.part_of.Statement.{statement}
+use Rattle.lookup.proofs.part.part_of.Tie as tie
+
+start-of-requires : tie.Need-start-of-requires
+start-of-requires c κs = search needs
+
+mul-word : tie.Need-mul-word
+mul-word c =
+    let h = stands-inside (c .start-of .ensures) (c .before .before .pre) in
+    search needs
+
+shared-slice-read-word : tie.Need-shared-slice-read-word
+shared-slice-read-word c = stands-inside (c .before .start-of .ensures) (c .before .before .before .pre)
+
+kind-of-requires : tie.Need-kind-of-requires
+kind-of-requires c κs = search needs
+
+returns : tie.Need-returns
+returns c =
+    let k = c .before in
+    stands-none (k .before .before .start-of .ensures) (λ e. c .if1 .taken (k .kind-of .ensures ∙ e))
+
+add-t5 : tie.Need-add-t5
+add-t5 c =
+    let s = c .before .before .before in
+    omega (arith, stands-inside (s .start-of .ensures) (s .before .before .pre))
+
+payload-of-requires : tie.Need-payload-of-requires
+payload-of-requires c κs = search needs
+
+cast-t9 : tie.Need-cast-t9
+cast-t9 c = search needs
+
+add-t10 : tie.Need-add-t10
+add-t10 c =
+    let k = c .before .before in
+    let s = k .before .before in
+    let two = sym (k .kind-of .ensures) ∙ c .before .if1 .left in
+    omega (arith, stands-more (s .start-of .ensures) two _ (c .payload-of .ensures) (s .before .before .pre))
+
+returns-2 : tie.Need-returns-2
+returns-2 c =
+    let k = c .before .before in
+    let two = sym (k .kind-of .ensures) ∙ c .before .if1 .left in
+    stands-shown (k .before .before .start-of .ensures) two _ (c .payload-of .ensures)
+
+pub part-of-spec : {M : Type 1} → statement M
+part-of-spec =
+    tie.close
+    (tie.spec
+    start-of-requires
+    mul-word
+    shared-slice-read-word
+    kind-of-requires
+    returns
+    add-t5
+    payload-of-requires
+    cast-t9
+    add-t10
+    returns-2)

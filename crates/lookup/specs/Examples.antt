@@ -1,0 +1,39 @@
+-- The definition computes: case 1's system and certificate, each of their polynomials, and the example of row 12.
+use mathlib.Core.Path.{_≡_, refl}
+use mathlib.Core.List.{List, [], _∷_, map}
+use Prim.Native.Nat.{ℕ}
+use Rattle.words.specs.Limits.{office}
+use Rattle.words.specs.Outcome.Outcome.{accepted, refused}
+use Rattle.lookup.specs.Lookup.{polynomialLookup}
+use Rattle.lookup.specs.Lookup.Side.{system, certificate}
+
+system-words : List ℕ
+system-words = 0x10110002 ∷ 0x20000002 ∷ 0x30000000 ∷ 0x30000001 ∷ 0x20000001 ∷ 0x30000001 ∷ 0x40000007 ∷ []
+
+certificate-words : List ℕ
+certificate-words =
+    0x50000001 ∷ 0x20000002 ∷ 0x30000000 ∷ 0x30000001 ∷ 0x20000001 ∷ 0x30000001 ∷ 0x20000002 ∷ 0x30000000 ∷ 0x30000001
+    ∷ 0x20000001 ∷ 0x30000001 ∷ 0x4000000C
+    ∷ []
+
+x : List ℕ
+x = 0x20000002 ∷ 0x30000000 ∷ 0x30000001 ∷ []
+
+one : List ℕ
+one = 0x20000001 ∷ 0x30000001 ∷ []
+
+-- x, then 1, then no more
+system-words-shown : map (polynomialLookup office system-words certificate-words system) (0 ∷ 1 ∷ 2 ∷ []) ≡ accepted x ∷ accepted one ∷ refused 12 0 ∷ []
+unfolding polynomialLookup system-words certificate-words x one
+system-words-shown = refl
+
+certificate-words-shown : map (polynomialLookup office system-words certificate-words certificate) (0 ∷ 1 ∷ 2 ∷ 3 ∷ 4 ∷ [])
+    ≡ accepted x ∷ accepted one ∷ accepted x ∷ accepted one ∷ refused 12 0 ∷ []
+unfolding polynomialLookup system-words certificate-words x one
+certificate-words-shown = refl
+
+-- both are read, whichever is asked for, and the system first
+first-read : polynomialLookup office [] [] certificate 0 ∷ polynomialLookup office system-words [] system 2 ∷ []
+    ≡ refused 4 0 ∷ refused 24 0 ∷ []
+unfolding polynomialLookup system-words
+first-read = refl

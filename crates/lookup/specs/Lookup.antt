@@ -1,0 +1,46 @@
+-- The lookup (document 01, end of "Turned back"): it "reads sheet and card likewise, then tries 12 and none of 31 to 36, then shows
+-- one polynomial of either".
+use Prim.Native.Nat.{ℕ}
+use mathlib.Core.List.{List, []}
+use lib.ListN.{length, getD}
+use lib.Dec.{leb}
+use Rattle.words.specs.Limits.{Limits}
+use Rattle.words.specs.Outcome.{Outcome, refuse, followedBy, mapped}
+use Rattle.words.specs.Outcome.Outcome.{accepted, refused}
+use Rattle.words.specs.Polynomial.{polynomialWords}
+use Rattle.words.specs.System.{System, shape, systemEntries, readSystem}
+use Rattle.words.specs.Certificate.{Certificate, certificateEntries, readCertificate}
+
+-- which of the two is asked for
+pub data Side : Type 0 where
+  system : Side
+  certificate : Side
+
+-- what stands on a side
+abbrev pub on : {A : Type 0} → Side → A → A → A
+on system a b = a
+on certificate a b = b
+
+-- "Polynomials count from 0 in written order, on each side."
+abbrev pub entriesOn : Side → System → Certificate → List (List ℕ)
+entriesOn side s c = on side (systemEntries s) (certificateEntries c)
+
+-- the words of the polynomial of that number, "from its start word to its last coefficient"
+abbrev pub shown : ℕ → List (List ℕ) → Outcome (List ℕ)
+shown k fs = refuse (leb (length fs) k) 12 0 (accepted (polynomialWords (getD fs k [])))  -- 12: no polynomial of that number; 0
+
+unfoldable pub polynomialLookup : Limits → List ℕ → List ℕ → Side → ℕ → Outcome (List ℕ)
+unfolding readSystem readCertificate certificateEntries polynomialWords
+polynomialLookup limits ss cs side k =
+    followedBy (readSystem limits ss) (λ s.
+    followedBy (readCertificate limits (shape s) cs) (λ c.
+    shown k (entriesOn side s c)))
+
+-- "On a refusal the part is empty"
+abbrev pub wordsShown : Outcome (List ℕ) → List ℕ
+wordsShown (accepted ws) = ws
+wordsShown (refused number place) = []
+
+-- "a companion call on the same words gives number and place"
+abbrev pub companion : Outcome (List ℕ) → Outcome (Unit {0})
+companion told = mapped (λ ws. tt) told

@@ -1,0 +1,31 @@
+-- Outcomes taken apart: what stood behind one that was accepted, or refused.
+use mathlib.Core.Path.{_≡_, refl}
+use mathlib.Core.Bool.{Bool, true, false}
+use Prim.Native.Nat.{ℕ}
+use native.Mathlib.Omega.{arith}
+use Rattle.words.specs.Outcome.{Outcome, refuse, followedBy, mapped}
+use Rattle.words.specs.Outcome.Outcome.{accepted, refused}
+
+-- a refusal gives no value
+pub refused-accepted : {A : Type 0} {number place : ℕ} {a : A} → refused number place ≡ accepted a → ⊥
+refused-accepted e = let z : _≡_ {A = ℕ} 0 1 = cc in omega arith
+
+module _ {A B : Type 0} where
+  pub mapped-accepted : (f : A → B) (o : Outcome A) {b : B} → mapped f o ≡ accepted b → (a : A) × (o ≡ accepted a) × (f a ≡ b)
+  mapped-accepted f (accepted a) e = (a, refl, cc)
+  mapped-accepted f (refused number place) e = absurd (refused-accepted e)
+
+  pub mapped-refused : (f : A → B) (o : Outcome A) {number place : ℕ} → mapped f o ≡ refused number place → o ≡ refused number place
+  mapped-refused f (accepted a) e = absurd (let z : _≡_ {A = ℕ} 0 1 = cc in omega arith)
+  mapped-refused f (refused n p) e = cc
+
+  pub followedBy-accepted : (o : Outcome A) (next : A → Outcome B) {b : B} → followedBy o next ≡ accepted b
+      → (a : A) × (o ≡ accepted a) × (next a ≡ accepted b)
+  followedBy-accepted (accepted a) next e = (a, refl, e)
+  followedBy-accepted (refused number place) next e = absurd (refused-accepted e)
+
+-- a row that was passed
+pub refuse-accepted : {A : Type 0} (t : Bool) (number place : ℕ) (next : Outcome A) {a : A} → refuse t number place next ≡ accepted a
+    → (t ≡ false) × (next ≡ accepted a)
+refuse-accepted true number place next e = absurd (refused-accepted e)
+refuse-accepted false number place next e = (refl, e)

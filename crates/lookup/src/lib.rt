@@ -1,0 +1,106 @@
+// The lookup of one polynomial of a system or of a certificate (document 01, end of "Turned back"). `lookup` gives its words as a
+// part of the lent words, and its companion `lookup_refusal` says why there are none.
+mod part;
+
+use crate::part::Part;
+use crate::part::part_of;
+use limits::Limits;
+use reader::certificate::CertificateRead;
+use reader::certificate::read_certificate;
+use reader::system::SystemRead;
+use reader::system::read_system;
+ghost use mathlib.Core.Path.{_≡_};
+ghost use Rattle.limits.specs.Value.{limitsOf};
+ghost use Rattle.lookup.specs.Lookup.{on, polynomialLookup, wordsShown, companion};
+ghost use Rattle.lookup.specs.Answer.{sideOf, foundOutcome};
+ghost use Rattle.lookup.specs.Holding.{Finds};
+
+// Where the polynomial is to be looked up.
+pub enum Side {
+    // Among A's, row by row, and b's.
+    System,
+    // Among d, N, w and Z, or else q.
+    Certificate,
+}
+
+// What a lookup finds.
+pub enum Found {
+    // A polynomial of that number stands on that side.
+    Shown,
+    // The number of the refusal, and its place.
+    Refused(u8, usize),
+}
+
+// The words of the side that is asked for.
+fn words_on<'a>(side: Side, system: &'a [u32], certificate: &'a [u32]) -> &'a [u32]
+    ensures { λ r. ⌜ now r ≡ on (sideOf side) (now (system .entry)) (now (certificate .entry)) ⌝ }
+{
+    match side {
+        Side::System => system,
+        Side::Certificate => certificate,
+    }
+}
+
+// Reads both, then finds the polynomial.
+fn find<'a>(
+    system: &'a [u32],
+    certificate: &'a [u32],
+    side: Side,
+    number: usize,
+    limits: Limits,
+) -> Part
+    ensures { λ r. ⌜ Finds (on (sideOf side) (now (system .entry)) (now (certificate .entry)))
+        (polynomialLookup (limitsOf limits) (now (system .entry)) (now (certificate .entry)) (sideOf side) number) r ⌝ }
+{
+    let read = read_system(system, limits);
+    match read {
+        SystemRead::Accepted(shape) => {
+            let read = read_certificate(certificate, shape, limits);
+            match read {
+                CertificateRead::Accepted(_) => part_of(
+                    words_on(side, system, certificate),
+                    number,
+                ),
+                CertificateRead::Refused(refusal, place) => Part::Refused(refusal, place),
+            }
+        }
+        SystemRead::Refused(refusal, place) => Part::Refused(refusal, place),
+    }
+}
+
+// The words of polynomial `number` of the side that is asked for: that part of the lent words, empty on a refusal.
+pub fn lookup<'a>(
+    system: &'a [u32],
+    certificate: &'a [u32],
+    side: Side,
+    number: usize,
+    limits: Limits,
+) -> &'a [u32]
+    ensures { λ r. ⌜ now r ≡
+        wordsShown (polynomialLookup (limitsOf limits) (now (system .entry)) (now (certificate .entry)) (sideOf side) number) ⌝ }
+{
+    let words = words_on(side, system, certificate);
+    let part = find(system, certificate, side, number, limits);
+    match part {
+        Part::Words(from, to) => &words[from..to],
+        Part::Refused(_, _) => &words[..0],
+    }
+}
+
+// Whether `lookup` shows a polynomial, or the number and the place of its refusal.
+pub fn lookup_refusal<'a>(
+    system: &'a [u32],
+    certificate: &'a [u32],
+    side: Side,
+    number: usize,
+    limits: Limits,
+) -> Found
+    ensures { λ r. ⌜ foundOutcome r ≡
+        companion (polynomialLookup (limitsOf limits) (now (system .entry)) (now (certificate .entry)) (sideOf side) number) ⌝ }
+{
+    let part = find(system, certificate, side, number, limits);
+    match part {
+        Part::Words(_, _) => Found::Shown,
+        Part::Refused(refusal, place) => Found::Refused(refusal, place),
+    }
+}

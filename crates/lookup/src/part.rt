@@ -1,0 +1,47 @@
+// One polynomial among the words of a system or a certificate that was read. The start words lead to it: each says how many
+// coefficients stand behind it.
+use reader::word::kind_of;
+use reader::word::payload_of;
+ghost use mathlib.Core.List.{List};
+ghost use Prim.Native.Nat.{ℕ};
+ghost use Rattle.lookup.specs.Lookup.{shown};
+ghost use Rattle.lookup.specs.Holding.{Holds, Holding, Stands, Finds};
+
+// What is found of a polynomial.
+pub enum Part {
+    // It stands in the words from the first place up to before the second.
+    Words(usize, usize),
+    // The number of the refusal, and its place.
+    Refused(u8, usize),
+}
+
+// The place of the start word of polynomial `number`; behind the last polynomial that of the end word.
+fn start_of(words: &[u32], number: usize) -> usize
+    requires { ⌜ Holding (now words) ⌝ }
+    ensures { λ r. ⌜ Stands (now (words .entry)) number r ⌝ }
+{
+    let mut at: usize = 1;
+    let mut left = number;
+    while 0 < left {
+        let word = words[at];
+        if kind_of(word) != 2 {
+            return at;
+        }
+        at = at + 1 + payload_of(word) as usize;
+        left = left - 1;
+    }
+    at
+}
+
+// The polynomial of that number.
+pub fn part_of(words: &[u32], number: usize) -> Part
+    requires { ⌜ Holding (now words) ⌝ }
+    ensures { λ r. ⌜ ((fs : List (List ℕ)) → Holds (now (words .entry)) fs → Finds (now (words .entry)) (shown number fs) r) ⌝ }
+{
+    let from = start_of(words, number);
+    let word = words[from];
+    if kind_of(word) != 2 {
+        return Part::Refused(12, 0);
+    }
+    Part::Words(from, from + 1 + payload_of(word) as usize)
+}
