@@ -12,7 +12,7 @@ use Rattle.words.specs.Certificate.{Certificate, Form, certificateForm, readCer
 use Rattle.lookup.specs.Lookup.{Side, on, entriesOn, shown, polynomialLookup}
 use Rattle.lookup.specs.Lookup.Side.{system, certificate}
 use Rattle.lookup.specs.Holding.{Holds, Holding, Finds}
-use Rattle.lookup.specs.OutcomeLaws.{mapped-accepted, mapped-refused}
+use Rattle.words.specs.OutcomeLaws.{mapped-accepted, mapped-refused}
 use Rattle.lookup.specs.FramedLaws.{FramedIn, system-framed, certificate-framed, framed-size}
 use Rattle.lookup.specs.LookupLaws.{lookup-system-refused, lookup-certificate-refused, lookup-read}
 use Rattle.lookup.specs.declared.part.Part.{Part}

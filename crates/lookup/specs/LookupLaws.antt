@@ -18,7 +18,7 @@ use Rattle.words.specs.Certificate.{Certificate, certificateForm, entryCount, r
 use Rattle.words.specs.PolynomialLaws.{length-polynomialWords}
 use Rattle.lookup.specs.Lookup.{Side, on, entriesOn, shown, polynomialLookup, wordsShown}
 use Rattle.lookup.specs.Lookup.Side.{system, certificate}
-use Rattle.lookup.specs.OutcomeLaws.{followedBy-accepted, refuse-accepted}
+use Rattle.words.specs.OutcomeLaws.{followedBy-accepted, refuse-passed}
 use Rattle.lookup.specs.FramedLaws.{system-framed, certificate-framed, polynomial-part}
 
 -- ---- the definition, case by case
@@ -90,7 +90,7 @@ module _ (limits : Limits) (ss cs : List ℕ) (side : Side) (k : ℕ) where
       let b = followedBy-accepted (readCertificate limits (shape s) cs) _ (a .2) in
       let c = b .0 in
       let fs = entriesOn side s c in
-      let t = refuse-accepted (leb (length fs) k) 12 0 _ (b .2) in
+      let t = refuse-passed (leb (length fs) k) 12 0 _ (b .2) in
       let some = leb-false (length fs) k (t .0) in
       let ew : polynomialWords (getD fs k []) ≡ ws = cc in
       let f = on-framed limits ss cs s c (a .1) (b .1) side in

@@ -22,9 +22,15 @@ inverseIn-enough (suc k) (suc m) p (suc (suc a)) h g =
     let below : p % suc (suc a) < suc (suc a) = mod-lt p (omega arith) in
     ap (λ x. (p - p / suc (suc a)) * x % p) (inverseIn-enough k m p (p % suc (suc a)) (omega arith) (omega arith))
 
-pub inverse-one : (p : ℕ) → inverse p 1 ≡ 1
+-- where the descent ends
+pub inverse-small : (p a : ℕ) → a ≤ 1 → inverse p a ≡ 1
 unfolding inverse
-inverse-one p = refl
+inverse-small p zero h = refl
+inverse-small p (suc zero) h = refl
+inverse-small p (suc (suc a)) h = absurd (omega arith)
+
+pub inverse-one : (p : ℕ) → inverse p 1 ≡ 1
+inverse-one p = inverse-small p 1 (omega arith)
 
 pub inverse-step : (p a : ℕ) → 1 < a → inverse p a ≡ (p - p / a) * inverse p (p % a) % p
 unfolding inverse

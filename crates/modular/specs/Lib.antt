@@ -1,5 +1,6 @@
 pub mod Prime
 pub mod Primality
+pub mod LargestPrime
 pub mod Remainder
 pub mod Total
 pub mod Modulo

@@ -5,37 +5,8 @@ use native.Mathlib.Nat.{mul-assoc, mul-one, one-mul, le-div-iff-mul-le, mod-lt, 
 use native.Mathlib.Omega.{arith}
 use Rattle.modular.specs.Modulo.{inverseIn, inverse, modulo}
 use Rattle.residue.specs.Below.{inverse-below}
-use Rattle.residue.proofs.Remainder.{mod-mul-mod, mul-mod-mod}
-
-small : (steps p a : ℕ) → a ≤ 1 → inverseIn steps p a ≡ 1
-unfolding inverseIn
-small zero p a h = refl
-small (suc steps) p zero h = refl
-small (suc steps) p (suc zero) h = refl
-small (suc steps) p (suc (suc a)) h = absurd (omega arith)
-
--- steps beyond the a-th change nothing
-enough : (n m p a : ℕ) → a ≤ n → a ≤ m → inverseIn n p a ≡ inverseIn m p a
-unfolding inverseIn
-enough zero m p a hn hm = sym (small m p a (omega arith))
-enough (suc n) zero p a hn hm = small (suc n) p a (omega arith)
-enough (suc n) (suc m) p zero hn hm = refl
-enough (suc n) (suc m) p (suc zero) hn hm = refl
-enough (suc n) (suc m) p (suc (suc a)) hn hm =
-    let less = mod-lt p {m = suc (suc a)} (omega arith) in
-    ap (λ (k : ℕ). (p - p / suc (suc a)) * k % p) (enough n m p (p % suc (suc a)) (omega arith) (omega arith))
-
-inverse-small : (p a : ℕ) → a ≤ 1 → inverse p a ≡ 1
-unfolding inverse
-inverse-small p a h = small a p a h
-
-inverse-step : (p a : ℕ) → 1 < a → inverse p a ≡ (p - p / a) * inverse p (p % a) % p
-unfolding inverse inverseIn
-inverse-step p zero h = absurd (omega arith)
-inverse-step p (suc zero) h = absurd (omega arith)
-inverse-step p (suc (suc a)) h =
-    let less = mod-lt p {m = suc (suc a)} (omega arith) in
-    ap (λ (k : ℕ). (p - p / suc (suc a)) * k % p) (enough (suc a) (p % suc (suc a)) p (p % suc (suc a)) (omega arith) (omega arith))
+use Rattle.modular.specs.Remainder.{mod-mul-mod, mul-mod-mod}
+use Rattle.modular.specs.Inverse.{inverse-small, inverse-step}
 
 -- what the loop keeps: the inverse of a is factor times the inverse of rest
 pub record Descent (p a factor rest : ℕ) : Type 0 where

@@ -1,8 +1,9 @@
 -- What the operations modulo p give is again below p: what a caller needs to use a result as an operand.
-use Prim.Native.Nat.{ℕ, zero, suc, _<_}
+use Prim.Native.Nat.{ℕ, _<_}
 use native.Mathlib.Nat.{mod-lt}
 use native.Mathlib.Omega.{arith}
-use Rattle.modular.specs.Modulo.{modulo, inverse, inverseIn}
+use Rattle.modular.specs.Modulo.{modulo}
+use Rattle.modular.specs.Inverse.{inverse-below as below}
 
 module _ (p : ℕ) (large : 1 < p) where
   pub add-below : (a b : ℕ) → modulo p .add a b < p
@@ -18,7 +19,5 @@ module _ (p : ℕ) (large : 1 < p) where
   mul-below a b = mod-lt _ (omega arith)
 
   pub inverse-below : (a : ℕ) → modulo p .inverse a < p
-  unfolding modulo inverse inverseIn
-  inverse-below zero = large
-  inverse-below (suc zero) = large
-  inverse-below (suc (suc a)) = mod-lt _ (omega arith)
+  unfolding modulo
+  inverse-below a = below p a large

@@ -25,6 +25,7 @@ use Rattle.words.specs.Certificate.Certificate.{solution, absence}
 use Rattle.words.specs.CertificateLaws.{certificate-read-of-written, certificate-written-of-read}
 use Rattle.words.specs.Outcome.{Outcome, refuse, followedBy}
 use Rattle.words.specs.Outcome.Outcome.{accepted, refused}
+use Rattle.words.specs.OutcomeLaws.{refuse-passed, passed-refuse, followedBy-accepted}
 use Rattle.truth.specs.Solution.{AllCanonical, Monic, Divides, rowOf, columnOf, sideOf}
 use Rattle.truth.specs.Right.{RightSolution, RightAbsence, Right, certified}
 use Rattle.truth.specs.Verdict.{monic?, zero?, same?, refuseFirst, solutionVerdict, absenceVerdict, certificateVerdict, verdict}
@@ -104,29 +105,29 @@ module _ (s : System) (h : Proper s) where
     pub accepted-right : solutionVerdict s d N w Z ≡ accepted tt → RightSolution s d N w Z
     unfolding solutionVerdict Monic from-31 from-32 from-33 from-34 wrong-row wrong-column
     accepted-right e =
-        let first = RefusalLaws.refuse-passed (not (monic? p d)) 31 0 from-31 tt e in
-        let second = RefusalLaws.refuse-passed (not (monic? p w)) 31 1 from-32 tt (first .rest) in
-        let rows = RefusalLaws.refuseFirst-passed (s .rows) wrong-row 32 from-33 tt (second .rest) in
+        let first = refuse-passed (not (monic? p d)) 31 0 from-31 e in
+        let second = refuse-passed (not (monic? p w)) 31 1 from-32 (first .1) in
+        let rows = RefusalLaws.refuseFirst-passed (s .rows) wrong-row 32 from-33 tt (second .1) in
         let columns = RefusalLaws.refuseFirst-passed (s .columns) wrong-column 33 from-34 tt (rows .rest) in
-        let last = RefusalLaws.refuse-passed (not (same? (certified s w Z) d)) 34 0 (accepted tt) tt (columns .rest) in
+        let last = refuse-passed (not (same? (certified s w Z) d)) 34 0 (accepted tt) (columns .rest) in
         record {
-          monic = eqb-true (leading (modulo p) d) 1 (RefusalLaws.not-false (monic? p d) (first .free));
-          certifyingMonic = eqb-true (leading (modulo p) w) 1 (RefusalLaws.not-false (monic? p w) (second .free));
+          monic = eqb-true (leading (modulo p) d) 1 (RefusalLaws.not-false (monic? p d) (first .0));
+          certifyingMonic = eqb-true (leading (modulo p) w) 1 (RefusalLaws.not-false (monic? p w) (second .0));
           rows = λ i k. RefusalLaws.same?-true _ _ (RefusalLaws.not-false _ (rows .free i k));
           columns = λ j k. column-divides w Z (P .certifyingDenominator) (P .certifyingNumerators) j
               (RefusalLaws.zero?-true _ (RefusalLaws.not-false _ (columns .free j k)));
-          denominators = RefusalLaws.same?-true (certified s w Z) d (RefusalLaws.not-false _ (last .free));
+          denominators = RefusalLaws.same?-true (certified s w Z) d (RefusalLaws.not-false _ (last .0));
         }
 
     pub right-accepted : RightSolution s d N w Z → solutionVerdict s d N w Z ≡ accepted tt
     unfolding solutionVerdict Monic from-31 from-32 from-33 from-34 wrong-row wrong-column
     right-accepted C =
-        RefusalLaws.passed-refuse _ 31 0 _ tt (RefusalLaws.true-not (eq-eqb (leading (modulo p) d) 1 (C .monic)))
-        (RefusalLaws.passed-refuse _ 31 1 _ tt (RefusalLaws.true-not (eq-eqb (leading (modulo p) w) 1 (C .certifyingMonic)))
+        passed-refuse _ 31 0 _ (RefusalLaws.true-not (eq-eqb (leading (modulo p) d) 1 (C .monic)))
+        (passed-refuse _ 31 1 _ (RefusalLaws.true-not (eq-eqb (leading (modulo p) w) 1 (C .certifyingMonic)))
         (RefusalLaws.passed-refuseFirst (s .rows) wrong-row 32 _ tt (λ i k. RefusalLaws.true-not (RefusalLaws.true-same? _ _ (C .rows i k)))
         (RefusalLaws.passed-refuseFirst (s .columns) wrong-column 33 _ tt
         (λ j k. RefusalLaws.true-not (ap zero? (divides-column w Z (P .certifyingDenominator) (P .certifyingNumerators) j (C .columns j k))))
-        (RefusalLaws.passed-refuse _ 34 0 _ tt (RefusalLaws.true-not (RefusalLaws.true-same? _ _ (C .denominators))) refl))))
+        (passed-refuse _ 34 0 _ (RefusalLaws.true-not (RefusalLaws.true-same? _ _ (C .denominators))) refl))))
 
 -- the rows 35 and 36
 module _ (s : System) (q : List (List ℕ)) where
@@ -137,17 +138,17 @@ module _ (s : System) (q : List (List ℕ)) where
   unfolding absenceVerdict wrong-product
   accepted-absent e =
       let columns = RefusalLaws.refuseFirst-passed (s .columns) wrong-product 35 (refuse (zero? (sideOf s q)) 36 0 (accepted tt)) tt e in
-      let last = RefusalLaws.refuse-passed (zero? (sideOf s q)) 36 0 (accepted tt) tt (columns .rest) in
+      let last = refuse-passed (zero? (sideOf s q)) 36 0 (accepted tt) (columns .rest) in
       record {
         columns = λ j k. RefusalLaws.zero?-true _ (RefusalLaws.not-false _ (columns .free j k));
-        side = RefusalLaws.zero?-false _ (last .free);
+        side = RefusalLaws.zero?-false _ (last .0);
       }
 
   pub absent-accepted : RightAbsence s q → absenceVerdict s q ≡ accepted tt
   unfolding absenceVerdict wrong-product
   absent-accepted C =
       RefusalLaws.passed-refuseFirst (s .columns) wrong-product 35 _ tt (λ j k. RefusalLaws.true-not (ap zero? (C .columns j k)))
-      (RefusalLaws.passed-refuse _ 36 0 _ tt (RefusalLaws.nonzero-zero? _ (C .side)) refl)
+      (passed-refuse _ 36 0 _ (RefusalLaws.nonzero-zero? _ (C .side)) refl)
 
 -- ---- demand 2
 
@@ -177,8 +178,8 @@ module _ (limits : Limits) (fit : LimitsFit limits) where
   pub words-of-accepted : (ws cs : List ℕ) → verdict limits ws cs ≡ accepted tt → AcceptedWords limits ws cs
   unfolding verdict
   words-of-accepted ws cs e =
-      let first = RefusalLaws.followedBy-accepted (readSystem limits ws) _ tt e in
-      let second = RefusalLaws.followedBy-accepted (readCertificate limits (shape (first .0)) cs) _ tt (first .2) in
+      let first = followedBy-accepted (readSystem limits ws) _ e in
+      let second = followedBy-accepted (readCertificate limits (shape (first .0)) cs) _ (first .2) in
       let sheet = system-written-of-read limits fit ws (first .0) (first .1) in
       let card = certificate-written-of-read limits (shape (first .0)) cs (second .0) (second .1) in
       record {

@@ -7,27 +7,10 @@ use native.Mathlib.Omega.{arith}
 use native.Mathlib.Decide.{ℕ-discrete}
 use lib.Dec.{eqb}
 use borrow.Author.Tests.{eqb-true, eq-eqb}
-use Rattle.words.specs.Outcome.{Outcome, refuse, followedBy}
-use Rattle.words.specs.Outcome.Outcome.{accepted, refused}
+use Rattle.words.specs.Outcome.{Outcome, refuse}
+use Rattle.words.specs.Outcome.Outcome.{accepted}
+use Rattle.words.specs.OutcomeLaws.{refuse-passed, passed-refuse}
 use Rattle.truth.specs.Verdict.{zero?, same?, refuseFirst}
-
-refused-not : {A : Type 0} {number place : ℕ} {a : A} → refused number place ≡ accepted a → ⊥
-refused-not {A} {number} {place} {a} e = let z : _≡_ {A = ℕ} 0 1 = cc in omega arith
-
--- a row and what comes behind it
-pub record Passed (A : Type 0) (condition : Bool) (next : Outcome A) (a : A) : Type 0 where
-  pub free : condition ≡ false
-  pub rest : next ≡ accepted a
-
-pub refuse-passed : {A : Type 0} (condition : Bool) (number place : ℕ) (next : Outcome A) (a : A)
-    → refuse condition number place next ≡ accepted a → Passed A condition next a
-refuse-passed true number place next a e = absurd (refused-not e)
-refuse-passed false number place next a e = record { free = refl; rest = e }
-
-pub passed-refuse : {A : Type 0} (condition : Bool) (number place : ℕ) (next : Outcome A) (a : A)
-    → condition ≡ false → next ≡ accepted a → refuse condition number place next ≡ accepted a
-passed-refuse true number place next a e h = absurd (let z : _≡_ {A = ℕ} 0 1 = cc in omega arith)
-passed-refuse false number place next a e h = h
 
 -- a row for several places
 pub record AllPassed (A : Type 0) (n : ℕ) (holds : ℕ → Bool) (next : Outcome A) (a : A) : Type 0 where
@@ -41,13 +24,13 @@ refuseFirst-passed zero holds number next a e = record { free = λ i k. absurd (
 refuseFirst-passed (suc n) holds number next a e = go (refuseFirst-passed n holds number (refuse (holds n) number n next) a e)
   where
     go : AllPassed _ n holds (refuse (holds n) number n next) a → AllPassed _ (suc n) holds next a
-    go w = record { free = λ i k. at i k (ℕ-discrete i n); rest = last .rest }
+    go w = record { free = λ i k. at i k (ℕ-discrete i n); rest = last .1 }
       where
-        last : Passed _ (holds n) next a
-        last = refuse-passed (holds n) number n next a (w .rest)
+        last : (holds n ≡ false) × (next ≡ accepted a)
+        last = refuse-passed (holds n) number n next (w .rest)
 
         at : (i : ℕ) → i < suc n → Dec (i ≡ n) → holds i ≡ false
-        at i k (yes q) = ap holds q ∙ last .free
+        at i k (yes q) = ap holds q ∙ last .0
         at i k (no q) = w .free i (omega arith)
 
 pub passed-refuseFirst : {A : Type 0} (n : ℕ) (holds : ℕ → Bool) (number : ℕ) (next : Outcome A) (a : A)
@@ -55,13 +38,7 @@ pub passed-refuseFirst : {A : Type 0} (n : ℕ) (holds : ℕ → Bool) (number :
 unfolding refuseFirst
 passed-refuseFirst zero holds number next a free e = e
 passed-refuseFirst (suc n) holds number next a free e = passed-refuseFirst n holds number (refuse (holds n) number n next) a
-    (λ i k. free i (omega arith)) (passed-refuse (holds n) number n next a (free n (omega arith)) e)
-
--- one reading after another
-pub followedBy-accepted : {A B : Type 0} (first : Outcome A) (next : A → Outcome B) (b : B) → followedBy first next ≡ accepted b
-    → (a : A) × (first ≡ accepted a) × (next a ≡ accepted b)
-followedBy-accepted (accepted a) next b e = (a, refl, e)
-followedBy-accepted (refused number place) next b e = absurd (refused-not e)
+    (λ i k. free i (omega arith)) (passed-refuse (holds n) number n next (free n (omega arith)) e)
 
 -- ---- the tests
 

@@ -1,6 +1,7 @@
 pub mod Limits
 pub mod Word
 pub mod Outcome
+pub mod OutcomeLaws
 pub mod Reading
 pub mod Polynomial
 pub mod Frame
@@ -12,7 +13,6 @@ pub mod WordLaws
 pub mod ReadingLaws
 pub mod PolynomialLaws
 pub mod FrameLaws
-pub mod LargestModulus
 pub mod FormatLaws
 pub mod LimitsLaws
 pub mod VectorLaws

@@ -15,7 +15,7 @@ use Rattle.words.specs.Reading.Reading.{read, fault}
 use Rattle.words.specs.System.{Shape, ShapeWithin, headWord, headShape, oneTo, systemHeadFrom}
 use Rattle.words.specs.ReadingLaws.{fault-read, turnBack-read, and-passed}
 use Rattle.words.specs.LimitsLaws.{LimitsFit}
-use Rattle.words.specs.LargestModulus.{prime-largest}
+use Rattle.modular.specs.LargestPrime.{prime-largest}
 use Rattle.words.specs.FrameLaws.{HeadLaws}
 
 oneTo-true : (most n : ℕ) → 1 ≤ n → n ≤ most → oneTo most n ≡ true

@@ -13,6 +13,7 @@ use Rattle.modular.specs.Canonical.{Ends, Canonical}
 use Rattle.words.specs.Limits.{Limits, largestModulus}
 use Rattle.words.specs.Outcome.{Outcome, refuse, followedBy}
 use Rattle.words.specs.Outcome.Outcome.{accepted, refused}
+use Rattle.words.specs.OutcomeLaws.{refuse-passed}
 use Rattle.words.specs.Polynomial.{AllWithin}
 use Rattle.words.specs.System.{Shape, ShapeWithin, oneTo}
 use Rattle.words.specs.ReadingLaws.{and-passed}
@@ -35,12 +36,6 @@ module _ {A : Type 0} where
       → rest ≡ after first next → refuse b number place rest ≡ after (refuse b number place first) next
   refuse-after true number place first next e = refl
   refuse-after false number place first next e = e
-
-  -- a row that was passed
-  pub refuse-passed : (b : Bool) (number place : ℕ) (next : Outcome A) {a : A} → refuse b number place next ≡ accepted a
-      → (b ≡ false) × (next ≡ accepted a)
-  refuse-passed true number place next e = absurd (let z : _≡_ {A = ℕ} 0 1 = cc in omega arith)
-  refuse-passed false number place next e = (refl, e)
 
 -- ---- p, n and m
 

@@ -2,7 +2,8 @@
 use mathlib.Core.Path.{sym, _∙_}
 use native.Mathlib.Omega.{arith}
 use borrow.Author.Needs.{needs}
-use Rattle.residue.specs.Primality.{prime-of-true, prime-limit}
+use Rattle.modular.specs.Primality.{prime-of-true}
+use Rattle.modular.specs.LargestPrime.{prime-largest}
 use Rattle.arithmetic_examples.proofs.operations.run.Statement.{statement}
 use Rattle.arithmetic_examples.proofs.operations.run.Tie as tie
 
@@ -46,7 +47,7 @@ new-requires : tie.Need-new-requires
 new-requires c κs =
     let p = c .before .before .before .before .word2 .result in
     let prime = prime-of-true p (sym (c .before .before .is-prime .ensures) ∙ c .if4 .taken) in
-    (prime, prime-limit p prime (omega arith))
+    (prime, prime-largest p prime (omega arith))
 
 modulo-requires : tie.Need-modulo-requires
 modulo-requires c κs = search needs

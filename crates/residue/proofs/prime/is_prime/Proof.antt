@@ -4,7 +4,8 @@ use Prim.Native.Nat.{ℕ, _-_, _*_, _≤_}
 use native.Mathlib.Nat.{mul-le-mul}
 use native.Mathlib.Omega.{arith}
 use borrow.Author.Needs.{needs}
-use Rattle.residue.specs.Primality.{Undivided, undivided-suc, true-of-prime, false-of-composite, prime-of-root, composite-of-root}
+use Rattle.modular.specs.Primality.{true-of-prime}
+use Rattle.residue.specs.Primality.{Undivided, undivided-suc, false-of-composite, prime-of-root, composite-of-root}
 use Rattle.residue.proofs.prime.is_prime.Statement.{statement}
 use Rattle.residue.proofs.prime.is_prime.Tie as tie
 

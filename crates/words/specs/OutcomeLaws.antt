@@ -25,7 +25,12 @@ module _ {A B : Type 0} where
   followedBy-accepted (refused number place) next e = absurd (refused-accepted e)
 
 -- a row that was passed
-pub refuse-accepted : {A : Type 0} (t : Bool) (number place : ℕ) (next : Outcome A) {a : A} → refuse t number place next ≡ accepted a
+pub refuse-passed : {A : Type 0} (t : Bool) (number place : ℕ) (next : Outcome A) {a : A} → refuse t number place next ≡ accepted a
     → (t ≡ false) × (next ≡ accepted a)
-refuse-accepted true number place next e = absurd (refused-accepted e)
-refuse-accepted false number place next e = (refl, e)
+refuse-passed true number place next e = absurd (refused-accepted e)
+refuse-passed false number place next e = (refl, e)
+
+pub passed-refuse : {A : Type 0} (t : Bool) (number place : ℕ) (next : Outcome A) {a : A} → t ≡ false → next ≡ accepted a
+    → refuse t number place next ≡ accepted a
+passed-refuse true number place next e h = absurd (let z : _≡_ {A = ℕ} 0 1 = cc in omega arith)
+passed-refuse false number place next e h = h

@@ -6,8 +6,7 @@ use native.Mathlib.Decide.{ℕ-discrete}
 use native.Mathlib.Omega.{arith}
 use borrow.Author.Needs.{needs}
 use lib.ListN.{length}
 use Rattle.modular.specs.Prime.{Prime}
-use Rattle.words.specs.Limits.{largestModulus}
 
 -- the numbers from `start` on have these factors
 Composite : ℕ → List ℕ → Type 0
@@ -26,7 +25,7 @@ prime-before p start prime (a ∷ factors) c h =
         absurd (prime .undivided a (c .0) (omega arith) (subst (λ (n : ℕ). n % a ≡ 0) e (c .2)))
     go before (no n) = before (omega (arith, n))
 
-pub prime-largest : (p : ℕ) → Prime p → p < 65536 → p ≤ largestModulus
+pub prime-largest : (p : ℕ) → Prime p → p < 65536 → p ≤ 65521
 unfolding Composite
 prime-largest p prime h =
     let factors : List ℕ = 3 ∷ 2 ∷ 13 ∷ 2 ∷ 19 ∷ 2 ∷ 3 ∷ 2 ∷ 7 ∷ 2 ∷ 5 ∷ 2 ∷ 3 ∷ 2 ∷ [] in
