@@ -1,11 +1,13 @@
 // The operands of a case.
 use polynomial::Polynomial;
+use polynomial::value::zeros;
 use residue::modulus::Modulus;
 ghost use Prim.Native.Nat.{ℕ, _+_, _<_, _≤_};
 ghost use lib.ListN.{length, getD};
 ghost use Rattle.residue.specs.Modulus.{ValidModulus};
 ghost use Rattle.polynomial.specs.Value.{ValidPolynomial};
 
+// A word as a number of 64 bits.
 fn wide(w: u32) -> u64
     ensures { λ r. ⌜ r < 4294967296 ⌝ }
 {
@@ -58,7 +60,7 @@ pub fn read_operand(case: &[u32], place: usize, m: Modulus) -> Operand
             next: place,
         };
     }
-    let mut words = [0u64; 256];
+    let mut words = zeros();
     let below = unpack(case, place + 1, &mut words, n, m.p);
     let value = Polynomial::from_words(&words, 0, n, m);
     let size = value.size;

@@ -39,6 +39,7 @@ pub fn run(case: &[u32]) {
     }
 }
 
+// The operations modulo a prime.
 fn modulo(case: &[u32], code: u64, m: Modulus)
     requires { ⌜ ValidModulus m ⌝ }
 {
@@ -107,6 +108,7 @@ fn associate(case: &[u32], m: Modulus)
     }
 }
 
+// An operation on two polynomials.
 fn two(case: &[u32], code: u64, m: Modulus)
     requires { ⌜ ValidModulus m ⌝ }
 {
@@ -123,7 +125,7 @@ fn two(case: &[u32], code: u64, m: Modulus)
     skipped();
 }
 
-// The operations on two polynomials.
+// The operation that the code names.
 fn together(code: u64, f: Polynomial, g: Polynomial, m: Modulus)
     requires { ⌜ ValidModulus m × ValidPolynomial (m .p) f × ValidPolynomial (m .p) g ⌝ }
 {
@@ -137,6 +139,7 @@ fn together(code: u64, f: Polynomial, g: Polynomial, m: Modulus)
     }
 }
 
+// The product, where a value can hold it.
 fn product(f: Polynomial, g: Polynomial, m: Modulus)
     requires { ⌜ ValidModulus m × ValidPolynomial (m .p) f × ValidPolynomial (m .p) g ⌝ }
 {
@@ -147,6 +150,7 @@ fn product(f: Polynomial, g: Polynomial, m: Modulus)
     }
 }
 
+// Whether f and g are equal.
 fn compare(f: Polynomial, g: Polynomial)
     requires { ⌜ (f .size ≤ 256) × (g .size ≤ 256) ⌝ }
 {

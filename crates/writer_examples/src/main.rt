@@ -4,21 +4,28 @@ mod input;
 mod output;
 mod run;
 
-use input::read_case;
-use run::run;
+use cases::input::CASES;
+use cases::input::WORDS;
+use cases::input::read_words;
 
-// Standard input holds at most so many cases.
-const CASES: usize = 65536;
+// The next case; whether there was one.
+fn answer() -> bool {
+    let mut case = [0u32; WORDS];
+    let list = read_words(&mut case);
+    if !list.found {
+        return false;
+    }
+    let n = list.count;
+    run::run(&case[0..n]);
+    true
+}
 
 fn main() {
-    let mut case = io::large_buffer();
     let mut left = CASES;
     while 0 < left {
-        let n = read_case(&mut case);
-        if n == 0 {
+        if !answer() {
             return;
         }
-        run(&case[0..n]);
         left = left - 1;
     }
 }

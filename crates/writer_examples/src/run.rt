@@ -1,8 +1,8 @@
 // The writers, on the values of a case.
 use crate::input::unpack;
-use crate::input::word;
 use crate::output::show;
-use crate::output::skipped;
+use cases::input::word;
+use cases::output::skipped;
 use writer::certificate::Form;
 use writer::certificate::write_certificate;
 use writer::system::write_system;
@@ -11,7 +11,7 @@ use writer::system::write_system;
 const MOST: usize = 4096;
 
 // A case: its kind, p, n, m, the number of lent words and the polynomials.
-pub fn run(case: &[u8]) {
+pub fn run(case: &[u32]) {
     let lent = word(case, 4) as usize;
     if MOST < lent {
         skipped();
@@ -26,7 +26,7 @@ pub fn run(case: &[u8]) {
     }
 }
 
-fn system(case: &[u8], words: &mut [u32]) {
+fn system(case: &[u32], words: &mut [u32]) {
     let mut sizes = [0u32; 72];
     let mut coefficients = [0u32; 1152];
     unpack(case, 16, &mut sizes, &mut coefficients);
@@ -41,7 +41,7 @@ fn system(case: &[u8], words: &mut [u32]) {
     show(answer, words);
 }
 
-fn certificate(case: &[u8], form: Form, words: &mut [u32]) {
+fn certificate(case: &[u32], form: Form, words: &mut [u32]) {
     let mut sizes = [0u32; 18];
     let mut coefficients = [0u32; 2178];
     unpack(case, 121, &mut sizes, &mut coefficients);

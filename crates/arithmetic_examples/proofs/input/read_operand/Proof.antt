@@ -18,6 +18,9 @@ returns c =
     let S = c .before .before .before .before in
     (c .zero .ensures (S .args .m .p) .valid, omega arith)
 
+zeros-requires : tie.Need-zeros-requires
+zeros-requires c κs = search needs
+
 add-unpack : tie.Need-add-unpack
 add-unpack c = search needs
 
@@ -32,17 +35,17 @@ slice-aggregate-from-words c = search needs
 
 from-words-requires : tie.Need-from-words-requires
 from-words-requires c κs =
-    let S = c .before .before .before .before .before .before .before in
+    let S = c .before .before .before .before .before .before .before .before in
     let large : 1 < S .args .m .p = S .pre .0 .prime .large in
     let unpacked = c .before .before .unpack in
     let long : length (unpacked .last .1 .1 .0) ≡ 256 = search needs in
     ((S .pre .0, omega arith, omega arith), λ i lt. omega (arith, unpacked .ensures (0 + i) (omega arith)))
 
-add-t34 : tie.Need-add-t34
-add-t34 c = search needs
+add-t35 : tie.Need-add-t35
+add-t35 c = search needs
 
-add-t36 : tie.Need-add-t36
-add-t36 c = search needs
+add-t37 : tie.Need-add-t37
+add-t37 c = search needs
 
 returns-2 : tie.Need-returns-2
 returns-2 c = search needs
@@ -54,11 +57,12 @@ read-operand-spec =
     word-requires
     zero-requires
     returns
+    zeros-requires
     add-unpack
     slice-aggregate-unpack
     unpack-requires
     slice-aggregate-from-words
     from-words-requires
-    add-t34
-    add-t36
+    add-t35
+    add-t37
     returns-2)

@@ -9,7 +9,8 @@ use Rattle.arithmetic_examples.proofs.input.unpack.Statement.{statement
 use Rattle.arithmetic_examples.proofs.input.unpack.Tie as tie
 
 abbrev Inv-loop : tie.InvT-loop
-Inv-loop case place words₀ n p below₀ i₀ words below i = (i ≤ n) × (length words ≡ length words₀) × ((k : ℕ) → k < i → getD words k 0 < 4294967296)
+Inv-loop case place words₀ n p below₀ i₀ words below i =
+    (i ≤ n) × (length words ≡ length words₀) × ((k : ℕ) → k < i → getD words k 0 < 4294967296)
 
 abbrev μ-loop : tie.MeasureT-loop
 μ-loop case place words₀ n p below₀ i₀ words below i = n - i
