@@ -36,13 +36,13 @@ module _ (h f : List ℕ) (n : ℕ) (g : List ℕ) (k : ℕ) where
 
   module _ (h′ : List ℕ) (i : ℕ) (so-far : Adding h f n g k h′ i) where
     -- no sum is too large for a word
-    pub adding-fits : n ≤ 256 → AtMost 65535 h → AtMost 65535 f → AtMost 65535 g →
+    pub adding-fits : n ≤ 256 → AtMost 4611686018427387904 h → AtMost 65535 f → AtMost 65535 g →
         (j : ℕ) → j < k → sumAt h′ i g 0 (getD f i 0) j < 18446744073709551616
     adding-fits few hb hf hg j lt =
         let within : i ≤ n = so-far .within in
         omega (
           arith,
-          so-far .bound 65535 65535 hb hf hg (i + j),
+          so-far .bound 4611686018427387904 65535 hb hf hg (i + j),
           mul-le-mul {n₁ = getD f i 0} {m₁ = getD g (0 + j) 0} {n₂ = 65535} {m₂ = 65535} (hf i) (hg (0 + j)),
         )
 

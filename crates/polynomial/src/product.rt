@@ -12,10 +12,10 @@ ghost use Rattle.vector.specs.Bound.{AtMost};
 ghost use Rattle.polynomial.specs.Value.{coefficientsOf, ValidPolynomial, Represents};
 ghost use Rattle.polynomial.specs.Product.{GainsProduct};
 
-// h += f g, for n words of f and k words of g: a row c x^i g for each coefficient c of f.
+// h += f g, for n words of f and k words of g: a row c x^i g for each coefficient c of f. The words of h may be sums of many products.
 pub fn add_rows(h: &mut [u64], f: &[u64], n: usize, g: &[u64], k: usize)
     requires { ⌜ (n ≤ length (now f)) × (k ≤ length (now g)) × (n + k ≤ length (now h) + 1) × (n ≤ 256) ⌝ }
-    requires small { ⌜ AtMost 65535 (now h) × AtMost 65535 (now f) × AtMost 65535 (now g) ⌝ }
+    requires small { ⌜ AtMost 4611686018427387904 (now h) × AtMost 65535 (now f) × AtMost 65535 (now g) ⌝ }
     ensures { λ _. ⌜ GainsProduct (now (h .entry)) (now (f .entry)) n (now (g .entry)) k (now (h .exit)) ⌝ }
 {
     let mut i = 0;

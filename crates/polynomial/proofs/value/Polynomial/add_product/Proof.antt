@@ -18,12 +18,14 @@ add-rows-requires c κs =
     let S = c .before .before .before .before .before .before .before .before in
     let m : ValidModulus (S .args .m) = S .pre .0 .0 in
     let positive : 0 < S .args .m .p = omega (arith, m .prime .large) in
-    let small = words-at-most (S .args .m .p) positive 65535 (omega (arith, m .limit)) in
+    let limit : S .args .m .p ≤ 65535 = omega (arith, m .limit) in
+    let small = words-at-most (S .args .m .p) positive 65535 limit in
+    let sum = words-at-most (S .args .m .p) positive 4611686018427387904 (omega arith) in
     let s = S .pre .0 .1 in
     let f = S .pre .0 .2 in
     let g = S .pre .0 .3 in (
       (omega (arith, f .room, f .within), omega (arith, g .room, g .within), omega (arith, s .room), f .within),
-      (small (S .args .self) s, small (S .args .t2) f, small (S .args .t3) g),
+      (sum (S .args .self) s, small (S .args .t2) f, small (S .args .t3) g),
     )
 
 slice-aggregate-from-words : tie.Need-slice-aggregate-from-words

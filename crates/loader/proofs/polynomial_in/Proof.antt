@@ -1,0 +1,35 @@
+-- The coefficients are below p, and stand for the polynomial.
+use mathlib.Core.Path.{_∙_}
+use Prim.Native.Nat.{_+_, _<_}
+use native.Mathlib.Omega.{arith}
+use borrow.Author.Needs.{needs}
+use Rattle.polynomial.specs.Value.{represents-is}
+use Rattle.loader.specs.SlotLaws.{taken-canonical, taken-size, canonical-word, canonical-polynomial}
+use Rattle.loader.proofs.polynomial_in.Statement.{statement}
+use Rattle.loader.proofs.polynomial_in.Tie as tie
+use Rattle.loader.proofs.polynomial_in.Reads as reads
+use Rattle.loader.proofs.polynomial_in.Lts as lts
+use Rattle.loader.proofs.coefficients_in.Reads as coefficients-in-reads
+use Rattle.polynomial.proofs.value.Polynomial.from_words.Reads as from-words-reads
+
+coefficients-in-requires : tie.Need-coefficients-in-requires
+coefficients-in-requires c κs = search needs
+
+from-words-requires : tie.Need-from-words-requires
+from-words-requires c κs =
+    let S = c .before .before in
+    let positive : 0 < S .args .m .p = omega (arith, S .pre .0 .prime .large) in
+    let is = c .coefficients-in .ensures in (
+      (S .pre .0, omega (arith, taken-size is (S .pre .1)), omega arith),
+      λ i lt. omega (arith, canonical-word _ positive _ (taken-canonical is (S .pre .1)) (0 + i)),
+    )
+
+returns : tie.Need-returns
+returns c =
+    let S = c .before .before .before in
+    let positive : 0 < S .args .m .p = omega (arith, S .pre .0 .prime .large) in
+    let is = c .before .coefficients-in .ensures in
+    represents-is (c .from-words .ensures) (canonical-polynomial _ positive _ (taken-canonical is (S .pre .1)) ∙ is)
+
+pub polynomial-in-spec : {M : Type 1} → statement M
+polynomial-in-spec = tie.close (tie.spec coefficients-in-requires from-words-requires returns)

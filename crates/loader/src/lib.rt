@@ -1,0 +1,61 @@
+// Polynomials loaded from the words of a system or a certificate that was read, each into a slot of an area: a number of
+// coefficients, then these, as the loops on words take them.
+use polynomial::Polynomial;
+use reader::word::payload_of;
+use residue::modulus::Modulus;
+ghost use mathlib.Core.Path.{_≡_};
+ghost use mathlib.Core.List.{List};
+ghost use Prim.Native.Nat.{ℕ, _+_, _*_, _≤_, _<_};
+ghost use lib.ListN.{length, getD};
+ghost use Rattle.words.specs.Word.{payload};
+ghost use Rattle.vector.specs.Stored.{stored};
+ghost use Rattle.residue.specs.Modulus.{ValidModulus};
+ghost use Rattle.polynomial.specs.Value.{Represents};
+ghost use Rattle.loader.specs.Slot.{slot, Holds, Stands, Filled};
+
+// area[d + j] = the payload of words[a + j] for j below n.
+fn copy_payloads(area: &mut [u64], d: usize, words: &[u32], a: usize, n: usize)
+    requires { ⌜ (d + n ≤ length (now area)) × (a + n ≤ length (now words)) ⌝ }
+    ensures { λ _. ⌜ now (area .exit) ≡ stored (λ j. payload (getD (now (words .entry)) (a + j) 0)) (now (area .entry)) d n ⌝ }
+{
+    let mut j = 0;
+    while j < n {
+        area[d + j] = payload_of(words[a + j]) as u64;
+        j += 1;
+    }
+}
+
+// The polynomials of the words, of which there are `count`, each into its slot.
+pub fn load(area: &mut [u64], width: usize, words: &[u32], count: usize)
+    requires { ⌜ ((fs : List (List ℕ)) × Holds width (now words) fs × (length fs ≡ count)) × (count * width ≤ length (now area)) ⌝ }
+    ensures { λ _. ⌜ ((fs : List (List ℕ)) → Holds width (now (words .entry)) fs → length fs ≡ count → Stands width (now (area .exit)) fs) ⌝ }
+{
+    let mut at = 1;
+    let mut k = 0;
+    while k < count {
+        let n = payload_of(words[at]) as usize + 1;
+        copy_payloads(area, k * width, words, at, n);
+        at += n;
+        k += 1;
+    }
+}
+
+// The coefficients in slot k.
+pub fn coefficients_in(area: &[u64], width: usize, k: usize) -> &[u64]
+    requires { ⌜ (k * width + width ≤ length (now area)) × (getD (now area) (k * width) 0 < width) ⌝ }
+    ensures { λ r. ⌜ now r ≡ slot width (now (area .entry)) k ⌝ }
+{
+    let start = k * width;
+    let from = start + 1;
+    let to = from + area[start] as usize;
+    &area[from..to]
+}
+
+// The polynomial in slot k.
+pub fn polynomial_in(area: &[u64], width: usize, k: usize, m: Modulus) -> Polynomial
+    requires { ⌜ ValidModulus m × Filled (m .p) width (now area) k × (width ≤ 257) ⌝ }
+    ensures { λ r. ⌜ Represents (m .p) r (slot width (now (area .entry)) k) ⌝ }
+{
+    let f = coefficients_in(area, width, k);
+    Polynomial::from_words(f, 0, f.len(), m)
+}

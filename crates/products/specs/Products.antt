@@ -1,0 +1,11 @@
+-- Products of polynomials in two areas of slots: those of a system and those of a certificate.
+use mathlib.Core.List.{List}
+use Prim.Native.Nat.{ℕ, _+_, _*_}
+use Rattle.algebra.specs.Coefficients.{mul}
+use Rattle.modular.specs.Modulo.{modulo}
+use Rattle.loader.specs.Slot.{slot}
+
+-- slot first + k·step of a system times slot start + k of a certificate
+unfoldable pub product : ℕ → List ℕ → ℕ → ℕ → List ℕ → ℕ → ℕ → List ℕ
+unfolding mul modulo slot
+product p system first step certificate start k = mul (modulo p) (slot 17 system (first + k * step)) (slot 122 certificate (start + k))

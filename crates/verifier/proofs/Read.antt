@@ -1,0 +1,206 @@
+-- What the areas hold once the words that were read are loaded, and that the verdict on the areas is the verdict on the words.
+use mathlib.Core.Path.{_≡_, refl, sym, ap, _∙_, subst}
+use mathlib.Core.List.{List, [], _∷_, _++_}
+use Prim.Native.Nat.{ℕ, suc, _+_, _*_, _≤_, _<_}
+use native.Mathlib.Nat.{zero-add, mul-le-mul}
+use native.Mathlib.Omega.{arith}
+use lib.ListN.{length, getD, length-append, List·getD-append}
+use lib.Seq.{getD-append-add, getD-at}
+use Rattle.modular.specs.Canonical.{Canonical}
+use Rattle.residue.specs.Modulus.{ValidModulus}
+use Rattle.residue.specs.declared.modulus.Modulus.{Modulus}
+use Rattle.words.specs.Limits.{office}
+use Rattle.words.specs.LimitsLaws.{office-fits}
+use Rattle.words.specs.Outcome.{Outcome, followedBy}
+use Rattle.words.specs.Polynomial.{Within, VectorWithin}
+use Rattle.words.specs.VectorLaws.{all-at}
+use Rattle.words.specs.System.{System, Shape, SystemWithin, ShapeWithin, shape, systemEntries, systemWords, readSystem}
+use Rattle.words.specs.SystemLaws.{system-written-of-read, system-laws}
+use Rattle.words.specs.Certificate.{Certificate, Form, CertificateWithin, certificateForm, certificateEntries, certificateWords, entryCount, readCertificate}
+use Rattle.words.specs.Certificate.Certificate.{solution, absence}
+use Rattle.words.specs.Certificate.Form.{solving, absent}
+use Rattle.words.specs.CertificateLaws.{certificate-written-of-read, certificate-laws}
+use Rattle.truth.specs.Verdict.{verdict, certificateVerdict, solutionVerdict, absenceVerdict}
+use Rattle.loader.specs.Slot.{slot, Holds, Stands, Filled}
+use Rattle.loader.specs.SlotLaws.{stands-filled}
+use Rattle.loader.specs.HoldLaws.{system-holds, system-canonical, system-count, certificate-holds, certificate-canonical, certificate-count}
+use Rattle.products.specs.declared.layout.Layout.{Layout}
+use Rattle.products.specs.Areas.{systemIn, vectorIn, denominatorIn, numeratorsIn, certifyingDenominatorIn, certifyingNumeratorsIn, ValidLayout, CertificateLoaded, Loaded}
+use Rattle.products.specs.AreaLaws.{vector-is, system-is}
+use Rattle.verifier.specs.BothRead.{BothRead}
+
+-- ---- the parts of a certificate in an area
+
+module _ (columns rows : ℕ) (area d : List ℕ) (N : List (List ℕ)) (w : List ℕ) (Z : List (List ℕ)) (eN : length N ≡ columns) (eZ : length Z ≡ rows)
+    (stands : Stands 122 area (d ∷ N ++ w ∷ Z)) where
+  entries-count : length (d ∷ N ++ w ∷ Z) ≡ columns + 2 + rows
+  entries-count = omega (arith, length-append N (w ∷ Z))
+
+  denominator-is : slot 122 area 0 ≡ d
+  denominator-is = stands .slots 0 (omega (arith, entries-count))
+
+  numerators-is : vectorIn columns 1 area ≡ N
+  numerators-is =
+      vector-is area (d ∷ N ++ w ∷ Z) N columns 1 stands eN (omega (arith, entries-count)) (λ k lt.
+      let next : 1 + k ≡ suc k = omega arith in
+      ap (λ (i : ℕ). getD (d ∷ N ++ w ∷ Z) i []) next ∙ List·getD-append N (w ∷ Z) [] k (omega arith))
+
+  certifying-denominator-is : slot 122 area (columns + 1) ≡ w
+  certifying-denominator-is = stands .slots (columns + 1) (omega (arith, entries-count)) ∙ getD-at (d ∷ N) w Z [] (columns + 1) (omega arith)
+
+  certifying-numerators-is : vectorIn rows (columns + 2) area ≡ Z
+  certifying-numerators-is =
+      vector-is area (d ∷ N ++ w ∷ Z) Z rows (columns + 2) stands eZ (omega (arith, entries-count)) (λ k lt.
+      let next : columns + 2 + k ≡ length (d ∷ N) + suc k = omega arith in
+      ap (λ (i : ℕ). getD (d ∷ N ++ w ∷ Z) i []) next ∙ getD-append-add (d ∷ N) (w ∷ Z) (suc k) [])
+
+  pub solution-is : (s : System)
+      → solutionVerdict s (slot 122 area 0) (vectorIn columns 1 area) (slot 122 area (columns + 1)) (vectorIn rows (columns + 2) area) ≡ solutionVerdict s d N w Z
+  solution-is s = rw (denominator-is, numerators-is, certifying-denominator-is, certifying-numerators-is)
+
+absence-is : (rows : ℕ) (area : List ℕ) (q : List (List ℕ)) → length q ≡ rows → Stands 122 area q → vectorIn rows 0 area ≡ q
+absence-is rows area q e stands =
+    vector-is area q q rows 0 stands e (omega arith) (λ k lt. ap (λ (i : ℕ). getD q i []) (zero-add k))
+
+-- ---- the areas and the words
+
+module _ {h : Shape} {form : Form} {ws cs : List ℕ} (b : BothRead h form ws cs) where
+  abbrev s : System
+  s = b .system
+
+  abbrev c : Certificate
+  c = b .certificate
+
+  sheet : (ws ≡ systemWords s) × SystemWithin office s
+  sheet = system-written-of-read office office-fits ws s (b .system-read)
+
+  card : (cs ≡ certificateWords c) × CertificateWithin office (shape s) c
+  card = certificate-written-of-read office (shape s) cs c (b .certificate-read)
+
+  pub read-shape : ShapeWithin office h
+  read-shape = rw (b .same-shape) (sheet .1 .shape)
+
+  -- there are at most 72 polynomials
+  pub read-places : h .rows * h .columns ≤ 64
+  read-places = mul-le-mul (read-shape .rows .1) (read-shape .columns .1)
+
+  -- ---- what `load` asks
+
+  pub read-system : Holds 17 ws (systemEntries s)
+  read-system = system-holds office office-fits ws s (sheet .0) (sheet .1)
+
+  pub read-system-count : length (systemEntries s) ≡ h .rows * h .columns + h .rows
+  read-system-count = system-count office office-fits ws s (sheet .0) (sheet .1) ∙ ap (λ (g : Shape). g .rows * g .columns + g .rows) (sym (b .same-shape))
+
+  pub read-certificate : Holds 122 cs (certificateEntries c)
+  read-certificate = certificate-holds office office-fits cs (shape s) (sheet .1 .shape) c (card .0) (card .1)
+
+  certificate-entries : length (certificateEntries c) ≡ entryCount h form
+  certificate-entries =
+      certificate-count office office-fits cs (shape s) (sheet .1 .shape) c (card .0) (card .1)
+      ∙ ap (λ (g : Shape). entryCount g (certificateForm c)) (sym (b .same-shape))
+      ∙ ap (entryCount h) (sym (b .same-form))
+
+  pub read-solution-count : form ≡ solving → length (certificateEntries c) ≡ h .columns + 2 + h .rows
+  unfolding entryCount
+  read-solution-count e = let n = certificate-entries ∙ ap (entryCount h) e in omega arith
+
+  pub read-absence-count : form ≡ absent → length (certificateEntries c) ≡ h .rows
+  unfolding entryCount
+  read-absence-count e = certificate-entries ∙ ap (entryCount h) e
+
+  -- ---- the verdict
+
+  verdict-read : certificateVerdict s c ≡ verdict office ws cs
+  unfolding verdict
+  verdict-read =
+      sym
+      (ap (λ o. followedBy o (λ t. followedBy (readCertificate office (shape t) cs) (certificateVerdict t))) (b .system-read)
+      ∙ ap (λ o. followedBy o (certificateVerdict s)) (b .certificate-read))
+
+  -- ---- the areas, loaded
+
+  module _
+      (m : Modulus)
+      (valid : ValidModulus m)
+      (same : m .p ≡ h .modulus)
+      (A C : List ℕ)
+      (room-A : length A ≡ 1224)
+      (room-C : length C ≡ 2196)
+      (in-A : Stands 17 A (systemEntries s))
+      (in-C : Stands 122 C (certificateEntries c))
+    where
+      abbrev l : Layout
+      l = record { modulus = m; rows = h .rows; columns = h .columns }
+
+      same-modulus : m .p ≡ s .modulus
+      same-modulus = same ∙ ap (λ (g : Shape). g .modulus) (b .same-shape)
+
+      filled-system : (k : ℕ) → k < h .rows * h .columns + h .rows → Filled (m .p) 17 A k
+      filled-system k lt =
+          let few : length (systemEntries s) * 17 ≤ 1224 = omega (arith, read-system-count, read-places, read-shape .rows .1) in
+          stands-filled in-A k (omega (arith, read-system-count)) (omega arith) (read-system .sizes k)
+          (subst (λ (p : ℕ). Canonical p (getD (systemEntries s) k [])) (sym same-modulus) (system-canonical office office-fits ws s (sheet .0) (sheet .1) k))
+
+      filled-certificate : length (certificateEntries c) ≤ 18 → (k : ℕ) → k < length (certificateEntries c) → Filled (m .p) 122 C k
+      filled-certificate few k lt =
+          stands-filled in-C k lt (omega arith) (read-certificate .sizes k)
+          (subst (λ (p : ℕ). Canonical p (getD (certificateEntries c) k [])) (sym same-modulus)
+          (certificate-canonical office office-fits cs (shape s) (sheet .1 .shape) c (card .0) (card .1) k))
+
+      loaded : (count : ℕ) → length (certificateEntries c) ≡ count → count ≤ 18 → Loaded l count A C
+      loaded count all few = record {
+        certificate =
+            record {
+              layout = record { modulus = valid; rows = read-shape .rows .1; columns = read-shape .columns .1 };
+              filled = λ k lt. filled-certificate (omega arith) k (omega arith);
+            };
+        system = filled-system;
+      }
+
+      pub loaded-solution : form ≡ solving → Loaded l (h .columns + 2 + h .rows) A C
+      loaded-solution e =
+          let r = read-shape .rows .1 in
+          let k = read-shape .columns .1 in
+          loaded (h .columns + 2 + h .rows) (read-solution-count e) (omega arith)
+
+      pub loaded-absence : form ≡ absent → Loaded l (h .rows) A C
+      loaded-absence e =
+          let r = read-shape .rows .1 in
+          loaded (h .rows) (read-absence-count e) (omega arith)
+
+      system-in : systemIn l A ≡ s
+      system-in =
+          system-is l A s in-A same-modulus (ap (λ (g : Shape). g .rows) (b .same-shape)) (ap (λ (g : Shape). g .columns) (b .same-shape))
+          (sheet .1 .matrix .count) (sheet .1 .right .count)
+
+      -- by the form of the certificate
+      solution-by : (x : Certificate) → solving ≡ certificateForm x → CertificateWithin office (shape s) x → Stands 122 C (certificateEntries x)
+          → solutionVerdict s (denominatorIn C) (numeratorsIn l C) (certifyingDenominatorIn l C) (certifyingNumeratorsIn l C) ≡ certificateVerdict s x
+      unfolding certificateForm certificateEntries CertificateWithin certificateVerdict
+      solution-by (solution d N w Z) e k stands =
+          let eN : length N ≡ h .columns = k .numerators .count ∙ ap (λ (g : Shape). g .columns) (sym (b .same-shape)) in
+          let eZ : length Z ≡ h .rows = k .certifyingNumerators .count ∙ ap (λ (g : Shape). g .rows) (sym (b .same-shape)) in
+          solution-is (h .columns) (h .rows) C d N w Z eN eZ stands s
+      solution-by (absence q) e k stands = absurd (let z : _≡_ {A = ℕ} 0 1 = cc in omega arith)
+
+      absence-by : (x : Certificate) → absent ≡ certificateForm x → CertificateWithin office (shape s) x → Stands 122 C (certificateEntries x)
+          → absenceVerdict s (vectorIn (h .rows) 0 C) ≡ certificateVerdict s x
+      unfolding certificateForm certificateEntries CertificateWithin certificateVerdict
+      absence-by (solution d N w Z) e k stands = absurd (let z : _≡_ {A = ℕ} 0 1 = cc in omega arith)
+      absence-by (absence q) e k stands =
+          ap (absenceVerdict s) (absence-is (h .rows) C q (k .count ∙ ap (λ (g : Shape). g .rows) (sym (b .same-shape))) stands)
+
+      pub verdict-solution : form ≡ solving → {told : Outcome (Unit {0})}
+          → told ≡ solutionVerdict (systemIn l A) (denominatorIn C) (numeratorsIn l C) (certifyingDenominatorIn l C) (certifyingNumeratorsIn l C)
+          → told ≡ verdict office ws cs
+      verdict-solution e is =
+          is
+          ∙ ap (λ (t : System). solutionVerdict t (denominatorIn C) (numeratorsIn l C) (certifyingDenominatorIn l C) (certifyingNumeratorsIn l C)) system-in
+          ∙ solution-by c (sym e ∙ b .same-form) (card .1) in-C
+          ∙ verdict-read
+
+      pub verdict-absence : form ≡ absent → {told : Outcome (Unit {0})} → told ≡ absenceVerdict (systemIn l A) (vectorIn (h .rows) 0 C)
+          → told ≡ verdict office ws cs
+      verdict-absence e is =
+          is ∙ ap (λ (t : System). absenceVerdict t (vectorIn (h .rows) 0 C)) system-in ∙ absence-by c (sym e ∙ b .same-form) (card .1) in-C ∙ verdict-read
