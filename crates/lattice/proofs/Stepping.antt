@@ -1,0 +1,171 @@
+-- A step on the block in hand: the multiple of the slot at its pivot that takes the leading word away. `divide` and `insert` make
+-- the same step.
+use Prim.Native.Nat.{ℕ, suc, _+_, _-_, _*_, _/_, _%_, _<_, _≤_}
+use mathlib.Core.Path.{_≡_, refl, sym, _∙_, ap, ap₂, subst}
+use mathlib.Core.Logic.{_⊎_, inl, inr, ⊎-elim}
+use mathlib.Core.List.{List, [], _∷_}
+use native.Mathlib.Nat.{mod-lt, mul-le-mul}
+use native.Mathlib.Omega.{arith}
+use lib.ListN.{length, getD}
+use Rattle.ring.specs.Ring.{Ring}
+use Rattle.ring.specs.Identity.{quotes, identity}
+use Rattle.ring.specs.Combination.{given, combination}
+use Rattle.algebra.specs.Field.{Field}
+use Rattle.modular.specs.Prime.{Prime}
+use Rattle.modular.specs.Modulo.{modulo}
+use Rattle.modular.specs.Residue.{Residue, residues}
+use Rattle.residue.specs.Below.{mul-below, inverse-below}
+use Rattle.vector.specs.Stored.{stored, length-stored, stored-outside, below-or-not}
+use Rattle.vector.specs.Multiple.{sumAt}
+use Rattle.vector.specs.Bound.{AtMost}
+use Rattle.lattice.specs.Word.{residue, residue-same, residue-mod, residue-mul, residue-inverse, zero-residue}
+use Rattle.lattice.specs.Word.{words, words-inside, words-first}
+use Rattle.lattice.specs.Memory.{row, ZeroFrom, Ends, Level, slotSize, Sums, ValidSlot, ValidLevel}
+use Rattle.lattice.specs.Sums.{sums-room, sums-step}
+use Rattle.lattice.specs.Step.{factorOf, HasStep}
+use Rattle.lattice.specs.Range.{words-zero, zero-word, words-upper, words-lower}
+
+-- h less h/u times u
+cancelled : {K : Type 0} (R : Ring K) (h u i : K) → R .mul u i ≡ R .one → R .add h (R .neg (R .mul (R .mul h i) u)) ≡ R .zero
+cancelled R h u i e = combination R (R .add h (R .neg (R .mul (R .mul h i) u))) (R .zero) (given (R .neg h) e ∷ [])
+    (identity R (h ∷ u ∷ i ∷ []) (λ ρ qh qu qi. search quotes depth 16) refl)
+
+-- the leading word and its slot's inverse are factors
+pub value-below : {p : ℕ} {L : Level} {block : List ℕ} {k value : ℕ} → 0 < p → HasStep p L block k value → value < p
+value-below {p} {L} {block} {k} positive S = subst (λ x. x < p) (sym (S .leading)) (mod-lt (getD block (k - 1) 0) positive)
+
+pub slot-inverse-below : {p : ℕ} {L : Level} {block : List ℕ} {k value : ℕ} → Prime p → HasStep p L block k value
+    → getD (L .inverses) (row k) 0 < p
+slot-inverse-below {p} {L} {block} {k} prime S =
+    subst (λ x. x < p) (sym (S .level .slot (row k) (omega arith) .inverse (S .filled))) (inverse-below p (prime .large) _)
+
+-- the place of the factor among the quotients
+pub place-inside : {p : ℕ} {L : Level} {block : List ℕ} {k value : ℕ} → HasStep p L block k value
+    → k - slotSize L (row k) + (7 - row k) < 1088
+place-inside {k = k} S = omega (arith, S .level .slot (row k) (omega arith) .pivot (S .filled), S .ends .within, S .filled, S .fits)
+
+-- a times the slot is taken off, `shift` degrees up
+module _ (p : ℕ) (prime : Prime p) {L : Level} {block : List ℕ} {k value : ℕ} (S : HasStep p L block k value) (a : ℕ)
+    (by : a ≡ factorOf p L k value) where
+  abbrev pub pivot : ℕ
+  pivot = row k
+
+  abbrev pub size : ℕ
+  size = slotSize L (row k)
+
+  abbrev pub shift : ℕ
+  shift = (k - slotSize L (row k)) / 8
+
+  slot : ValidSlot p L (row k)
+  slot = S .level .slot (row k) (omega arith)
+
+  pub step-factor : a < p
+  step-factor = subst (λ x. x < p) (sym by) (mul-below p (prime .large) value (getD (L .inverses) (row k) 0))
+
+  -- the shift is by whole degrees
+  pub step-shift : k - slotSize L (row k) ≡ shift * 8
+  step-shift = omega (arith, slot .pivot (S .filled), S .fits, S .filled)
+
+  pub step-word : (i : ℕ) → getD (L .slots) i 0 < p
+  step-word = S .level .below
+
+  pub step-product : (i : ℕ) → (p - a) * getD (L .slots) i 0 ≤ p * p
+  step-product i = mul-le-mul {n₁ = p - a} {m₁ = getD (L .slots) i 0} {n₂ = p} {m₂ = p} (omega arith) (omega (arith, step-word i))
+
+  -- the places of the step are there, and the sums fit
+  pub step-room : k - slotSize L (row k) + slotSize L (row k) ≤ length block
+  step-room = omega (arith, S .room, S .fits, S .ends .within)
+
+  pub step-sum : Sums p 1 block → p ≤ 65521 → (j : ℕ)
+      → sumAt block (k - slotSize L (row k)) (L .slots) (256 * row k) (p - a) j < 18446744073709551616
+  step-sum sums limit j =
+      let positive : 0 < p = omega (arith, prime .large) in
+      omega (arith, sums-room p block 1 positive limit sums (k - slotSize L (row k) + j), step-product (256 * row k + j))
+
+  pub step-slot-room : 256 * row k + slotSize L (row k) ≤ length (L .slots)
+  step-slot-room = omega (arith, S .level .room, slot .block .within)
+
+  module _ (block′ : List ℕ)
+      (stores : block′ ≡ stored (sumAt block (k - slotSize L (row k)) (L .slots) (256 * row k) (p - a)) block
+      (k - slotSize L (row k)) (slotSize L (row k))) where
+    abbrev d : ℕ
+    d = k - slotSize L (row k)
+
+    abbrev c : ℕ
+    c = p - a
+
+    pub step-sums : (n : ℕ) → 0 < n → n ≤ 62112 → Sums p n block → Sums p (n - 1) block′
+    step-sums = sums-step p block block′ d (L .slots) (256 * row k) size c stores step-product
+
+    pub step-reducible : Sums p 1 block → p ≤ 65521 → (j : ℕ) → getD block′ j 0 < 4294967296 * p
+    step-reducible sums limit j =
+        let positive : 0 < p = omega (arith, prime .large) in
+        omega (arith, sums-room p block′ 0 positive limit (step-sums 1 (omega arith) (omega arith) sums) j)
+
+    pub step-length : length block′ ≡ length block
+    step-length = ap length stores ∙ length-stored _ block d size
+
+    upper : (x : ℕ) → words p prime block′ 0 1088 (d + x)
+        ≡ residues p prime .ring .add (words p prime block 0 1088 (d + x))
+        (residues p prime .ring .neg (residues p prime .ring .mul (residue p prime a) (words p prime (L .slots) (256 * row k) 128 x)))
+    upper = words-upper p prime block block′ (L .slots) d (256 * row k) size 128 1088 a stores step-factor
+        (omega (arith, S .fits, S .ends .within)) (S .room) (slot .block .behind) (slot .block .within)
+
+    lower : (x : ℕ) → x < d → words p prime block′ 0 1088 x ≡ words p prime block 0 1088 x
+    lower = words-lower p prime block block′ (L .slots) d (256 * row k) size 128 1088 a stores step-factor
+        (omega (arith, S .fits, S .ends .within)) (S .room) (slot .block .behind) (slot .block .within)
+
+    -- as `flat-step` of `reduction` takes it
+    pub step-upper : (x : ℕ) → words p prime block′ 0 1088 (shift * 8 + x)
+        ≡ residues p prime .ring .add (words p prime block 0 1088 (shift * 8 + x))
+        (residues p prime .ring .neg (residues p prime .ring .mul (residue p prime a) (words p prime (L .slots) (256 * row k) 128 x)))
+    step-upper = rw step-shift at upper
+
+    pub step-lower : (x : ℕ) → x < shift * 8 → words p prime block′ 0 1088 x ≡ words p prime block 0 1088 x
+    step-lower = rw step-shift at lower
+
+    -- a is the quotient of the leading words, so that the leading word goes
+    abbrev F : Field (Residue p)
+    F = residues p prime
+
+    abbrev last : ℕ
+    last = getD (L .slots) (256 * row k + (slotSize L (row k) - 1)) 0
+
+    last-nonzero : ¬ (residue p prime last ≡ F .ring .zero)
+    last-nonzero e = omega (arith, slot .block .last (S .filled), zero-residue p prime last e)
+
+    factor : residue p prime a ≡ F .ring .mul (words p prime block 0 1088 (k - 1)) (F .inverse (residue p prime last))
+    unfolding modulo
+    factor =
+        let inside : k - 1 < 1088 = omega (arith, S .some, S .ends .within) in
+        ap (residue p prime) by
+        ∙ residue-mod p prime (value * getD (L .inverses) (row k) 0)
+        ∙ residue-mul p prime value (getD (L .inverses) (row k) 0)
+        ∙ ap₂
+        (F .ring .mul)
+        (ap (residue p prime) (S .leading) ∙ residue-mod p prime (getD block (k - 1) 0) ∙ sym (words-first p prime block 1088 (k - 1) inside))
+        (ap (residue p prime) (slot .inverse (S .filled)) ∙ residue-inverse p prime last (step-word _))
+
+    leading-gone : words p prime block′ 0 1088 (k - 1) ≡ F .ring .zero
+    leading-gone =
+        let place : d + (slotSize L (row k) - 1) ≡ k - 1 = omega (arith, S .filled, S .fits) in
+        let inside : slotSize L (row k) - 1 < 128 = omega (arith, S .filled, slot .block .within) in
+        subst (λ x. words p prime block′ 0 1088 x ≡ F .ring .add (words p prime block 0 1088 x)
+        (F .ring .neg (F .ring .mul (residue p prime a) (words p prime (L .slots) (256 * row k) 128 (slotSize L (row k) - 1)))))
+        place (upper (slotSize L (row k) - 1))
+        ∙ ap₂ (λ x y. F .ring .add (words p prime block 0 1088 (k - 1)) (F .ring .neg (F .ring .mul x y)))
+        factor (words-inside p prime (L .slots) (256 * row k) 128 _ inside)
+        ∙ cancelled (F .ring) (words p prime block 0 1088 (k - 1)) (residue p prime last) (F .inverse (residue p prime last))
+        (F .mul-inverse (residue p prime last) last-nonzero)
+
+    pub step-behind : ZeroFrom p block′ 0 1088 (k - 1)
+    step-behind j h lt =
+        ⊎-elim
+        (λ less.
+        let here : j ≡ k - 1 = omega (arith, S .some) in
+        zero-word p prime block′ 0 1088 j lt (ap (words p prime block′ 0 1088) here ∙ leading-gone))
+        (λ more.
+        ap (λ w. getD w (0 + j) 0 % p) stores
+        ∙ ap (λ w. w % p) (stored-outside _ block d size (0 + j) (inr (omega (arith, S .fits))))
+        ∙ S .ends .behind j more lt)
+        (below-or-not j k)

@@ -1,0 +1,185 @@
+-- A step of an insertion: the multiple of the slot at the pivot is taken off the hand, block and tail. It is a `Step` of
+-- `reduction`.
+use Prim.Native.Nat.{ℕ, suc, _+_, _-_, _*_, _/_, _%_, _<_, _≤_, max}
+use mathlib.Core.Path.{_≡_, refl, sym, _∙_, ap}
+use mathlib.Core.Logic.{inr}
+use mathlib.Core.List.{List}
+use native.Mathlib.Omega.{arith}
+use lib.ListN.{length, getD}
+use Rattle.algebra.specs.Polynomial.{Polynomial, polynomials}
+use Rattle.algebra.specs.Size.{sized}
+use Rattle.modular.specs.Prime.{Prime}
+use Rattle.modular.specs.Residue.{Residue, residues}
+use Rattle.vector.specs.Stored.{stored, length-stored, stored-outside}
+use Rattle.vector.specs.Multiple.{sumAt}
+use Rattle.reduction.specs.Total.{total, total-le, total-constant}
+use Rattle.reduction.specs.Pivot.{Pivot}
+use Rattle.reduction.specs.Slots.{same-refl}
+use Rattle.reduction.specs.Trace.{State, Step, Trace, start, step}
+use Rattle.reduction.specs.Holds.{monomial, monomial-size}
+use Rattle.reduction.specs.Held.{held-step}
+use Rattle.lattice.specs.declared.step.Remains.{Remains}
+use Rattle.lattice.specs.Word.{residue, words}
+use Rattle.lattice.specs.Memory.{row, height, ZeroFrom, Ends, Level, slotSize, tailSize, Sums, ValidSlot, ValidLevel}
+use Rattle.lattice.specs.Memory.{Memory, memory, places, Valid}
+use Rattle.lattice.specs.Holding.{HoldsState, Reached}
+use Rattle.lattice.specs.Range.{words-upper, words-lower}
+use Rattle.lattice.specs.Sums.{sums-room, sums-fewer, sums-step}
+use Rattle.lattice.specs.Reading.{holds-pivot}
+use Rattle.lattice.specs.Step.{HasStep, TakesMultiple}
+use Rattle.lattice.specs.Moves.{Fits, Stepped}
+use Rattle.lattice.proofs.Stepping
+
+-- no more than 2112 places
+pub places-most : {p : ℕ} {M : Memory} → Valid p M → places M ≤ 2112
+places-most {p} {M} valid = omega (
+  arith,
+  total-le 8 (slotSize (M .level)) (λ q. 128) (λ q h. valid .level .slot q h .block .within),
+  total-constant 8 128,
+  valid .hand .block .within,
+)
+
+pub fits-step : {p : ℕ} {M : Memory} → Valid p M → Fits M → HasStep p (M .level) (M .block) (M .hand .size) (M .hand .leading)
+fits-step valid fits = record {
+  level = valid .level;
+  room = valid .hand .room;
+  ends = valid .hand .block;
+  some = fits .some;
+  leading = valid .hand .leading (fits .some);
+  filled = fits .filled;
+  fits = fits .shorter;
+}
+
+module _ {p : ℕ} (prime₀ : Prime p) {M : Memory} (valid : Valid p M) (fits : Fits M) {block′ : List ℕ} {r : Remains}
+    (T : TakesMultiple p (M .level) (M .block) (M .hand .size) (M .hand .leading) block′ r) where
+  abbrev k : ℕ
+  k = M .hand .size
+
+  abbrev q : ℕ
+  q = row (M .hand .size)
+
+  abbrev L : Level
+  L = M .level
+
+  abbrev S : HasStep p (M .level) (M .block) (M .hand .size) (M .hand .leading)
+  S = fits-step valid fits
+
+  -- how many degrees the slot is moved up, and the size of its tail
+  abbrev pub shift : ℕ
+  shift = (M .hand .size - slotSize (M .level) (row (M .hand .size))) / 8
+
+  abbrev size : ℕ
+  size = tailSize (M .level) (row (M .hand .size))
+
+  slot : ValidSlot p (M .level) (row (M .hand .size))
+  slot = valid .level .slot (row (M .hand .size)) (omega arith)
+
+  whole : k - slotSize L q ≡ shift * 8
+  whole = Stepping.step-shift p prime₀ S (r .factor) (T .factor)
+
+  pub factor-below : r .factor < p
+  factor-below = Stepping.step-factor p prime₀ S (r .factor) (T .factor)
+
+  -- the places of the step on the tail
+  pub taking-inside : shift + size ≤ 256
+  taking-inside = omega (arith, whole, fits .filled, valid .hand .block .within, slot .tail-within)
+
+  pub taking-sum : p ≤ 65521 → (j : ℕ) → sumAt (M .tail) shift (L .slots) (256 * q + 128) (p - r .factor) j < 18446744073709551616
+  taking-sum limit j =
+      let positive : 0 < p = omega (arith, prime₀ .large) in
+      omega (
+        arith,
+        sums-room p (M .tail) (places M) positive limit (valid .hand .tail-sums) (shift + j),
+        Stepping.step-product p prime₀ S (r .factor) (T .factor) (256 * q + 128 + j),
+      )
+
+  pub taking-slot-room : 256 * q + 128 + size ≤ length (L .slots)
+  taking-slot-room = omega (arith, valid .level .room, slot .tail-within)
+
+  module _ (tail′ : List ℕ) (stores : tail′ ≡ stored (sumAt (M .tail) shift (L .slots) (256 * q + 128) (p - r .factor)) (M .tail) shift size)
+      (t : ℕ) (larger : t ≡ max (M .hand .tail) (shift + size)) where
+    abbrev M′ : Memory
+    M′ = memory (M .level) block′ tail′ (record { size = r .size; leading = r .leading; tail = t })
+
+    behind : ZeroFrom p tail′ 0 256 t
+    behind j h lt =
+        ap (λ w. getD w (0 + j) 0 % p) stores
+        ∙ ap (λ w. w % p) (stored-outside _ (M .tail) shift size (0 + j) (inr (omega arith)))
+        ∙ valid .hand .tail j (omega arith) lt
+
+    taken-valid : Valid p M′
+    taken-valid = record {
+      level = valid .level;
+      hand = record {
+        room = omega (arith, valid .hand .room, Stepping.step-length p prime₀ S (r .factor) (T .factor) block′ (T .words));
+        tail-room = omega (arith, valid .hand .tail-room, ap length stores, length-stored
+            (sumAt (M .tail) shift (L .slots) (256 * q + 128) (p - r .factor)) (M .tail) shift size);
+        block = T .ends;
+        leading = T .leading;
+        tail-within = omega (arith, valid .hand .tail-within, taking-inside);
+        tail = behind;
+        sums = sums-fewer p block′ (places M - 1) (places M′) (omega (arith, T .fewer))
+            (Stepping.step-sums p prime₀ S (r .factor) (T .factor) block′ (T .words) (places M) (omega (arith, fits .some))
+            (omega (arith, places-most valid)) (valid .hand .sums));
+        tail-sums = sums-fewer p tail′ (places M - 1) (places M′) (omega (arith, T .fewer))
+            (sums-step p (M .tail) tail′ shift (L .slots) (256 * q + 128) size (p - r .factor) stores
+            (Stepping.step-product p prime₀ S (r .factor) (T .factor)) (places M) (omega (arith, fits .some))
+            (omega (arith, places-most valid)) (valid .hand .tail-sums));
+      };
+    }
+
+    module _ (prime : Prime p) (n : ℕ) (ω : ℕ → ℕ) (s : State (Polynomial (residues p prime))) (holds : HoldsState p prime n ω M s) where
+      P : Pivot (sized (residues p prime)) n ω (s .hand) (row (M .hand .size)) (s .size)
+      P = holds-pivot p prime (valid .hand) holds (fits .some)
+
+      length-slot : s .slots .size (row (M .hand .size)) ≡ height (slotSize (M .level) (row (M .hand .size)))
+      length-slot = holds .slots .size (row (M .hand .size)) (P .inside)
+
+      filled : 0 < s .slots .size (row (M .hand .size))
+      filled = omega (arith, length-slot, fits .filled)
+
+      abbrev a : Residue p
+      a = residue p prime (r .factor)
+
+      abbrev hand′ : ℕ → Polynomial (residues p prime)
+      hand′ i = polynomials (residues p prime) .add (s .hand i) (polynomials (residues p prime) .neg
+          (polynomials (residues p prime) .mul (monomial (residues p prime) a shift) (s .slots .at (row (M .hand .size)) i)))
+
+      abbrev after : State (Polynomial (residues p prime))
+      after = record { slots = s .slots; hand = hand′; size = height (r .size) }
+
+      made : Step (sized (residues p prime)) n s after
+      made = record {
+        taken = record {
+          at = row (M .hand .size);
+          inside = P .inside;
+          filled = filled;
+          factor = monomial (residues p prime) a shift;
+          equal = λ i h. refl;
+        };
+        longer = omega (arith, length-slot, holds .size, fits .shorter);
+        shift = omega (arith, monomial-size (residues p prime) a shift, length-slot, holds .size, fits .shorter, whole);
+        slots = same-refl (s .slots);
+        falls = omega (arith, holds .size, T .fewer);
+      }
+
+      reached : Reached p prime n ω s M′
+      reached = record {
+        now = after;
+        holds = record {
+          slots = holds .slots;
+          hand = held-step (residues p prime) a shift (holds .hand)
+              (holds .slots .vector (row (M .hand .size)) (P .inside) filled)
+              (Stepping.step-upper p prime S (r .factor) (T .factor) block′ (T .words))
+              (Stepping.step-lower p prime S (r .factor) (T .factor) block′ (T .words))
+              (words-upper p prime (M .tail) tail′ (L .slots) shift (256 * q + 128) size 128 256 (r .factor) stores factor-below
+              taking-inside (valid .hand .tail-room) (slot .tail) (omega (arith, slot .tail-within)))
+              (words-lower p prime (M .tail) tail′ (L .slots) shift (256 * q + 128) size 128 256 (r .factor) stores factor-below
+              taking-inside (valid .hand .tail-room) (slot .tail) (omega (arith, slot .tail-within)));
+          size = refl;
+        };
+        trace = step start made;
+      }
+
+    pub taking-stepped : Stepped p M M′
+    taking-stepped = record { moved = record { valid = taken-valid; leads = reached }; falls = omega (arith, T .fewer) }

@@ -1,0 +1,33 @@
+-- One move after another: what memory leads to.
+use Prim.Native.Nat.{ℕ, _<_}
+use native.Mathlib.Omega.{arith}
+use Rattle.ring.specs.Ring.{Ring}
+use Rattle.algebra.specs.Sized.{Sized}
+use Rattle.reduction.specs.Trace.{State, Trace, start, alike, step, exchange}
+use Rattle.lattice.specs.Memory.{Memory}
+use Rattle.lattice.specs.Holding.{Leads}
+use Rattle.lattice.specs.Moves.{Moved, Stepped, Swapped}
+
+pub trace-then : {A : Type 0} {R : Ring A} {S : Sized R} {n : ℕ} {ω : ℕ → ℕ} {s t u : State A}
+    → Trace S n ω s t → Trace S n ω t u → Trace S n ω s u
+trace-then r start = r
+trace-then r (alike x e) = alike (trace-then r x) e
+trace-then r (step x m) = step (trace-then r x) m
+trace-then r (exchange x m) = exchange (trace-then r x) m
+
+module _ {p : ℕ} where
+  pub leads-none : (M : Memory) → Leads p M M
+  leads-none M prime n ω s holds = record { now = s; holds = holds; trace = start }
+
+  pub leads-then : (M M′ M″ : Memory) → Leads p M M′ → Leads p M′ M″ → Leads p M M″
+  leads-then M M′ M″ f g prime n ω s holds =
+      let first = f prime n ω s holds in
+      let second = g prime n ω (first .now) (first .holds) in
+      record { now = second .now; holds = second .holds; trace = trace-then (first .trace) (second .trace) }
+
+  -- an exchange and a step
+  pub swapped-stepped : {M M′ M″ : Memory} → Swapped p M M′ → Stepped p M′ M″ → Stepped p M M″
+  swapped-stepped {M} {M′} {M″} x y = record {
+    moved = record { valid = y .moved .valid; leads = leads-then M M′ M″ (x .moved .leads) (y .moved .leads) };
+    falls = omega (arith, x .same, y .falls);
+  }

@@ -1,0 +1,33 @@
+-- A step on the block in hand: when there is one, and what it leaves. The slot at the block's pivot is filled and no longer than
+-- the block; the multiple of it that takes the leading word away is taken off.
+use Prim.Native.Nat.{ℕ, _+_, _-_, _*_, _%_, _<_, _≤_}
+use mathlib.Core.Path.{_≡_}
+use mathlib.Core.List.{List}
+use lib.ListN.{length, getD}
+use Rattle.modular.specs.Modulo.{modulo}
+use Rattle.vector.specs.Stored.{stored}
+use Rattle.vector.specs.Multiple.{sumAt}
+use Rattle.lattice.specs.declared.step.Remains.{Remains}
+use Rattle.lattice.specs.Memory.{row, Ends, Level, slotSize, ValidLevel}
+
+-- k is the size of the block, value its leading word modulo p
+pub record HasStep (p : ℕ) (L : Level) (block : List ℕ) (k value : ℕ) : Type 0 where
+  pub level : ValidLevel p L
+  pub room : 1088 ≤ length block
+  pub ends : Ends p block 0 1088 k
+  pub some : 0 < k
+  pub leading : value ≡ getD block (k - 1) 0 % p
+  pub filled : 0 < slotSize L (row k)
+  pub fits : slotSize L (row k) ≤ k
+
+-- the quotient of the leading words
+abbrev pub factorOf : (p : ℕ) → Level → (k value : ℕ) → ℕ
+factorOf p L k value = modulo p .mul value (getD (L .inverses) (row k) 0)
+
+pub record TakesMultiple (p : ℕ) (L : Level) (block : List ℕ) (k value : ℕ) (block′ : List ℕ) (r : Remains) : Type 0 where
+  pub factor : r .factor ≡ factorOf p L k value
+  pub words : block′ ≡ stored (sumAt block (k - slotSize L (row k)) (L .slots) (256 * row k) (p - r .factor)) block
+      (k - slotSize L (row k)) (slotSize L (row k))
+  pub ends : Ends p block′ 0 1088 (r .size)
+  pub leading : 0 < r .size → r .leading ≡ getD block′ (r .size - 1) 0 % p
+  pub fewer : r .size < k

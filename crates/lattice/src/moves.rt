@@ -1,0 +1,88 @@
+// The moves of an insertion: a multiple of the slot at the pivot is taken off the hand, and the hand and that slot change places.
+use crate::hand::Hand;
+use crate::step::take_multiple;
+use residue::modulus::Modulus;
+use vector::Leading;
+use vector::add_scaled;
+use vector::exchange;
+use vector::find_leading;
+ghost use mathlib.Core.Path.{_≡_};
+ghost use Prim.Native.Nat.{max};
+ghost use Rattle.residue.specs.Modulus.{ValidModulus};
+ghost use Rattle.lattice.specs.Memory.{level, memory, Valid};
+ghost use Rattle.lattice.specs.Moves.{Fits, Exceeds, Stepped, Swapped};
+
+pub fn larger(a: usize, b: usize) -> usize
+    ensures { λ r. ⌜ r ≡ max a b ⌝ }
+{
+    if a < b { b } else { a }
+}
+
+// Takes the multiple of the slot at the pivot off the hand, block and tail, that takes its leading word away.
+pub fn take_from_hand(
+    slots: &[u64],
+    sizes: &[usize],
+    inverses: &[u64],
+    block: &mut [u64],
+    tail: &mut [u64],
+    hand: Hand,
+    modulus: Modulus,
+) -> Hand
+    requires { ⌜ ValidModulus modulus ⌝ }
+    requires memory { ⌜ Valid (modulus .p) (memory (level (now slots) (now sizes) (now inverses)) (now block) (now tail) hand) ⌝ }
+    requires fits { ⌜ Fits (memory (level (now slots) (now sizes) (now inverses)) (now block) (now tail) hand) ⌝ }
+    ensures { λ r. ⌜ Stepped (modulus .p)
+        (memory (level (now (slots .entry)) (now (sizes .entry)) (now (inverses .entry))) (now (block .entry)) (now (tail .entry)) hand)
+        (memory (level (now (slots .entry)) (now (sizes .entry)) (now (inverses .entry))) (now (block .exit)) (now (tail .exit)) r) ⌝ }
+{
+    let k = hand.size;
+    let q = 7 - (k - 1) % 8;
+    let shift = (k - sizes[q]) / 8;
+    let size = sizes[8 + q];
+    let found = Leading {
+        size: k,
+        value: hand.leading,
+    };
+    let left = take_multiple(slots, sizes, inverses, block, found, modulus);
+    add_scaled(tail, shift, slots, 256 * q + 128, size, modulus.p - left.factor);
+    Hand {
+        size: left.size,
+        leading: left.leading,
+        tail: larger(hand.tail, shift + size),
+    }
+}
+
+// Exchanges the hand with the slot at its pivot, which is longer. What goes into the slot is reduced.
+pub fn swap_with_slot(
+    slots: &mut [u64],
+    sizes: &mut [usize],
+    inverses: &mut [u64],
+    block: &mut [u64],
+    tail: &mut [u64],
+    hand: Hand,
+    modulus: Modulus,
+) -> Hand
+    requires { ⌜ ValidModulus modulus ⌝ }
+    requires memory { ⌜ Valid (modulus .p) (memory (level (now slots) (now sizes) (now inverses)) (now block) (now tail) hand) ⌝ }
+    requires longer { ⌜ Exceeds (modulus .p) (memory (level (now slots) (now sizes) (now inverses)) (now block) (now tail) hand) ⌝ }
+    ensures { λ r. ⌜ Swapped (modulus .p)
+        (memory (level (now (slots .entry)) (now (sizes .entry)) (now (inverses .entry))) (now (block .entry)) (now (tail .entry)) hand)
+        (memory (level (now (slots .exit)) (now (sizes .exit)) (now (inverses .exit))) (now (block .exit)) (now (tail .exit)) r) ⌝ }
+{
+    let k = hand.size;
+    let q = 7 - (k - 1) % 8;
+    let size = sizes[q];
+    let leading = slots[256 * q + (size - 1)];
+    let slot_tail = sizes[8 + q];
+    let found = find_leading(tail, hand.tail, modulus);
+    exchange(block, slots, 256 * q, size, modulus);
+    exchange(tail, slots, 256 * q + 128, larger(found.size, slot_tail), modulus);
+    inverses[q] = modulus.inverse(hand.leading);
+    sizes[q] = k;
+    sizes[8 + q] = found.size;
+    Hand {
+        size,
+        leading,
+        tail: slot_tail,
+    }
+}
