@@ -140,16 +140,23 @@ module _ {p : ℕ} (prime₀ : Prime p) {M : Memory} {t m : ℕ} (E : Swap p M t
 
   -- what is stored to the slot is reduced
   below-stored : (w s : List ℕ) (b n : ℕ) → ((i : ℕ) → getD s i 0 < p) → (i : ℕ) → getD (stored (λ j. getD w j 0 % p) s b n) i 0 < p
-  below-stored w s b n below i = omega (arith, at-most-stored (p - 1) (λ j. getD w j 0 % p) s b n
-      (λ j lt. omega (arith, mod-lt (getD w j 0) positive)) (λ i. omega (arith, below i)) i)
+  below-stored w s b n below i = omega (
+    arith,
+    at-most-stored (p - 1) (λ j. getD w j 0 % p) s b n
+        (λ j lt. omega (arith, mod-lt (getD w j 0) positive)) (λ i. omega (arith, below i)) i,
+  )
 
   below₁ : (i : ℕ) → getD (slots₁ p M) i 0 < p
   below₁ = below-stored (M .block) (L .slots) (256 * q) (slotSize L q) (E .valid .level .below)
 
   level-valid : ValidLevel p level′
   level-valid = record {
-    room = omega (arith, E .valid .level .room, length-stored (λ j. getD (M .tail) j 0 % p) (slots₁ p M) (256 * q + 128) m,
-        length-stored (λ j. getD (M .block) j 0 % p) (L .slots) (256 * q) (slotSize L q));
+    room = omega (
+      arith,
+      E .valid .level .room,
+      length-stored (λ j. getD (M .tail) j 0 % p) (slots₁ p M) (256 * q + 128) m,
+      length-stored (λ j. getD (M .block) j 0 % p) (L .slots) (256 * q) (slotSize L q),
+    );
     all-sizes = omega (arith, E .valid .level .all-sizes, length-set sizes₁ (8 + q) t, length-set (L .sizes) q k);
     all-inverses = omega (arith, E .valid .level .all-inverses, length-set (L .inverses) q (modulo p .inverse (M .hand .leading)));
     below = below-stored (M .tail) (slots₁ p M) (256 * q + 128) m below₁;

@@ -112,8 +112,13 @@ module _ {p : ℕ} (prime₀ : Prime p) {M : Memory} (valid : Valid p M) (fits :
       level = valid .level;
       hand = record {
         room = omega (arith, valid .hand .room, Stepping.step-length p prime₀ S (r .factor) (T .factor) block′ (T .words));
-        tail-room = omega (arith, valid .hand .tail-room, ap length stores, length-stored
-            (sumAt (M .tail) shift (L .slots) (256 * q + 128) (p - r .factor)) (M .tail) shift size);
+        tail-room = omega (
+          arith,
+          valid .hand .tail-room,
+          ap length stores,
+          length-stored
+              (sumAt (M .tail) shift (L .slots) (256 * q + 128) (p - r .factor)) (M .tail) shift size,
+        );
         block = T .ends;
         leading = T .leading;
         tail-within = omega (arith, valid .hand .tail-within, taking-inside);

@@ -56,8 +56,11 @@ module _ (p : ℕ) (prime : Prime p) where
       tail-zero q h f =
           let A = holds .slots .vector q h f in
           let q-small : q < 8 = omega (arith, A .block .lanes) in
-          size-none (residues p prime) (s .slots .at q n) (omega (arith, holds-size (residues p prime) (A .tail) 0
-          (λ j l. words-zero p prime (M .level .slots) (256 * q + 128) 128 (tailSize (M .level) q) (valid .level .slot q q-small .tail) j (omega (arith, starts .tails q q-small)))))
+          size-none (residues p prime) (s .slots .at q n) (omega (
+            arith,
+            holds-size (residues p prime) (A .tail) 0
+                (λ j l. words-zero p prime (M .level .slots) (256 * q + 128) 128 (tailSize (M .level) q) (valid .level .slot q q-small .tail) j (omega (arith, starts .tails q q-small))),
+          ))
 
       tail-one : s .hand n ≡ polynomials (residues p prime) .one
       tail-one = holds-unique (residues p prime) (holds .hand .tail) (record { at = λ k. coefficients-one (residues p prime) k ∙ at k })

@@ -44,7 +44,14 @@ pub fn take_from_hand(
         value: hand.leading,
     };
     let left = take_multiple(slots, sizes, inverses, block, found, modulus);
-    add_scaled(tail, shift, slots, 256 * q + 128, size, modulus.p - left.factor);
+    add_scaled(
+        tail,
+        shift,
+        slots,
+        256 * q + 128,
+        size,
+        modulus.p - left.factor,
+    );
     Hand {
         size: left.size,
         leading: left.leading,
@@ -76,7 +83,13 @@ pub fn swap_with_slot(
     let slot_tail = sizes[8 + q];
     let found = find_leading(tail, hand.tail, modulus);
     exchange(block, slots, 256 * q, size, modulus);
-    exchange(tail, slots, 256 * q + 128, larger(found.size, slot_tail), modulus);
+    exchange(
+        tail,
+        slots,
+        256 * q + 128,
+        larger(found.size, slot_tail),
+        modulus,
+    );
     inverses[q] = modulus.inverse(hand.leading);
     sizes[q] = k;
     sizes[8 + q] = found.size;

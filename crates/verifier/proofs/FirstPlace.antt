@@ -47,7 +47,7 @@ module _ {n : ℕ} {holds : ℕ → Bool} {i : ℕ} (so-far : Passing n holds i)
   pub passing-turn : i < n → holds i ≡ false → Passing n holds (i + 1)
   passing-turn lt here = record { within = omega arith; free = below-more _ _ (so-far .free) here }
 
-  pub passing-found : (number : ℕ) → i < n → holds i ≡ true 
+  pub passing-found : (number : ℕ) → i < n → holds i ≡ true
       → _≡_ {A = Outcome (Unit {0})} (refused number i) (refuseFirst n holds number (accepted tt))
   passing-found number lt here = sym (refuseFirst-at n holds number (accepted tt) i lt (so-far .free) here)
 

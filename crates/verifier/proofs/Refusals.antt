@@ -11,7 +11,6 @@ use Rattle.truth.specs.Right.{certified}
 use Rattle.truth.specs.Verdict.{zero?, same?, monic?}
 use Rattle.verifier.specs.Table.{tryMonic, tryDenominators, trySide}
 
-
 -- 31
 module _ (p : ℕ) (d w : List ℕ) {t : Bool} (test-d : t ≡ monic? p d) where
   pub monic-first : not t ≡ true → _≡_ {A = Outcome (Unit {0})} (refused 31 0) (tryMonic p d w)

@@ -60,8 +60,7 @@ add-load-3 c = search needs
 load-requires-2 : tie.Need-load-requires-2
 load-requires-2 c κs =
     let S = c .before .before .before .before .before .before .before .before .before .before .before .before in
-    let shape = read-shape (S .pre) in
-    (
+    let shape = read-shape (S .pre) in (
       (_, read-certificate (S .pre), read-solution-count (S .pre) (ap formOf (c .before .enum-told .given .1))),
       omega (arith, shape .rows .1, shape .columns .1),
     )

@@ -98,8 +98,7 @@ exchange-requires c κs =
     let valid = S .pre .1 .0 in
     let slot = valid .level .slot (row (S .args .hand .size)) (omega arith) in
     let m : ValidModulus (S .args .modulus) = S .pre .0 in
-    let room = sums-room _ (S .args .block .now) _ (omega (arith, m .prime .large)) (m .limit) (valid .hand .sums) in
-    (
+    let room = sums-room _ (S .args .block .now) _ (omega (arith, m .prime .large)) (m .limit) (valid .hand .sums) in (
       (m, omega (arith, slot .block .within, valid .hand .room), omega (arith, slot .block .within, valid .level .room)),
       λ j lt. omega (arith, room j),
     )

@@ -22,7 +22,7 @@ loop-holds : tie.Need-loop-holds Inv-loop μ-loop
 loop-holds c = passing-start _ _
 
 column-wrong-requires : tie.Need-column-wrong-requires Inv-loop μ-loop
-column-wrong-requires c κs = 
+column-wrong-requires c κs =
     let S = c .before .before .before .before .before in
     ((S .pre .0, c .if1 .taken), S .pre .1)
 
