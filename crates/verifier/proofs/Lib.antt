@@ -1,8 +1,4 @@
-pub mod Refusals
-pub mod FirstPlace
-pub mod Tests
-pub mod Monic
-pub mod Values
-pub mod Order
+pub mod Parts
 pub mod Read
 pub mod Reading
+pub mod Files

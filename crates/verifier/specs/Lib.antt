@@ -1,3 +1,2 @@
-pub mod Answer
 pub mod BothRead
-pub mod Table
+pub mod File

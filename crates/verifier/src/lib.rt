@@ -1,10 +1,9 @@
-// The check (document 01, "Turned back"): reads the system, then the certificate, then tries 31 to 36. `solution` and `absence` have a
-// function for each row of the table.
-pub mod absence;
-pub mod solution;
+// The check (document 01, "Turned back"): reads the system, then the certificate, then tries 31 to 36, which are in `conditions`.
+pub mod file;
 
-use crate::absence::check_absence;
-use crate::solution::check_solution;
+pub use conditions::Verdict;
+use conditions::absence::check_absence;
+use conditions::solution::check_solution;
 use limits::Office;
 use loader::load;
 use products::CERTIFICATE_WIDTH;
@@ -21,16 +20,8 @@ ghost use mathlib.Core.Path.{_≡_};
 ghost use Rattle.words.specs.Limits.{office};
 ghost use Rattle.reader.specs.Answer.{shapeOf, formOf};
 ghost use Rattle.truth.specs.Verdict.{verdict};
-ghost use Rattle.verifier.specs.Answer.{verdictOutcome};
+ghost use Rattle.conditions.specs.Answer.{verdictOutcome};
 ghost use Rattle.verifier.specs.BothRead.{BothRead};
-
-// What the check says of a certificate.
-pub enum Verdict {
-    // It is a right certificate for the system.
-    Accepted,
-    // The number of the refusal, and its place.
-    Refused(u8, usize),
-}
 
 // 31 to 36, of a system and a certificate that were read.
 pub fn check_read(system: &[u32], certificate: &[u32], shape: Shape, form: Form) -> Verdict

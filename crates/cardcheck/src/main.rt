@@ -1,0 +1,58 @@
+// cardcheck SHEET CARD: prints whether the card (a certificate) in the one file is accepted for the sheet (a system) in the other, or
+// the number and the place of the refusal. Whatever else there is to say is a line of its own, on standard output too.
+mod file;
+
+use cases::output::refused;
+use cases::output::text;
+use file::read_file;
+use verifier::file::FileVerdict;
+use verifier::file::check_files;
+
+// A byte more than any sheet's or card's file has: a file that fills it is too long.
+const SPACE: usize = 8797;
+
+// A line about a file.
+fn say(what: &[u8], name: &[u8]) {
+    text(what);
+    text(name);
+    text(b"\n");
+}
+
+// The verdict; `card` is the name of the second file.
+fn show(verdict: FileVerdict, card: &[u8]) {
+    match verdict {
+        FileVerdict::Accepted => text(b"accepted\n"),
+        FileVerdict::Refused(refusal, place) => refused(refusal, place),
+        FileVerdict::NotCertificate => say(b"not a card file: ", card),
+    }
+}
+
+fn run(sheet: &[u8], card: &[u8]) {
+    let mut system = [0u8; SPACE];
+    let mut certificate = [0u8; SPACE];
+    let first = read_file(sheet, &mut system);
+    let second = read_file(card, &mut certificate);
+    if !first.found {
+        say(b"cannot read: ", sheet);
+        return;
+    }
+    if !second.found {
+        say(b"cannot read: ", card);
+        return;
+    }
+    let n = first.count;
+    let m = second.count;
+    show(check_files(&system[0..n], &certificate[0..m]), card);
+}
+
+fn main() {
+    if os::arg_count() != 3 {
+        text(b"usage: cardcheck SHEET CARD\n");
+        return;
+    }
+    let mut sheet = io::buffer();
+    let mut card = io::buffer();
+    let n = os::arg(1, &mut sheet);
+    let m = os::arg(2, &mut card);
+    run(&sheet[..n], &card[..m]);
+}

@@ -1,0 +1,6 @@
+pub mod Refusals
+pub mod FirstPlace
+pub mod Tests
+pub mod Monic
+pub mod Values
+pub mod Order

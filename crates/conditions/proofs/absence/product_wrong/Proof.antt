@@ -1,0 +1,26 @@
+-- The sum is zero or not.
+use mathlib.Core.Path.{ap}
+use mathlib.Core.Bool.{not}
+use native.Mathlib.Nat.{zero-add}
+use Rattle.conditions.specs.Table.{productWrong}
+use Rattle.conditions.proofs.Tests.{zero-test}
+use borrow.Author.Needs.{needs}
+use Rattle.conditions.proofs.absence.product_wrong.Statement.{statement}
+use Rattle.conditions.proofs.absence.product_wrong.Tie as tie
+use Rattle.conditions.proofs.absence.product_wrong.Reads as reads
+use Rattle.conditions.proofs.absence.product_wrong.Lts as lts
+use Rattle.polynomial.proofs.value.Polynomial.is_zero.Reads as is-zero-reads
+use Rattle.products.proofs.matrix.column.Reads as column-reads
+
+column-requires : tie.Need-column-requires
+column-requires c κs = let S = c .before .before in (rw zero-add (S .pre .0), S .pre .1)
+
+is-zero-requires : tie.Need-is-zero-requires
+is-zero-requires c κs = search needs
+
+returns : tie.Need-returns
+unfolding productWrong
+returns c = ap not (zero-test (c .before .column .ensures) (c .is-zero .ensures))
+
+pub product-wrong-spec : {M : Type 1} → statement M
+product-wrong-spec = tie.close (tie.spec column-requires is-zero-requires returns)

@@ -1,0 +1,26 @@
+-- The sum is zero or not.
+use native.Mathlib.Nat.{zero-add}
+use Rattle.conditions.proofs.Refusals.{side-zero, side-some}
+use Rattle.conditions.proofs.Tests.{zero-test}
+use borrow.Author.Needs.{needs}
+use Rattle.conditions.proofs.absence.try_side.Statement.{statement}
+use Rattle.conditions.proofs.absence.try_side.Tie as tie
+use Rattle.conditions.proofs.absence.try_side.Reads as reads
+use Rattle.conditions.proofs.absence.try_side.Lts as lts
+use Rattle.polynomial.proofs.value.Polynomial.is_zero.Reads as is-zero-reads
+use Rattle.products.proofs.matrix.side.Reads as side-reads
+
+side-requires : tie.Need-side-requires
+side-requires c κs = rw zero-add (c .before .before .pre)
+
+is-zero-requires : tie.Need-is-zero-requires
+is-zero-requires c κs = search needs
+
+returns : tie.Need-returns
+returns c = side-zero _ _ (zero-test (c .before .before .side .ensures) (c .before .is-zero .ensures)) (c .if1 .taken)
+
+returns-2 : tie.Need-returns-2
+returns-2 c = side-some _ _ (zero-test (c .before .before .side .ensures) (c .before .is-zero .ensures)) (c .if1 .left)
+
+pub try-side-spec : {M : Type 1} → statement M
+try-side-spec = tie.close (tie.spec side-requires is-zero-requires returns returns-2)

@@ -1,0 +1,60 @@
+-- The loop keeps a `Passing`: no row before is wrong.
+use mathlib.Core.Path.{sym, _∙_}
+use Prim.Native.Nat.{_-_}
+use native.Mathlib.Omega.{arith}
+use borrow.Author.Needs.{needs}
+use Rattle.products.specs.Areas.{systemIn, denominatorIn, numeratorsIn, certifyingDenominatorIn, certifyingNumeratorsIn}
+use Rattle.conditions.specs.Table.{rowWrong, tryRows}
+use Rattle.conditions.proofs.FirstPlace.{Passing, passing-start, passing-turn, passing-found, passing-end}
+use Rattle.conditions.proofs.solution.try_rows.Statement.{statement}
+use Rattle.conditions.proofs.solution.try_rows.Tie as tie
+use Rattle.conditions.proofs.solution.try_rows.Reads as reads
+use Rattle.conditions.proofs.solution.try_rows.Lts as lts
+use Rattle.conditions.proofs.solution.row_wrong.Reads as row-wrong-reads
+
+abbrev Inv-loop : tie.InvT-loop
+Inv-loop system certificate layout i₀ i = Passing (layout .rows) (rowWrong (systemIn layout system) (denominatorIn certificate) (numeratorsIn layout certificate)) i
+
+abbrev μ-loop : tie.MeasureT-loop
+μ-loop system certificate layout i₀ i = layout .rows - i
+
+loop-holds : tie.Need-loop-holds Inv-loop μ-loop
+loop-holds c = passing-start _ _
+
+row-wrong-requires : tie.Need-row-wrong-requires Inv-loop μ-loop
+row-wrong-requires c κs = (c .before .before .before .before .before .pre, c .if1 .taken)
+
+returns : tie.Need-returns Inv-loop μ-loop
+unfolding systemIn tryRows
+returns c =
+    let called = c .before .row-wrong .ensures in
+    passing-found (c .before .before .before .before .loop .inv) _ (c .before .before .if1 .taken) (sym called ∙ c .if2 .taken)
+
+add-i : tie.Need-add-i Inv-loop μ-loop
+add-i c = search needs
+
+loop-less : tie.Need-loop-less Inv-loop μ-loop
+loop-less c = search needs
+
+loop-again : tie.Need-loop-again Inv-loop μ-loop
+loop-again c =
+    let called = c .before .row-wrong .ensures in
+    passing-turn (c .before .before .before .before .loop .inv) (c .before .before .if1 .taken) (sym called ∙ c .if2 .left)
+
+returns-2 : tie.Need-returns-2 Inv-loop μ-loop
+unfolding systemIn tryRows
+returns-2 c = passing-end (c .before .before .loop .inv) _ (c .if1 .left)
+
+pub try-rows-spec : {M : Type 1} → statement M
+try-rows-spec =
+    tie.close
+    (tie.spec
+    Inv-loop
+    μ-loop
+    loop-holds
+    row-wrong-requires
+    returns
+    add-i
+    loop-less
+    loop-again
+    returns-2)

@@ -1,0 +1,54 @@
+// The check on the bytes of two files, four to a word, lowest first.
+use crate::Verdict;
+use crate::check;
+use limits::Office;
+use reader::file::unpack;
+ghost use mathlib.Core.Path.{_≡_};
+ghost use Rattle.words.specs.Limits.{office};
+ghost use Rattle.verifier.specs.File.{certificateFile?, fileVerdict, fileOutcome};
+
+// What is said of a system's file and a certificate's.
+pub enum FileVerdict {
+    // The certificate is right for the system.
+    Accepted,
+    // The number of the refusal, and its place.
+    Refused(u8, usize),
+    // The second file is not whole words, or has too many for any certificate.
+    NotCertificate,
+}
+
+// One word more than the longest certificate has.
+const CERTIFICATE_SPACE: usize = Office::CERTIFICATE_WORDS + 1;
+
+fn is_certificate_file(bytes: &[u8]) -> bool
+    ensures { λ r. ⌜ r ≡ certificateFile? office (now (bytes .entry)) ⌝ }
+{
+    if bytes.len() % 4 != 0 {
+        return false;
+    }
+    bytes.len() <= 4 * CERTIFICATE_SPACE
+}
+
+// Number 10 for the system's file, then whether the other can be a certificate's, then the verdict on the words.
+pub fn check_files(system: &[u8], certificate: &[u8]) -> FileVerdict
+    ensures { λ r. ⌜ fileOutcome r ≡ fileVerdict office (now (system .entry)) (now (certificate .entry)) ⌝ }
+{
+    if system.len() % 4 != 0 {
+        return FileVerdict::Refused(10, 0);
+    }
+    if Office::FILE_BYTES < system.len() {
+        return FileVerdict::Refused(10, 0);
+    }
+    if !is_certificate_file(certificate) {
+        return FileVerdict::NotCertificate;
+    }
+    let mut system_words = [0u32; Office::SYSTEM_WORDS];
+    let n = unpack(system, &mut system_words);
+    let mut certificate_words = [0u32; CERTIFICATE_SPACE];
+    let m = unpack(certificate, &mut certificate_words);
+    let verdict = check(&system_words[..n], &certificate_words[..m]);
+    match verdict {
+        Verdict::Accepted => FileVerdict::Accepted,
+        Verdict::Refused(number, place) => FileVerdict::Refused(number, place),
+    }
+}
