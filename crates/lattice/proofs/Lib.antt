@@ -2,5 +2,6 @@ pub mod Stepping
 pub mod Dividing
 pub mod Taking
 pub mod SwappedWords
+pub mod SwappedLevel
 pub mod Swapping
 pub mod Inserting

@@ -1,12 +1,13 @@
 -- One move after another: what memory leads to.
-use Prim.Native.Nat.{ℕ, _<_}
+use Prim.Native.Nat.{ℕ, _<_, _≤_}
+use mathlib.Core.Path.{_≡_, _∙_, ap}
 use native.Mathlib.Omega.{arith}
 use Rattle.ring.specs.Ring.{Ring}
 use Rattle.algebra.specs.Sized.{Sized}
 use Rattle.reduction.specs.Trace.{State, Trace, start, alike, step, exchange}
-use Rattle.lattice.specs.Memory.{Memory}
+use Rattle.lattice.specs.Memory.{row, slotSize, Memory, Valid}
 use Rattle.lattice.specs.Holding.{Leads}
-use Rattle.lattice.specs.Moves.{Moved, Stepped, Swapped}
+use Rattle.lattice.specs.Moves.{Fits, Stepped, Swapped}
 
 pub trace-then : {A : Type 0} {R : Ring A} {S : Sized R} {n : ℕ} {ω : ℕ → ℕ} {s t u : State A}
     → Trace S n ω s t → Trace S n ω t u → Trace S n ω s u
@@ -25,9 +26,21 @@ module _ {p : ℕ} where
       let second = g prime n ω (first .now) (first .holds) in
       record { now = second .now; holds = second .holds; trace = trace-then (first .trace) (second .trace) }
 
-  -- an exchange and a step
-  pub swapped-stepped : {M M′ M″ : Memory} → Swapped p M M′ → Stepped p M′ M″ → Stepped p M M″
-  swapped-stepped {M} {M′} {M″} x y = record {
-    moved = record { valid = y .moved .valid; leads = leads-then M M′ M″ (x .moved .leads) (y .moved .leads) };
-    falls = omega (arith, x .same, y .falls);
-  }
+  -- an exchange with a longer slot, and a step
+  module _ {M M′ : Memory} (valid : Valid p M) (some : 0 < M .hand .size)
+      (longer : M .hand .size < slotSize (M .level) (row (M .hand .size))) (x : Swapped p M M′) where
+    pub swapped-fits : Fits M′
+    swapped-fits = record {
+      some = omega (arith, x .hand-size);
+      filled = rw same (omega (arith, x .slot-size));
+      shorter = rw same (omega (arith, x .slot-size, x .hand-size));
+    }
+      where
+        same : row (M′ .hand .size) ≡ row (M .hand .size)
+        same = ap row (x .hand-size) ∙ valid .level .slot (row (M .hand .size)) (omega arith) .pivot (omega arith)
+
+    pub swapped-stepped : {M″ : Memory} → Stepped p M′ M″ → Stepped p M M″
+    swapped-stepped {M″} y = record {
+      moved = record { valid = y .moved .valid; leads = leads-then M M′ M″ (x .leads (omega arith)) (y .moved .leads) };
+      falls = omega (arith, x .places-kept, y .falls);
+    }

@@ -1,8 +1,13 @@
 -- What the moves of an insertion ask of memory, and what they do to it.
 use Prim.Native.Nat.{ℕ, _<_, _≤_}
 use mathlib.Core.Path.{_≡_}
+use Rattle.modular.specs.Prime.{Prime}
+use Rattle.modular.specs.Residue.{residues}
+use Rattle.algebra.specs.Polynomial.{Polynomial}
+use Rattle.reduction.specs.Slots.{put}
+use Rattle.reduction.specs.Trace.{State}
 use Rattle.lattice.specs.Memory.{row, ZeroFrom, slotSize, Memory, places, Valid}
-use Rattle.lattice.specs.Holding.{Leads}
+use Rattle.lattice.specs.Holding.{HoldsSlots, HoldsState, Leads}
 
 -- the slot at the pivot of the hand is filled and no longer than the hand
 pub record Fits (M : Memory) : Type 0 where
@@ -10,10 +15,10 @@ pub record Fits (M : Memory) : Type 0 where
   pub filled : 0 < slotSize (M .level) (row (M .hand .size))
   pub shorter : slotSize (M .level) (row (M .hand .size)) ≤ M .hand .size
 
--- the slot at the pivot of the hand is longer than the hand, whose tail has room there
-pub record Exceeds (p : ℕ) (M : Memory) : Type 0 where
+-- the hand has room in a slot
+pub record HasRoom (p : ℕ) (M : Memory) : Type 0 where
   pub some : 0 < M .hand .size
-  pub longer : M .hand .size < slotSize (M .level) (row (M .hand .size))
+  pub block : M .hand .size ≤ 128
   pub tail : ZeroFrom p (M .tail) 0 256 121
 
 -- an insertion can go on: the slot at the pivot of the hand is filled, and the tail has room
@@ -32,8 +37,13 @@ pub record Stepped (p : ℕ) (M M′ : Memory) : Type 0 where
   pub moved : Moved p M M′
   pub falls : places M′ < places M
 
--- by an exchange, after which a step can follow
+-- The hand and the slot at its pivot changed places. Where the slot was filled, that is a move; where it was empty, the hand is now
+-- among the slots.
 pub record Swapped (p : ℕ) (M M′ : Memory) : Type 0 where
-  pub moved : Moved p M M′
-  pub same : places M′ ≡ places M
-  pub fits : Fits M′
+  pub valid : Valid p M′
+  pub places-kept : places M′ ≡ places M
+  pub hand-size : M′ .hand .size ≡ slotSize (M .level) (row (M .hand .size))
+  pub slot-size : slotSize (M′ .level) (row (M .hand .size)) ≡ M .hand .size
+  pub put : (prime : Prime p) (n : ℕ) (ω : ℕ → ℕ) (s : State (Polynomial (residues p prime))) → HoldsState p prime n ω M s
+      → HoldsSlots p prime n ω (M′ .level) (put (s .slots) (row (M .hand .size)) (s .hand) (s .size))
+  pub leads : 0 < slotSize (M .level) (row (M .hand .size)) → Leads p M M′

@@ -5,6 +5,7 @@ use mathlib.Core.Logic.{_⊎_, inl, inr, ⊎-elim}
 use mathlib.Core.List.{List, [], _∷_}
 use native.Mathlib.Nat.{zero-add}
 use native.Mathlib.Omega.{arith}
+use native.Mathlib.Decide.{decLe}
 use lib.ListN.{length, getD}
 use Rattle.ring.specs.Ring.{Ring}
 use Rattle.ring.specs.Identity.{quotes, identity}
@@ -15,6 +16,17 @@ use Rattle.vector.specs.Multiple.{sumAt}
 use Rattle.lattice.specs.Word.{residue, residue-same, same-residue, residue-zero, zero-residue, residue-mod, residue-less}
 use Rattle.lattice.specs.Word.{words, words-inside, words-behind, words-first}
 use Rattle.lattice.specs.Memory.{ZeroFrom, Ends}
+
+-- sizes compared
+pub ends-most : {p : ℕ} (l : List ℕ) (b n k m : ℕ) → Ends p l b n k → ZeroFrom p l b n m → k ≤ m
+ends-most l b n k m ends zero = go (decLe k m)
+  where
+    go : Dec (k ≤ m) → k ≤ m
+    go (yes h) = h
+    go (no h) = absurd (omega (arith, ends .last (omega arith), zero (k - 1) (omega arith) (omega (arith, ends .within))))
+
+pub ends-unique : {p : ℕ} (l : List ℕ) (b n k m : ℕ) → Ends p l b n k → Ends p l b n m → k ≡ m
+ends-unique l b n k m x y = omega (arith, ends-most l b n k m x (y .behind), ends-most l b n m k y (x .behind))
 
 module _ (p : ℕ) (prime : Prime p) where
   open Ring (residues p prime .ring) using (add as _⊕_, mul as _⊗_, neg as ⊝_, zero as 𝟎)

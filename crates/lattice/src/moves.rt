@@ -10,7 +10,7 @@ ghost use mathlib.Core.Path.{_≡_};
 ghost use Prim.Native.Nat.{max};
 ghost use Rattle.residue.specs.Modulus.{ValidModulus};
 ghost use Rattle.lattice.specs.Memory.{level, memory, Valid};
-ghost use Rattle.lattice.specs.Moves.{Fits, Exceeds, Stepped, Swapped};
+ghost use Rattle.lattice.specs.Moves.{Fits, HasRoom, Stepped, Swapped};
 
 pub fn larger(a: usize, b: usize) -> usize
     ensures { λ r. ⌜ r ≡ max a b ⌝ }
@@ -44,14 +44,8 @@ pub fn take_from_hand(
         value: hand.leading,
     };
     let left = take_multiple(slots, sizes, inverses, block, found, modulus);
-    add_scaled(
-        tail,
-        shift,
-        slots,
-        256 * q + 128,
-        size,
-        modulus.p - left.factor,
-    );
+    let minus = modulus.p - left.factor;
+    add_scaled(tail, shift, slots, 256 * q + 128, size, minus);
     Hand {
         size: left.size,
         leading: left.leading,
@@ -59,7 +53,7 @@ pub fn take_from_hand(
     }
 }
 
-// Exchanges the hand with the slot at its pivot, which is longer. What goes into the slot is reduced.
+// Exchanges the hand with the slot at its pivot, which may be empty. What goes into the slot is reduced.
 pub fn swap_with_slot(
     slots: &mut [u64],
     sizes: &mut [usize],
@@ -71,7 +65,7 @@ pub fn swap_with_slot(
 ) -> Hand
     requires { ⌜ ValidModulus modulus ⌝ }
     requires memory { ⌜ Valid (modulus .p) (memory (level (now slots) (now sizes) (now inverses)) (now block) (now tail) hand) ⌝ }
-    requires longer { ⌜ Exceeds (modulus .p) (memory (level (now slots) (now sizes) (now inverses)) (now block) (now tail) hand) ⌝ }
+    requires room { ⌜ HasRoom (modulus .p) (memory (level (now slots) (now sizes) (now inverses)) (now block) (now tail) hand) ⌝ }
     ensures { λ r. ⌜ Swapped (modulus .p)
         (memory (level (now (slots .entry)) (now (sizes .entry)) (now (inverses .entry))) (now (block .entry)) (now (tail .entry)) hand)
         (memory (level (now (slots .exit)) (now (sizes .exit)) (now (inverses .exit))) (now (block .exit)) (now (tail .exit)) r) ⌝ }
@@ -79,23 +73,19 @@ pub fn swap_with_slot(
     let k = hand.size;
     let q = 7 - (k - 1) % 8;
     let size = sizes[q];
-    let leading = slots[256 * q + (size - 1)];
     let slot_tail = sizes[8 + q];
-    let found = find_leading(tail, hand.tail, modulus);
-    exchange(block, slots, 256 * q, size, modulus);
-    exchange(
-        tail,
-        slots,
-        256 * q + 128,
-        larger(found.size, slot_tail),
-        modulus,
-    );
+    let hand_tail = find_leading(tail, hand.tail, modulus).size;
+    let words = larger(k, size);
+    exchange(block, slots, 256 * q, words, modulus);
+    let tail_words = larger(hand_tail, slot_tail);
+    exchange(tail, slots, 256 * q + 128, tail_words, modulus);
     inverses[q] = modulus.inverse(hand.leading);
     sizes[q] = k;
-    sizes[8 + q] = found.size;
+    sizes[8 + q] = hand_tail;
+    let found = find_leading(block, size, modulus);
     Hand {
-        size,
-        leading,
+        size: found.size,
+        leading: found.value,
         tail: slot_tail,
     }
 }

@@ -33,7 +33,8 @@ pub fn take_multiple(
     let q = 7 - (k - 1) % 8;
     let size = sizes[q];
     let factor = modulus.mul(found.value, inverses[q]);
-    add_scaled(block, k - size, slots, 256 * q, size, modulus.p - factor);
+    let minus = modulus.p - factor;
+    add_scaled(block, k - size, slots, 256 * q, size, minus);
     let left = find_leading(block, k - 1, modulus);
     Remains {
         size: left.size,

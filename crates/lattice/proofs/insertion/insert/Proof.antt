@@ -1,88 +1,77 @@
 -- The loop keeps an `Inserting`; its measure is the places.
-use Prim.Native.Nat.{ℕ, _<_}
-use mathlib.Core.Path.{_≡_}
 use native.Mathlib.Omega.{arith}
 use borrow.Author.Needs.{needs}
 use Rattle.lattice.specs.Memory.{level, memory, places}
 use Rattle.lattice.proofs.Inserting.{Inserting, inserting-start, inserting-turn, inserting-on, inserting-end}
 use Rattle.lattice.proofs.insertion.insert.Statement.{statement}
 use Rattle.lattice.proofs.insertion.insert.Tie as tie
-use Rattle.lattice.proofs.insertion.insert.Reads as reads
-use Rattle.lattice.proofs.insertion.insert.Lts as lts
-use Rattle.lattice.proofs.insertion.turn.Reads as turn-reads
 
 abbrev Inv-loop : tie.InvT-loop
 Inv-loop slots₀ sizes₀ inverses₀ block₀ tail₀ modulus hand₀ slots sizes inverses block tail hand =
-    Inserting (modulus .p) (memory (level slots₀ sizes₀ inverses₀) block₀ tail₀ hand₀) (memory (level slots sizes inverses) block tail hand)
+    Inserting (modulus .p) (memory (level slots₀ sizes₀ inverses₀) block₀ tail₀ hand₀)
+    (memory (level slots sizes inverses) block tail hand)
 
 abbrev μ-loop : tie.MeasureT-loop
 μ-loop slots₀ sizes₀ inverses₀ block₀ tail₀ modulus hand₀ slots sizes inverses block tail hand =
     places (memory (level slots sizes inverses) block tail hand)
 
--- src/insertion.rt:56:5
 loop-holds : tie.Need-loop-holds Inv-loop μ-loop
-loop-holds c = inserting-start (c .before .before .before .before .before .pre .1 .0)
+loop-holds c =
+    let S = c .before .before .before .before .before in
+    inserting-start (S .pre .1 .0)
 
--- src/insertion.rt:57:22
 sub-q : tie.Need-sub-q Inv-loop μ-loop
 sub-q c = search needs
 
--- src/insertion.rt:57:17
 sub-q-2 : tie.Need-sub-q-2 Inv-loop μ-loop
 sub-q-2 c = search needs
 
--- src/insertion.rt:58:12
 mul-if2 : tie.Need-mul-if2 Inv-loop μ-loop
 mul-if2 c = search needs
 
--- src/insertion.rt:58:12
 slice-read-if2 : tie.Need-slice-read-if2 Inv-loop μ-loop
 slice-read-if2 c = search needs
 
--- src/insertion.rt:59:13
 same-length : tie.Need-same-length Inv-loop μ-loop
 same-length c = search needs
 
--- src/insertion.rt:59:13
 same-length-2 : tie.Need-same-length-2 Inv-loop μ-loop
 same-length-2 c = search needs
 
--- src/insertion.rt:59:13
 same-length-3 : tie.Need-same-length-3 Inv-loop μ-loop
 same-length-3 c = search needs
 
--- src/insertion.rt:59:13
 same-length-4 : tie.Need-same-length-4 Inv-loop μ-loop
 same-length-4 c = search needs
 
--- src/insertion.rt:59:13
 same-length-5 : tie.Need-same-length-5 Inv-loop μ-loop
 same-length-5 c = search needs
 
--- src/insertion.rt:59:13
 returns : tie.Need-returns Inv-loop μ-loop
 returns c =
-    let S = c .before .before .before .before .before .before .before .before .before .before .before in
-    inserting-end (S .pre .0 .prime) (S .pre .1 .0) (S .pre .1 .1) (c .before .before .before .before .before .loop .inv) (λ some. c .if2 .taken)
+    let L = c .before .before .before .before .before in
+    let S = L .before .before .before .before .before .before in
+    inserting-end (S .pre .0 .prime) (S .pre .1 .0) (S .pre .1 .1) (L .loop .inv) (λ some. c .if2 .taken)
 
--- src/insertion.rt:61:9
 turn-requires : tie.Need-turn-requires Inv-loop μ-loop
 turn-requires c κs =
-    let S = c .before .before .before .before .before .before .before .before .before .before .before .before .before .before .before .before in
-    let I = c .before .before .before .before .before .before .before .before .before .before .loop .inv in
+    let L = c .before .before .before .before .before .before .before .before .before .before in
+    let S = L .before .before .before .before .before .before in
+    let I = L .loop .inv in
     (S .pre .0, (I .moved .valid, inserting-on (S .pre .0 .prime) (S .pre .1 .0) (S .pre .1 .1) I (omega arith) (omega arith)))
 
--- src/insertion.rt:56:5
 loop-less : tie.Need-loop-less Inv-loop μ-loop
-loop-less c = c .before .before .before .before .before .before .before .before .before .before .turn .ensures .falls
+loop-less c =
+    let T = c .before .before .before .before .before .before .before .before .before .before in
+    T .turn .ensures .falls
 
--- src/insertion.rt:56:5
 loop-again : tie.Need-loop-again Inv-loop μ-loop
 loop-again c =
-    let called = c .before .before .before .before .before .before .before .before .before .before .turn in
-    let same = called .kept in
+    let T = c .before .before .before .before .before .before .before .before .before .before in
+    let L = T .before .before .before .before .before .before .before .before .before .before .before in
+    let same = T .turn .kept in
     inserting-turn
-    (c .before .before .before .before .before .before .before .before .before .before .before .before .before .before .before .before .before .before .before .before .before .loop .inv)
+    (L .loop .inv)
     (record {
       slots = same .0;
       sizes = same .1 .0;
@@ -90,33 +79,28 @@ loop-again c =
       block = same .1 .1 .1 .0;
       tail = same .1 .1 .1 .1 .0;
     })
-    (called .ensures)
+    (T .turn .ensures)
 
--- src/insertion.rt:39:1
 same-length-6 : tie.Need-same-length-6 Inv-loop μ-loop
 same-length-6 c = search needs
 
--- src/insertion.rt:39:1
 same-length-7 : tie.Need-same-length-7 Inv-loop μ-loop
 same-length-7 c = search needs
 
--- src/insertion.rt:39:1
 same-length-8 : tie.Need-same-length-8 Inv-loop μ-loop
 same-length-8 c = search needs
 
--- src/insertion.rt:39:1
 same-length-9 : tie.Need-same-length-9 Inv-loop μ-loop
 same-length-9 c = search needs
 
--- src/insertion.rt:39:1
 same-length-10 : tie.Need-same-length-10 Inv-loop μ-loop
 same-length-10 c = search needs
 
--- src/insertion.rt:39:1
 returns-2 : tie.Need-returns-2 Inv-loop μ-loop
 returns-2 c =
-    let S = c .before .before .before .before .before .before .before .before in
-    inserting-end (S .pre .0 .prime) (S .pre .1 .0) (S .pre .1 .1) (c .before .before .loop .inv) (λ some. absurd (omega arith))
+    let L = c .before .before in
+    let S = L .before .before .before .before .before .before in
+    inserting-end (S .pre .0 .prime) (S .pre .1 .0) (S .pre .1 .1) (L .loop .inv) (λ some. absurd (omega arith))
 
 pub insert-spec : {M : Type 1} → statement M
 insert-spec =

@@ -1,96 +1,82 @@
 -- With an exchange before the step, or without.
 use native.Mathlib.Omega.{arith}
 use borrow.Author.Needs.{needs}
-use Rattle.lattice.specs.Leading.{swapped-stepped}
+use Rattle.lattice.specs.Memory.{row}
+use Rattle.lattice.specs.Leading.{swapped-fits, swapped-stepped}
 use Rattle.lattice.proofs.insertion.turn.Statement.{statement}
 use Rattle.lattice.proofs.insertion.turn.Tie as tie
-use Rattle.lattice.proofs.insertion.turn.Reads as reads
-use Rattle.lattice.proofs.insertion.turn.Lts as lts
-use Rattle.lattice.proofs.moves.swap_with_slot.Reads as swap-with-slot-reads
-use Rattle.lattice.proofs.moves.take_from_hand.Reads as take-from-hand-reads
 
--- src/insertion.rt:29:18
 sub-q : tie.Need-sub-q
 sub-q c = search needs
 
--- src/insertion.rt:29:13
 sub-q-2 : tie.Need-sub-q-2
 sub-q-2 c = search needs
 
--- src/insertion.rt:30:12
 mul-if1 : tie.Need-mul-if1
 mul-if1 c = search needs
 
--- src/insertion.rt:30:12
 slice-read-if1 : tie.Need-slice-read-if1
 slice-read-if1 c = search needs
 
--- src/insertion.rt:31:13
 swap-with-slot-requires : tie.Need-swap-with-slot-requires
 swap-with-slot-requires c κs =
     let S = c .before .before .before .before .before .before .before .before .before .before .before .before in
     let on = S .pre .1 .1 in
-    (S .pre .0, (S .pre .1 .0, record { some = on .some; longer = omega arith; tail = on .tail }))
+    let within = S .pre .1 .0 .level .slot (row (S .args .hand .size)) (omega arith) .block .within in
+    (S .pre .0, (S .pre .1 .0, record { some = on .some; block = omega arith; tail = on .tail }))
 
--- src/insertion.rt:32:9
 take-from-hand-requires : tie.Need-take-from-hand-requires
-take-from-hand-requires c κs = search needs
+take-from-hand-requires c κs =
+    let X = c .before .before .before .before .before .before .before .before .before .before .before .before .before .before .before in
+    let T = X .before .before .before .before .before .before in
+    let S = T .before .before .before .before .before .before .before in
+    let swapped = X .swap-with-slot .ensures in
+    (S .pre .0, (swapped .valid, swapped-fits (S .pre .1 .0) (S .pre .1 .1 .some) (T .if1 .taken) swapped))
 
--- src/insertion.rt:32:9
 same-length : tie.Need-same-length
 same-length c = search needs
 
--- src/insertion.rt:32:9
 same-length-2 : tie.Need-same-length-2
 same-length-2 c = search needs
 
--- src/insertion.rt:32:9
 same-length-3 : tie.Need-same-length-3
 same-length-3 c = search needs
 
--- src/insertion.rt:32:9
 same-length-4 : tie.Need-same-length-4
 same-length-4 c = search needs
 
--- src/insertion.rt:32:9
 same-length-5 : tie.Need-same-length-5
 same-length-5 c = search needs
 
--- src/insertion.rt:32:9
 returns : tie.Need-returns
 returns c =
-    swapped-stepped
-    (c .before .before .before .before .before .before .before .before .before .before .before .before .before .before .before .before .before .before .before .before .swap-with-slot .ensures)
-    (c .before .before .before .before .take-from-hand .ensures)
+    let Z = c .before .before .before .before in
+    let X = Z .before .before .before .before .before .before .before .before .before .before .before .before .before .before .before .before in
+    let T = X .before .before .before .before .before .before in
+    let S = T .before .before .before .before .before .before .before in
+    swapped-stepped (S .pre .1 .0) (S .pre .1 .1 .some) (T .if1 .taken) (X .swap-with-slot .ensures) (Z .take-from-hand .ensures)
 
--- src/insertion.rt:34:5
 take-from-hand-requires-2 : tie.Need-take-from-hand-requires-2
 take-from-hand-requires-2 c κs =
     let S = c .before .before .before .before .before .before .before .before .before .before .before .before in
     let on = S .pre .1 .1 in
     (S .pre .0, (S .pre .1 .0, record { some = on .some; filled = on .filled; shorter = omega arith }))
 
--- src/insertion.rt:12:1
 same-length-6 : tie.Need-same-length-6
 same-length-6 c = search needs
 
--- src/insertion.rt:12:1
 same-length-7 : tie.Need-same-length-7
 same-length-7 c = search needs
 
--- src/insertion.rt:12:1
 same-length-8 : tie.Need-same-length-8
 same-length-8 c = search needs
 
--- src/insertion.rt:12:1
 same-length-9 : tie.Need-same-length-9
 same-length-9 c = search needs
 
--- src/insertion.rt:12:1
 same-length-10 : tie.Need-same-length-10
 same-length-10 c = search needs
 
--- src/insertion.rt:12:1
 returns-2 : tie.Need-returns-2
 returns-2 c = search needs
 

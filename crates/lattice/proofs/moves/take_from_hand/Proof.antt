@@ -8,45 +8,31 @@ use Rattle.lattice.specs.Sums.{sums-fewer}
 use Rattle.lattice.proofs.Taking
 use Rattle.lattice.proofs.moves.take_from_hand.Statement.{statement}
 use Rattle.lattice.proofs.moves.take_from_hand.Tie as tie
-use Rattle.lattice.proofs.moves.take_from_hand.Reads as reads
-use Rattle.lattice.proofs.moves.take_from_hand.Lts as lts
-use Rattle.lattice.proofs.moves.larger.Reads as larger-reads
-use Rattle.lattice.proofs.step.take_multiple.Reads as take-multiple-reads
-use Rattle.vector.proofs.add_scaled.Reads as add-scaled-reads
 
--- src/moves.rt:38:18
 sub-q : tie.Need-sub-q
 sub-q c = search needs
 
--- src/moves.rt:38:13
 sub-q-2 : tie.Need-sub-q-2
 sub-q-2 c = search needs
 
--- src/moves.rt:39:22
 mul-shift : tie.Need-mul-shift
 mul-shift c = search needs
 
--- src/moves.rt:39:22
 shared-slice-read-shift : tie.Need-shared-slice-read-shift
 shared-slice-read-shift c = search needs
 
--- src/moves.rt:39:18
 sub-shift : tie.Need-sub-shift
 sub-shift c = search needs
 
--- src/moves.rt:40:22
 add-size : tie.Need-add-size
 add-size c = search needs
 
--- src/moves.rt:40:16
 mul-size : tie.Need-mul-size
 mul-size c = search needs
 
--- src/moves.rt:40:16
 shared-slice-read-size : tie.Need-shared-slice-read-size
 shared-slice-read-size c = search needs
 
--- src/moves.rt:45:9
 take-multiple-requires : tie.Need-take-multiple-requires
 take-multiple-requires c κs =
     let S = c .before .before .before .before .before .before .before .before in
@@ -56,29 +42,27 @@ take-multiple-requires c κs =
       (Taking.fits-step valid fits, sums-fewer _ (S .args .block .now) _ 1 (omega (arith, fits .some)) (valid .hand .sums)),
     )
 
--- src/moves.rt:46:36
+sub-minus : tie.Need-sub-minus
+sub-minus c =
+    let A = c .before .before .before .before in
+    let S = A .before .before .before .before .before .before .before .before .before in
+    omega (arith, Taking.factor-below (S .pre .0 .prime) (S .pre .1 .0) (S .pre .1 .1) (A .take-multiple .ensures))
+
 mul-add-scaled : tie.Need-mul-add-scaled
 mul-add-scaled c = search needs
 
--- src/moves.rt:46:36
 add-add-scaled : tie.Need-add-add-scaled
 add-add-scaled c = search needs
 
--- src/moves.rt:46:57
-sub-add-scaled : tie.Need-sub-add-scaled
-sub-add-scaled c =
-    let S = c .before .before .before .before .before .before .before .before .before .before .before .before .before .before in
-    omega (arith, Taking.factor-below (S .pre .0 .prime) (S .pre .1 .0) (S .pre .1 .1) (c .before .before .before .before .before .take-multiple .ensures))
-
--- src/moves.rt:46:5
 add-scaled-requires : tie.Need-add-scaled-requires
 add-scaled-requires c κs =
-    let S = c .before .before .before .before .before .before .before .before .before .before .before .before .before .before in
+    let A = c .before .before .before .before .before in
+    let S = A .before .before .before .before .before .before .before .before .before in
     let m : ValidModulus (S .args .modulus) = S .pre .0 in
     let limit : S .args .modulus .p ≤ 65521 = m .limit in
     let valid = S .pre .1 .0 in
     let fits = S .pre .1 .1 in
-    let taken = c .before .before .before .before .before .take-multiple .ensures in (
+    let taken = A .take-multiple .ensures in (
       (
         omega (arith, Taking.taking-inside (m .prime) valid fits taken, valid .hand .tail-room),
         Taking.taking-slot-room (m .prime) valid fits taken,
@@ -90,30 +74,28 @@ add-scaled-requires c κs =
       ),
     )
 
--- src/moves.rt:50:33
 add-larger : tie.Need-add-larger
 add-larger c =
-    let S = c .before .before .before .before .before .before .before .before .before .before .before .before .before .before .before .before .before in
-    omega (arith, Taking.taking-inside (S .pre .0 .prime) (S .pre .1 .0) (S .pre .1 .1) (c .before .before .before .before .before .before .before .before .take-multiple .ensures))
+    let A = c .before .before .before .before .before .before .before .before in
+    let S = A .before .before .before .before .before .before .before .before .before in
+    omega (arith, Taking.taking-inside (S .pre .0 .prime) (S .pre .1 .0) (S .pre .1 .1) (A .take-multiple .ensures))
 
--- src/moves.rt:50:15
 larger-requires : tie.Need-larger-requires
 larger-requires c κs = search needs
 
--- src/moves.rt:20:1
 same-length : tie.Need-same-length
 same-length c = search needs
 
--- src/moves.rt:20:1
 same-length-2 : tie.Need-same-length-2
 same-length-2 c = search needs
 
--- src/moves.rt:20:1
 returns : tie.Need-returns
 returns c =
-    let S = c .before .before .before .before .before .before .before .before .before .before .before .before .before .before .before .before .before .before in
-    Taking.taking-stepped (S .pre .0 .prime) (S .pre .1 .0) (S .pre .1 .1) (c .before .before .before .before .before .before .before .before .before .take-multiple .ensures)
-    _ (c .before .before .before .add-scaled .ensures .0) _ (c .larger .ensures)
+    let B = c .before .before .before in
+    let A = B .before .before .before .before .before .before in
+    let S = A .before .before .before .before .before .before .before .before .before in
+    Taking.taking-stepped (S .pre .0 .prime) (S .pre .1 .0) (S .pre .1 .1) (A .take-multiple .ensures)
+    _ (B .add-scaled .ensures .0) _ (c .larger .ensures)
 
 pub take-from-hand-spec : {M : Type 1} → statement M
 take-from-hand-spec =
@@ -128,9 +110,9 @@ take-from-hand-spec =
     mul-size
     shared-slice-read-size
     take-multiple-requires
+    sub-minus
     mul-add-scaled
     add-add-scaled
-    sub-add-scaled
     add-scaled-requires
     add-larger
     larger-requires

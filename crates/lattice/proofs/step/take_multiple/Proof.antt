@@ -8,65 +8,52 @@ use Rattle.lattice.specs.Found.{found-ends, found-leading, found-within}
 use Rattle.lattice.proofs.Stepping
 use Rattle.lattice.proofs.step.take_multiple.Statement.{statement}
 use Rattle.lattice.proofs.step.take_multiple.Tie as tie
-use Rattle.lattice.proofs.step.take_multiple.Reads as reads
-use Rattle.lattice.proofs.step.take_multiple.Lts as lts
-use Rattle.residue.proofs.modulus.Modulus.mul.Reads as mul-reads
-use Rattle.vector.proofs.find_leading.Reads as find-leading-reads
-use Rattle.vector.proofs.add_scaled.Reads as add-scaled-reads
 
--- src/step.rt:33:18
 sub-q : tie.Need-sub-q
 sub-q c = search needs
 
--- src/step.rt:33:13
 sub-q-2 : tie.Need-sub-q-2
 sub-q-2 c = search needs
 
--- src/step.rt:34:16
 mul-size : tie.Need-mul-size
 mul-size c = search needs
 
--- src/step.rt:34:16
 shared-slice-read-size : tie.Need-shared-slice-read-size
 shared-slice-read-size c = search needs
 
--- src/step.rt:35:43
 mul-mul : tie.Need-mul-mul
 mul-mul c = search needs
 
--- src/step.rt:35:43
 shared-slice-read-mul : tie.Need-shared-slice-read-mul
 shared-slice-read-mul c = search needs
 
--- src/step.rt:35:9
 mul-requires : tie.Need-mul-requires
 mul-requires c κs =
     let S = c .before .before .before .before .before .before in
     let m : ValidModulus (S .args .modulus) = S .pre .0 in
-    (m, Stepping.value-below (omega (arith, m .prime .large)) (S .pre .1 .0), Stepping.slot-inverse-below (m .prime) (S .pre .1 .0))
+    let step = S .pre .1 .0 in
+    (m, Stepping.value-below (omega (arith, m .prime .large)) step, Stepping.slot-inverse-below (m .prime) step)
 
--- src/step.rt:36:23
+sub-minus : tie.Need-sub-minus
+sub-minus c =
+    let A = c .before in
+    let S = A .before .before .before .before .before .before .before in
+    omega (arith, Stepping.step-factor _ (S .pre .0 .prime) (S .pre .1 .0) _ (A .mul .ensures))
+
 sub-add-scaled : tie.Need-sub-add-scaled
 sub-add-scaled c = search needs
 
--- src/step.rt:36:40
 mul-add-scaled : tie.Need-mul-add-scaled
 mul-add-scaled c = search needs
 
--- src/step.rt:36:55
-sub-add-scaled-2 : tie.Need-sub-add-scaled-2
-sub-add-scaled-2 c =
-    let S = c .before .before .before .before .before .before .before .before .before in
-    omega (arith, Stepping.step-factor _ (S .pre .0 .prime) (S .pre .1 .0) _ (c .before .before .mul .ensures))
-
--- src/step.rt:36:5
 add-scaled-requires : tie.Need-add-scaled-requires
 add-scaled-requires c κs =
-    let S = c .before .before .before .before .before .before .before .before .before in
+    let A = c .before .before in
+    let S = A .before .before .before .before .before .before .before in
     let m : ValidModulus (S .args .modulus) = S .pre .0 in
     let limit : S .args .modulus .p ≤ 65521 = m .limit in
     let step = S .pre .1 .0 in
-    let by = c .before .before .mul .ensures in (
+    let by = A .mul .ensures in (
       (Stepping.step-room _ (m .prime) step _ by, Stepping.step-slot-room _ (m .prime) step _ by, omega arith),
       (
         (λ j lt. omega (arith, step .level .below (256 * row (S .args .found .size) + j))),
@@ -74,42 +61,42 @@ add-scaled-requires c κs =
       ),
     )
 
--- src/step.rt:37:36
 sub-find-leading : tie.Need-sub-find-leading
 sub-find-leading c = search needs
 
--- src/step.rt:37:9
 find-leading-requires : tie.Need-find-leading-requires
 find-leading-requires c κs =
-    let S = c .before .before .before .before .before .before .before .before .before .before .before .before .before in
+    let B = c .before .before .before in
+    let A = B .before .before .before in
+    let S = A .before .before .before .before .before .before .before in
     let m : ValidModulus (S .args .modulus) = S .pre .0 in
     let step = S .pre .1 .0 in
-    let called = c .before .before .before .add-scaled in
-    let by = c .before .before .before .before .before .before .mul .ensures in
-    let same = Stepping.step-length _ (m .prime) step _ by _ (called .ensures .0) in (
+    let by = A .mul .ensures in
+    let words = B .add-scaled .ensures .0 in
+    let same = Stepping.step-length _ (m .prime) step _ by _ words in (
       (m, omega (arith, step .ends .within, step .room, same)),
-      λ j lt. Stepping.step-reducible _ (m .prime) step _ by _ (called .ensures .0) (S .pre .1 .1) (m .limit) j,
+      λ j lt. Stepping.step-reducible _ (m .prime) step _ by _ words (S .pre .1 .1) (m .limit) j,
     )
 
--- src/step.rt:18:1
 same-length : tie.Need-same-length
 same-length c = search needs
 
--- src/step.rt:18:1
 returns : tie.Need-returns
 returns c =
-    let S = c .before .before .before .before .before .before .before .before .before .before .before .before .before .before in
+    let B = c .before .before .before .before in
+    let A = B .before .before .before in
+    let S = A .before .before .before .before .before .before .before in
     let m : ValidModulus (S .args .modulus) = S .pre .0 in
     let positive : 0 < S .args .modulus .p = omega (arith, m .prime .large) in
     let step = S .pre .1 .0 in
     let k : ℕ = S .args .found .size in
-    let called = c .before .before .before .before .add-scaled in
-    let by = c .before .before .before .before .before .before .before .mul .ensures in
+    let by = A .mul .ensures in
+    let words = B .add-scaled .ensures .0 in
     let found = c .find-leading .ensures in
-    let behind = Stepping.step-behind _ (m .prime) step _ by _ (called .ensures .0) in
+    let behind = Stepping.step-behind _ (m .prime) step _ by _ words in
     let within : k - 1 ≤ 1088 = omega (arith, step .ends .within) in record {
       factor = by;
-      words = called .ensures .0;
+      words = words;
       ends = found-ends _ positive _ 1088 (k - 1) within behind _ (found .0);
       leading = found-leading _ positive _ 1088 (k - 1) within behind _ (found .0) _ (found .1);
       fewer = omega (arith, step .some, found-within _ positive _ 1088 (k - 1) within behind _ (found .0));
@@ -126,9 +113,9 @@ take-multiple-spec =
     mul-mul
     shared-slice-read-mul
     mul-requires
+    sub-minus
     sub-add-scaled
     mul-add-scaled
-    sub-add-scaled-2
     add-scaled-requires
     sub-find-leading
     find-leading-requires

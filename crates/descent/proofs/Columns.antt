@@ -1,0 +1,217 @@
+-- `take_column`: what is stored, and what is left of the block.
+use Prim.Native.Nat.{ℕ, zero, _+_, _-_, _*_, _%_, _<_, _≤_}
+use mathlib.Core.Path.{_≡_, refl, sym, _∙_, ap, ap₂, subst}
+use mathlib.Core.Logic.{inl, inr, ⊎-elim}
+use mathlib.Core.List.{List, [], _∷_}
+use native.Mathlib.Nat.{mod-lt, mod-eq-of-lt, zero-add}
+use native.Mathlib.Omega.{arith}
+use native.Mathlib.Decide.{decLt}
+use lib.ListN.{length, getD, List·getD-eq-default}
+use Rattle.ring.specs.Ring.{one-mul, neg-zero}
+use Rattle.ring.specs.Identity.{quotes, identity}
+use Rattle.algebra.specs.Field.{Field}
+use Rattle.algebra.specs.Polynomial.{Polynomial, polynomials, coefficients}
+use Rattle.algebra.specs.Polynomial.{equal-coefficients, coefficients-zero, coefficients-neg}
+use Rattle.algebra.specs.Expressions.{shift, shift-mul}
+use Rattle.modular.specs.Prime.{Prime}
+use Rattle.modular.specs.Modulo.{modulo}
+use Rattle.modular.specs.Residue.{Residue, residues}
+use Rattle.residue.specs.Below.{neg-below}
+use Rattle.vector.specs.Reduced.{polynomial}
+use Rattle.vector.specs.Stored.{stored, length-stored, stored-inside, stored-outside, below-or-not}
+use Rattle.reduction.specs.Holds.{Holds, read, read-at, read-beyond}
+use Rattle.reduction.specs.Flat.{Flat, flat}
+use Rattle.lattice.specs.Memory.{ZeroFrom, Ends}
+use Rattle.lattice.specs.Word.{residue, residue-mod, residue-neg, residue-zero}
+use Rattle.lattice.specs.Word.{zero-residue, words, words-inside, words-behind, words-first}
+use Rattle.lattice.specs.Range.{words-same, words-zero}
+use Rattle.lattice.specs.Reading.{flat-same}
+use Rattle.lattice.specs.Found.{found-ends}
+use Rattle.descent.specs.Product.{strided, less, TakesProduct}
+use Rattle.descent.specs.Column.{TakesColumn}
+
+module _ {p : ℕ} (prime₀ : Prime p) where
+  positive : 0 < p
+  positive = omega (arith, prime₀ .large)
+
+  negated : (prime : Prime p) (w : ℕ) → residue p prime (modulo p .neg (w % p)) ≡ residues p prime .ring .neg (residue p prime w)
+  unfolding modulo
+  negated prime w =
+      residue-mod p prime (p - w % p)
+      ∙ residue-neg p prime (w % p) (mod-lt w positive)
+      ∙ ap (residues p prime .ring .neg) (residue-mod p prime w)
+
+  -- minus w is zero where w is, and only there
+  neg-zero-word : (w : ℕ) → w % p ≡ 0 → modulo p .neg (w % p) % p ≡ 0
+  neg-zero-word w e = zero-residue p prime₀ _
+      (negated prime₀ w ∙ ap (residues p prime₀ .ring .neg) (residue-zero p prime₀ w e) ∙ neg-zero (residues p prime₀ .ring))
+
+  neg-positive : (w : ℕ) → 0 < w % p → 0 < modulo p .neg (w % p) % p
+  unfolding modulo
+  neg-positive w h =
+      let less : p - w % p < p = omega (arith, mod-lt w positive) in
+      let more : 0 < p - w % p = omega (arith, mod-lt w positive) in
+      omega (arith, mod-eq-of-lt less, mod-eq-of-lt (mod-lt (p - w % p) positive))
+
+  module _ (h h′ : List ℕ) (a : ℕ) (y : List ℕ) (stores : h′ ≡ stored (λ j. modulo p .neg (getD y j 0 % p)) h a 128)
+      (room : a + 128 ≤ length h) where
+    stored-word : (j : ℕ) → j < 128 → getD h′ (a + j) 0 ≡ modulo p .neg (getD y j 0 % p)
+    stored-word j lt = ap (λ l. getD l (a + j) 0) stores ∙ stored-inside _ h a 128 j room lt
+
+    pub stored-length : length h′ ≡ length h
+    stored-length = ap length stores ∙ length-stored _ h a 128
+
+    pub stored-below : ((i : ℕ) → getD h i 0 < p) → (i : ℕ) → getD h′ i 0 < p
+    stored-below below i =
+        ⊎-elim
+        (λ lo. subst (λ x. x < p) (sym (ap (λ l. getD l i 0) stores ∙ stored-outside _ h a 128 i (inl lo))) (below i))
+        (λ ge. ⊎-elim
+        (λ hi.
+        let place : a + (i - a) ≡ i = omega arith in
+        subst (λ x. x < p) (sym (ap (λ z. getD h′ z 0) (sym place) ∙ stored-word (i - a) (omega arith)))
+        (neg-below p (prime₀ .large) (getD y (i - a) 0 % p)))
+        (λ hi. subst (λ x. x < p) (sym (ap (λ l. getD l i 0) stores ∙ stored-outside _ h a 128 i (inr hi))) (below i))
+        (below-or-not i (a + 128)))
+        (below-or-not i a)
+
+    pub stored-ends : (size : ℕ) → size ≡ length (polynomial p y 0 128) → Ends p h′ a 128 size
+    stored-ends size found =
+        let E = found-ends p positive y 128 128 (omega arith) (λ j ge lt. absurd (omega arith)) size found in record {
+          within = E .within;
+          last = λ some. subst (λ x. 0 < x % p) (sym (stored-word (size - 1) (omega (arith, E .within))))
+              (neg-positive (getD y (size - 1) 0) (subst (λ i. 0 < getD y i 0 % p) (zero-add (size - 1)) (E .last some)));
+          behind = λ j ge lt. ap (λ x. x % p) (stored-word j lt)
+              ∙ neg-zero-word (getD y j 0) (ap (λ i. getD y i 0 % p) (sym (zero-add j)) ∙ E .behind j ge lt);
+        }
+
+    -- the words stored are those of x
+    module _ (zero : ZeroFrom p y 0 256 121) (prime : Prime p) (x : Polynomial (residues p prime))
+        (A : Holds (residues p prime) (words p prime y 0 256) (polynomials (residues p prime) .neg x)) where
+      coefficient-is : (j : ℕ) → coefficients (residues p prime) x j ≡ residues p prime .ring .neg (words p prime y 0 256 j)
+      coefficient-is j =
+          identity (residues p prime .ring) (coefficients (residues p prime) x j ∷ []) (λ ρ qx. search quotes depth 16) refl
+          ∙ ap (residues p prime .ring .neg) (sym (coefficients-neg (residues p prime) x j) ∙ A .at j)
+
+      coefficient-none : (j : ℕ) → 121 ≤ j → coefficients (residues p prime) x j ≡ residues p prime .ring .zero
+      coefficient-none j ge =
+          coefficient-is j
+          ∙ ap (residues p prime .ring .neg) (words-zero p prime y 0 256 121 zero j ge)
+          ∙ neg-zero (residues p prime .ring)
+
+      word-is : (j : ℕ) → j < 128 → residue p prime (getD h′ (a + j) 0) ≡ coefficients (residues p prime) x j
+      word-is j lt =
+          ap (residue p prime) (stored-word j lt)
+          ∙ negated prime (getD y j 0)
+          ∙ ap (residues p prime .ring .neg) (sym (words-first p prime y 256 j (omega arith)))
+          ∙ sym (coefficient-is j)
+
+      pub coordinate-held : Holds (residues p prime) (words p prime h′ a 128) x
+      coordinate-held = record { at = λ j. go j (decLt j 128) }
+        where
+          go : (j : ℕ) → Dec (j < 128) → coefficients (residues p prime) x j ≡ words p prime h′ a 128 j
+          go j (yes lt) = sym (words-inside p prime h′ a 128 j lt ∙ word-is j lt)
+          go j (no ge) = coefficient-none j (omega arith) ∙ sym (words-behind p prime h′ a 128 j (omega arith))
+
+      pub coordinate-read : read (residues p prime) 121 (strided p prime h′ a 1) ≡ x
+      coordinate-read = equal-coefficients (residues p prime) _ _ (λ j. go j (decLt j 121))
+        where
+          go : (j : ℕ) → Dec (j < 121) → coefficients (residues p prime)
+              (read (residues p prime) 121 (strided p prime h′ a 1)) j ≡ coefficients (residues p prime) x j
+          go j (yes lt) =
+              let place : a + j * 1 ≡ a + j = omega arith in
+              read-at (residues p prime) 121 (strided p prime h′ a 1) j lt
+              ∙ ap (λ i. residue p prime (getD h′ i 0)) place
+              ∙ word-is j (omega arith)
+          go j (no ge) = read-beyond (residues p prime) 121 (strided p prime h′ a 1) j (omega arith) ∙ sym
+              (coefficient-none j (omega arith))
+
+-- x^k times x by a product
+shift-product : {K : Type 0} (F : Field K) (k : ℕ) (x : Polynomial F) → shift F k x ≡ polynomials F .mul
+    (shift F k (polynomials F .one)) x
+shift-product F k x = ap (shift F k) (sym (one-mul (polynomials F) x)) ∙ shift-mul F k (polynomials F .one) x
+
+-- x^k·(v - x·u) = x^k·v - x·(x^k·u)
+shift-less : (p : ℕ) (prime : Prime p) (k : ℕ) (v x u : Polynomial (residues p prime))
+    → less p prime (shift (residues p prime) k v) x (shift (residues p prime) k u) ≡ shift (residues p prime) k
+    (less p prime v x u)
+shift-less p prime k v x u =
+    ap₂ (λ y z. less p prime y x z) (shift-product (residues p prime) k v) (shift-product (residues p prime) k u)
+    ∙ identity (polynomials (residues p prime)) (shift (residues p prime) k (polynomials (residues p prime) .one) ∷ v ∷ x ∷ u ∷ [])
+    (λ ρ qs qv qx qu. search quotes depth 16) refl
+    ∙ sym (shift-product (residues p prime) k (less p prime v x u))
+
+-- the product taken off every lane of a block
+module _ {p : ℕ} {t h : List ℕ} {a : ℕ} {columns : List ℕ} {at : ℕ} {t′ : List ℕ}
+    (T : TakesProduct p 8 t h a 1 121 columns at 128 t′) (room : 1088 ≤ length t) (prime : Prime p) (n : ℕ) (ω : ℕ → ℕ)
+    (v u : ℕ → Polynomial (residues p prime)) (x : Polynomial (residues p prime))
+    (is : read (residues p prime) 121 (strided p prime h a 1) ≡ x)
+    (A : Flat (residues p prime) n 8 ω (words p prime t 0 1088) v)
+    (B : Flat (residues p prime) n 8 ω (words p prime columns at 128) u) where
+  lane-after : (i : ℕ) → i < 8 → (y z : Polynomial (residues p prime))
+      → Holds (residues p prime) (λ e. words p prime t 0 1088 (flat 8 i e)) y
+      → Holds (residues p prime) (λ e. words p prime columns at 128 (flat 8 i e)) z
+      → Holds (residues p prime) (λ e. words p prime t′ 0 1088 (flat 8 i e)) (less p prime y x z)
+  lane-after i lane y z C D = subst
+      (λ w. Holds (residues p prime) (λ e. words p prime t′ 0 1088 (flat 8 i e)) (less p prime y w z)) is
+      (T .holds 1088 (omega arith) room prime i lane y z C D)
+
+  none : (H : ℕ → Residue p) → ((e : ℕ) → H e ≡ residues p prime .ring .zero) → Holds (residues p prime) H
+      (polynomials (residues p prime) .zero)
+  none H z = record { at = λ e. coefficients-zero (residues p prime) e ∙ sym (z e) }
+
+  abbrev 𝟘 : Polynomial (residues p prime)
+  𝟘 = polynomials (residues p prime) .zero
+
+  nothing : less p prime (polynomials (residues p prime) .zero) x (polynomials (residues p prime) .zero) ≡ polynomials
+      (residues p prime) .zero
+  nothing = identity (polynomials (residues p prime)) (x ∷ []) (λ ρ qx. search quotes depth 16) refl
+
+  pub block-after : Flat (residues p prime) n 8 ω (words p prime t′ 0 1088) (λ i. less p prime (v i) x (u i))
+  block-after = record {
+    lanes = A .lanes;
+    lane = λ i lt. subst (Holds (residues p prime) (λ e. words p prime t′ 0 1088 (flat 8 i e)))
+        (shift-less p prime (ω i) (v i) x (u i))
+        (lane-after i (omega (arith, A .lanes)) _ _ (A .lane i lt) (B .lane i lt));
+    beside = λ i e out lane.
+        sym (lane-after i lane 𝟘 𝟘 (none _ (λ f. A .beside i f out lane)) (none _ (λ f. B .beside i f out lane)) .at e)
+        ∙ ap (λ y. coefficients (residues p prime) y e) nothing
+        ∙ coefficients-zero (residues p prime) e;
+  }
+
+-- a block reduced
+module _ (p : ℕ) (t t′ : List ℕ) (stores : t′ ≡ stored (λ j. getD t j 0 % p) t 0 1088) (length-is : length t ≡ 1088) where
+  pub reduced-length : length t′ ≡ length t
+  reduced-length = ap length stores ∙ length-stored _ t 0 1088
+
+  word-reduced : (j : ℕ) → j < 1088 → getD t′ (0 + j) 0 ≡ getD t j 0 % p
+  word-reduced j lt = ap (λ l. getD l (0 + j) 0) stores ∙ stored-inside (λ i. getD t i 0 % p) t 0 1088 j (omega arith) lt
+
+  pub reduced-below : 0 < p → (i : ℕ) → getD t′ i 0 < p
+  reduced-below some i =
+      ⊎-elim
+      (λ lt. subst (λ w. w < p) (sym (ap (λ j. getD t′ j 0) (sym (zero-add i)) ∙ word-reduced i lt)) (mod-lt (getD t i 0) some))
+      (λ ge. subst (λ w. w < p) (sym (List·getD-eq-default t′ 0 (omega (arith, reduced-length)))) some)
+      (below-or-not i 1088)
+
+  pub reduced-words : (prime : Prime p) (j : ℕ) → words p prime t 0 1088 j ≡ words p prime t′ 0 1088 j
+  reduced-words prime j = words-same p prime t t′ 0 0 1088 j (λ lt.
+      ap (λ i. getD t i 0 % p) (zero-add j)
+      ∙ sym (ap (λ w. w % p) (word-reduced j lt) ∙ mod-eq-of-lt (mod-lt (getD t j 0) (omega (arith, prime .large)))))
+
+-- all steps of `take_column` together
+pub column-taken : {p : ℕ} → Prime p → (t h : List ℕ) (a : ℕ) (y columns : List ℕ) (at : ℕ) (t₁ t′ h′ : List ℕ) (size : ℕ)
+    → length t ≡ 1088 → a + 128 ≤ length h → h′ ≡ stored (λ j. modulo p .neg (getD y j 0 % p)) h a 128
+    → TakesProduct p 8 t h′ a 1 121 columns at 128 t₁ → t′ ≡ stored (λ j. getD t₁ j 0 % p) t₁ 0 1088
+    → size ≡ length (polynomial p y 0 128) → TakesColumn p t h a y columns at t′ h′ size
+column-taken {p} prime₀ t h a y columns at t₁ t′ h′ size length-is room stores T reduces found =
+    let whole : length t₁ ≡ 1088 = T .same-length ∙ length-is in record {
+      same-length = reduced-length p t₁ t′ reduces whole ∙ T .same-length;
+      below = reduced-below p t₁ t′ reduces whole (omega (arith, prime₀ .large));
+      stores = stores;
+      ends = stored-ends prime₀ h h′ a y stores room size found;
+      holds = λ zero prime n ω v u x A B C. record {
+        coordinate = coordinate-held prime₀ h h′ a y stores room zero prime x C;
+        rest = flat-same (reduced-words p t₁ t′ reduces whole prime) (block-after T (omega arith) prime n ω v u x
+            (coordinate-read prime₀ h h′ a y stores room zero prime x C) A B);
+      };
+    }

@@ -1,0 +1,193 @@
+-- The invariant of `reduce_by_kernel`: from the place k on nothing is left.
+use Prim.Native.Nat.{ℕ, zero, _+_, _-_, _*_, _%_, _<_, _≤_}
+use mathlib.Core.Path.{_≡_, refl, sym, _∙_, ap, ap₂, subst}
+use mathlib.Core.Logic.{inr, ⊎-elim}
+use mathlib.Core.List.{List, [], _∷_}
+use native.Mathlib.Nat.{mul-le-mul-right, add-mul}
+use native.Mathlib.Omega.{arith}
+use lib.ListN.{length, getD}
+use Rattle.ring.specs.Ring.{Ring}
+use Rattle.ring.specs.Identity.{quotes, identity}
+use Rattle.ring.specs.Combination.{given, combination}
+use Rattle.algebra.specs.Field.{Field}
+use Rattle.algebra.specs.Polynomial.{Polynomial, polynomials}
+use Rattle.modular.specs.Prime.{Prime}
+use Rattle.modular.specs.Modulo.{modulo}
+use Rattle.modular.specs.Residue.{Residue, residues}
+use Rattle.residue.specs.Below.{mul-below}
+use Rattle.vector.specs.Bound.{AtMost, at-most-sum}
+use Rattle.vector.specs.Stored.{stored, length-stored, stored-outside, below-or-not}
+use Rattle.vector.specs.Multiple.{sumAt}
+use Rattle.reduction.specs.Holds.{Holds, monomial, holds-step}
+use Rattle.lattice.specs.Memory.{ZeroFrom}
+use Rattle.lattice.specs.Word.{residue, residue-mod, residue-mul, residue-inverse, zero-residue, words, words-first, words-inside}
+use Rattle.lattice.specs.Range.{words-upper, words-lower, zero-word}
+use Rattle.descent.specs.Product.{less}
+use Rattle.descent.specs.Kernel.{ValidKernel, Lessened, TakesKernel}
+use Rattle.descent.proofs.Products.{product-most}
+
+pub record Reducing (p : ℕ) (y₀ kernel : List ℕ) (at k : ℕ) (y : List ℕ) : Type 0 where
+  pub most : k ≤ 256
+  pub same-length : length y ≡ length y₀
+  pub bound : (b : ℕ) → AtMost b y₀ → AtMost (b + (256 - k) * (p * p)) y
+  pub behind : ZeroFrom p y 0 256 k
+  pub holds : (prime : Prime p) (x u : Polynomial (residues p prime)) → Holds (residues p prime) (words p prime y₀ 0 256) x
+      → Holds (residues p prime) (words p prime kernel at 128) u → Lessened p prime x u y
+
+-- h - (h·i)·u is zero for u·i = 1
+cancelled : {K : Type 0} (R : Ring K) (h u i : K) → R .mul u i ≡ R .one → R .add h (R .neg (R .mul (R .mul h i) u)) ≡ R .zero
+cancelled R h u i e = combination R (R .add h (R .neg (R .mul (R .mul h i) u))) (R .zero) (given (R .neg h) e ∷ [])
+    (identity R (h ∷ u ∷ i ∷ []) (λ ρ qh qu qi. search quotes depth 16) refl)
+
+none-taken : {p : ℕ} (prime : Prime p) (y : List ℕ) (x u : Polynomial (residues p prime))
+    → Holds (residues p prime) (words p prime y 0 256) x → Lessened p prime x u y
+none-taken {p} prime y x u A = record {
+  multiple = polynomials (residues p prime) .zero;
+  holds = subst (Holds (residues p prime) _)
+      (identity (polynomials (residues p prime)) (x ∷ u ∷ []) (λ ρ qx qu. search quotes depth 16) refl) A;
+}
+
+module _ {p : ℕ} {y₀ kernel : List ℕ} {at : ℕ} where
+  pub kernel-start : Reducing p y₀ kernel at 256 y₀
+  kernel-start = record {
+    most = omega arith;
+    same-length = refl;
+    bound = λ b small i. omega (arith, small i);
+    behind = λ j ge lt. absurd (omega arith);
+    holds = λ prime x u A B. none-taken prime y₀ x u A;
+  }
+
+  -- there is no kernel
+  pub kernel-none : {size : ℕ} → size ≡ 0 → TakesKernel p y₀ kernel at size y₀
+  kernel-none none = record {
+    same-length = refl;
+    bound = λ b small i. omega (arith, small i);
+    short = λ some. absurd (omega arith);
+    holds = λ prime x u A B. none-taken prime y₀ x u A;
+  }
+
+  pub kernel-end : {size k : ℕ} {y : List ℕ} → Reducing p y₀ kernel at k y → k ≤ size - 1 → TakesKernel p y₀ kernel at size y
+  kernel-end {size} {k} so-far le = record {
+    same-length = so-far .same-length;
+    bound = λ b small i.
+        let few : 256 - k ≤ 256 = omega arith in
+        omega (arith, so-far .bound b small i, mul-le-mul-right (p * p) few);
+    short = λ some j ge lt. so-far .behind j (omega arith) lt;
+    holds = so-far .holds;
+  }
+
+  module _ {k : ℕ} {y : List ℕ} (so-far : Reducing p y₀ kernel at k y) where
+    -- the words can be reduced, with one product more
+    pub kernel-room : 0 < p → p ≤ 65521 → AtMost (1088 * (p * p)) y₀ → (i : ℕ) → getD y i 0 + p * p < 4294967296 * p
+    kernel-room positive limit small i =
+        let few : 256 - k ≤ 256 = omega arith in
+        omega (arith, so-far .bound (1088 * (p * p)) small i, mul-le-mul-right (p * p) few, mul-le-mul-right p limit)
+
+    module _ {size : ℕ} (valid : ValidKernel p kernel at size) (some : 0 < size) (fits : size ≤ k) (prime₀ : Prime p)
+        (a : ℕ) (by : a ≡ modulo p .mul (getD y (k - 1) 0 % p) (modulo p .inverse (getD kernel (at + (size - 1)) 0))) where
+      abbrev d : ℕ
+      d = (k - 1) - (size - 1)
+
+      pub factor-below : a < p
+      factor-below = subst (λ x. x < p) (sym by)
+          (mul-below p (prime₀ .large) (getD y (k - 1) 0 % p) (modulo p .inverse (getD kernel (at + (size - 1)) 0)))
+
+      product : (j : ℕ) → (p - a) * getD kernel (at + j) 0 ≤ p * p
+      product j = product-most p (p - a) (getD kernel (at + j) 0) (omega arith) (valid .below (at + j))
+
+      pub kernel-sum : p ≤ 65521 → AtMost (1088 * (p * p)) y₀ → (j : ℕ)
+          → sumAt y ((k - 1) - (size - 1)) kernel at (p - a) j < 18446744073709551616
+      kernel-sum limit small j =
+          let positive : 0 < p = omega (arith, prime₀ .large) in
+          omega (arith, kernel-room positive limit small (d + j), product j)
+
+      module _ (y′ : List ℕ) (stores : y′ ≡ stored (sumAt y ((k - 1) - (size - 1)) kernel at (p - a)) y
+          ((k - 1) - (size - 1)) size)
+          (room : 256 ≤ length y₀) where
+        inside : d + size ≤ 256
+        inside = omega (arith, so-far .most)
+
+        room′ : 256 ≤ length y
+        room′ = omega (arith, so-far .same-length)
+
+        bound-after : (b : ℕ) → AtMost b y₀ → AtMost (b + (256 - (k - 1)) * (p * p)) y′
+        bound-after b small i =
+            let more : 256 - (k - 1) ≡ 256 - k + 1 = omega (arith, so-far .most) in
+            let grown = at-most-sum (b + (256 - k) * (p * p)) (p * p) y d kernel at size (p - a) (so-far .bound b small)
+            (λ j lt. product j) i in
+            rw (stores, more) (omega (arith, grown, add-mul (256 - k) 1 (p * p)))
+
+        module _ (prime : Prime p) where
+          abbrev F : Field (Residue p)
+          F = residues p prime
+
+          upper : (x : ℕ) → words p prime y′ 0 256 (d + x) ≡ F .ring .add (words p prime y 0 256 (d + x))
+              (F .ring .neg (F .ring .mul (residue p prime a) (words p prime kernel at 128 x)))
+          upper = words-upper p prime y y′ kernel d at size 128 256 a stores factor-below inside room′ (valid .ends .behind)
+              (valid .ends .within)
+
+          lower : (x : ℕ) → x < d → words p prime y′ 0 256 x ≡ words p prime y 0 256 x
+          lower = words-lower p prime y y′ kernel d at size 128 256 a stores factor-below inside room′ (valid .ends .behind)
+              (valid .ends .within)
+
+          abbrev last : ℕ
+          last = getD kernel (at + (size - 1)) 0
+
+          last-nonzero : ¬ (residue p prime last ≡ F .ring .zero)
+          last-nonzero e = omega (arith, valid .ends .last some, zero-residue p prime last e)
+
+          factor : residue p prime a ≡ F .ring .mul (words p prime y 0 256 (k - 1)) (F .inverse (residue p prime last))
+          unfolding modulo
+          factor =
+              ap (residue p prime) by
+              ∙ residue-mod p prime (getD y (k - 1) 0 % p * modulo p .inverse last)
+              ∙ residue-mul p prime (getD y (k - 1) 0 % p) (modulo p .inverse last)
+              ∙ ap₂ (F .ring .mul)
+              (residue-mod p prime (getD y (k - 1) 0) ∙ sym (words-first p prime y 256 (k - 1) (omega (arith, so-far .most))))
+              (residue-inverse p prime last (valid .below (at + (size - 1))))
+
+          leading-gone : words p prime y′ 0 256 (k - 1) ≡ F .ring .zero
+          leading-gone =
+              let place : d + (size - 1) ≡ k - 1 = omega arith in
+              subst (λ x. words p prime y′ 0 256 x ≡ F .ring .add (words p prime y 0 256 x)
+              (F .ring .neg (F .ring .mul (residue p prime a) (words p prime kernel at 128 (size - 1)))))
+              place (upper (size - 1))
+              ∙ ap₂ (λ x z. F .ring .add (words p prime y 0 256 (k - 1)) (F .ring .neg (F .ring .mul x z)))
+              factor (words-inside p prime kernel at 128 (size - 1) (omega (arith, valid .ends .within)))
+              ∙ cancelled (F .ring) (words p prime y 0 256 (k - 1)) (residue p prime last) (F .inverse (residue p prime last))
+              (F .mul-inverse (residue p prime last) last-nonzero)
+
+          module _ (x u : Polynomial (residues p prime)) (A : Holds (residues p prime) (words p prime y₀ 0 256) x)
+              (B : Holds (residues p prime) (words p prime kernel at 128) u) where
+            before : Lessened p prime x u y
+            before = so-far .holds prime x u A B
+
+            lessened : Lessened p prime x u y′
+            lessened = record {
+              multiple = polynomials F .add (before .multiple) (monomial F (residue p prime a) d);
+              holds = subst (Holds F (words p prime y′ 0 256))
+                  (identity (polynomials F) (x ∷ before .multiple ∷ monomial F (residue p prime a) d ∷ u ∷ [])
+                  (λ ρ qx qm qa qu. search quotes depth 16) refl)
+                  (holds-step F (residue p prime a) d (before .holds) B upper lower);
+            }
+
+        behind-after : ZeroFrom p y′ 0 256 (k - 1)
+        behind-after j h lt =
+            ⊎-elim
+            (λ less.
+            let here : j ≡ k - 1 = omega arith in
+            zero-word p prime₀ y′ 0 256 j lt (ap (words p prime₀ y′ 0 256) here ∙ leading-gone prime₀))
+            (λ more.
+            ap (λ w. getD w (0 + j) 0 % p) stores
+            ∙ ap (λ w. w % p) (stored-outside _ y d size (0 + j) (inr (omega arith)))
+            ∙ so-far .behind j more lt)
+            (below-or-not j k)
+
+        pub kernel-turn : Reducing p y₀ kernel at (k - 1) y′
+        kernel-turn = record {
+          most = omega (arith, so-far .most);
+          same-length = ap length stores ∙ length-stored (sumAt y d kernel at (p - a)) y d size ∙ so-far .same-length;
+          bound = bound-after;
+          behind = behind-after;
+          holds = lessened;
+        }

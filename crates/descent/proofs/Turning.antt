@@ -1,0 +1,138 @@
+-- `descend_column`: the coordinate that is found and the column that is taken off are a `Turn` of `reduction`; by L6 the coordinate is short.
+use Prim.Native.Nat.{ℕ, suc, _+_, _-_, _<_, _≤_}
+use mathlib.Core.Path.{_≡_, sym, _∙_, ap, subst}
+use mathlib.Core.List.{List}
+use native.Mathlib.Omega.{arith}
+use native.Mathlib.Decide.{ℕ-discrete}
+use lib.ListN.{length, getD}
+use Rattle.algebra.specs.Polynomial.{Polynomial, polynomials}
+use Rattle.algebra.specs.Sized.{size-neg-equal}
+use Rattle.algebra.specs.Size.{size, sized, coefficients-beyond}
+use Rattle.modular.specs.Prime.{Prime}
+use Rattle.modular.specs.Residue.{residues}
+use Rattle.vector.specs.Stored.{stored-outside}
+use Rattle.reduction.specs.Replace.{replace, replace-here, replace-other}
+use Rattle.reduction.specs.Slots.{unweighted}
+use Rattle.reduction.specs.Descent.{Descent, Turn, descent-turn}
+use Rattle.reduction.specs.Holds.{holds-size, holds-size-exact}
+use Rattle.lattice.specs.Memory.{Level, ZeroFrom}
+use Rattle.lattice.specs.Word.{words}
+use Rattle.lattice.specs.Range.{words-zero, zero-word}
+use Rattle.lattice.specs.Quotients.{Dividend}
+use Rattle.descent.specs.Product.{less}
+use Rattle.descent.specs.Kernel.{ValidKernel}
+use Rattle.descent.specs.Coordinate.{Coordinate, FindsCoordinate}
+use Rattle.descent.specs.Column.{HoldsRest, TakesColumn}
+use Rattle.descent.specs.Turn.{HoldsDescent, HoldsTurn, Turned}
+use Rattle.descent.proofs.Columns.{stored-length, stored-below}
+
+module _ {p : ℕ} {L : Level} {n : ℕ} {kernels : List ℕ} {kernel size₀ : ℕ} {columns : List ℕ} {at : ℕ} {t coordinates : List ℕ} {place : ℕ}
+    {t′ coordinates′ : List ℕ} {found : ℕ} {y : List ℕ} (valid : ValidKernel p kernels kernel size₀)
+    (X : FindsCoordinate p L n kernels kernel size₀ t y)
+    (Y : TakesColumn p t coordinates place y columns at t′ coordinates′ found) where
+  module _ (prime : Prime p) (A : HoldsDescent p prime L kernels kernel columns at t) (rows : A .system .rows ≡ n) where
+    dividend : Dividend p prime (A .system .rows) unweighted L t
+    dividend = record {
+      slots = A .level (suc (A .column));
+      vector = A .vector;
+      holds-slots = A .holds-slots;
+      holds = A .holds-vector;
+    }
+
+    C : Coordinate p prime (A .system .rows) (A .level (suc (A .column))) (A .vector) (A .kernel (A .column)) y
+    unfolding dividend
+    C = subst (λ m. FindsCoordinate p L m kernels kernel size₀ t y) (sym rows) X .finds prime unweighted dividend
+        (A .kernel (A .column))
+        (A .descent .span) (A .holds-kernel)
+
+    abbrev x : Polynomial (residues p prime)
+    x = less p prime (C .tails) (C .multiple) (A .kernel (A .column))
+
+    abbrev N : ℕ → Polynomial (residues p prime)
+    N = replace (A .coordinates) (A .column) x
+
+    abbrev rest : ℕ → Polynomial (residues p prime)
+    rest i = less p prime (A .vector i) x (A .system .matrix i (A .column))
+
+    here : N (A .column) ≡ x
+    here = replace-here (A .coordinates) (A .column) x
+
+    -- x is shorter than the kernel, if there is one
+    shorter : 0 < size (residues p prime) (A .kernel (A .column)) → Dec (size₀ ≡ 0)
+        → size (residues p prime) (N (A .column)) < size (residues p prime) (A .kernel (A .column))
+    shorter some (yes none) = absurd (omega (
+      arith,
+      holds-size (residues p prime) (A .holds-kernel) 0
+          (λ j le. words-zero p prime kernels kernel 128 size₀ (valid .ends .behind) j (omega arith)),
+    ))
+    shorter some (no filled) = omega (
+      arith,
+      ap (size (residues p prime)) here,
+      size-neg-equal (sized (residues p prime)) x,
+      holds-size (residues p prime) (C .holds) (size₀ - 1)
+          (λ j le. words-zero p prime y 0 256 (size₀ - 1) (X .short (omega arith)) j le),
+      holds-size-exact (residues p prime) (A .holds-kernel) (size₀ - 1) nonzero
+          (λ j lt. words-zero p prime kernels kernel 128 size₀ (valid .ends .behind) j (omega arith)),
+    )
+      where
+        nonzero : ¬ (words p prime kernels kernel 128 (size₀ - 1) ≡ residues p prime .ring .zero)
+        nonzero e = omega (
+          arith,
+          valid .ends .last (omega arith),
+          zero-word p prime kernels kernel 128 (size₀ - 1) (omega (arith, valid .ends .within)) e,
+        )
+
+    T : Turn (A .system) (A .level) (A .kernel) (A .column) (A .vector) (A .coordinates) rest N
+    T = record {
+      tails = C .tails;
+      span = C .span;
+      multiple = C .multiple;
+      coordinate = here;
+      reduced = λ some. shorter some (ℕ-discrete size₀ 0);
+      others = λ k above within. replace-other (A .coordinates) (A .column) x k (λ e. omega arith);
+      rest = λ i h. ap (λ z. less p prime (A .vector i) z (A .system .matrix i (A .column))) (sym here);
+    }
+
+    D : Descent (A .system) (A .level) (A .kernel) (A .whole) (A .column) rest N
+    D = descent-turn (A .system) (A .level) (A .kernel) (A .levels) (A .whole) (A .column) (A .inside) T (A .descent)
+
+    -- L6: the coordinate has room
+    short : size (residues p prime) (polynomials (residues p prime) .neg x) ≤ 121
+    short = omega (
+      arith,
+      D .small (A .column) (omega arith) (A .inside),
+      A .small,
+      ap (size (residues p prime)) here,
+      size-neg-equal (sized (residues p prime)) x,
+    )
+
+    zero : ZeroFrom p y 0 256 121
+    zero j ge lt = zero-word p prime y 0 256 j lt
+        (sym (C .holds .at j) ∙ coefficients-beyond (residues p prime) (polynomials (residues p prime) .neg x) j
+        (omega (arith, short)))
+
+    R : HoldsRest p prime (A .system .rows) unweighted (A .vector) (λ i. A .system .matrix i (A .column)) x coordinates′ place t′
+    R = Y .holds zero prime (A .system .rows) unweighted (A .vector) (λ i. A .system .matrix i (A .column)) x (A .holds-vector)
+        (A .holds-column) (C .holds)
+
+    turned : HoldsTurn p prime A coordinates′ place t′
+    turned = record {
+      coordinate = x;
+      vector = rest;
+      turn = T;
+      descent = D;
+      holds-coordinate = R .coordinate;
+      holds-vector = R .rest;
+    }
+
+  pub turn-made : Prime p → place + 128 ≤ length coordinates → ((i : ℕ) → getD coordinates i 0 < p)
+      → Turned p L n kernels kernel columns at t coordinates place t′ coordinates′ found
+  turn-made prime₀ room below = record {
+    same-length = Y .same-length;
+    below = Y .below;
+    same-coordinates = stored-length prime₀ coordinates coordinates′ place y (Y .stores) room;
+    coordinates-below = stored-below prime₀ coordinates coordinates′ place y (Y .stores) room below;
+    others = λ i out. ap (λ l. getD l i 0) (Y .stores) ∙ stored-outside _ coordinates place 128 i out;
+    ends = Y .ends;
+    holds = turned;
+  }

@@ -1,0 +1,99 @@
+-- The loop keeps what is stored as far as it has come.
+use Prim.Native.Nat.{_+_, _-_, _%_, _≤_, _<_}
+use mathlib.Core.Path.{_≡_, refl, sym, _∙_, ap, subst}
+use native.Mathlib.Nat.{mod-lt}
+use native.Mathlib.Omega.{arith}
+use borrow.Author.Needs.{needs}
+use lib.ListN.{length, getD}
+use Rattle.modular.specs.Modulo.{modulo}
+use Rattle.residue.specs.Modulus.{ValidModulus}
+use Rattle.vector.specs.Stored.{stored, length-stored, stored-none, stored-more}
+use Rattle.descent.proofs.coordinate.store_negated.Statement.{statement}
+use Rattle.descent.proofs.coordinate.store_negated.Tie as tie
+
+abbrev Inv-loop : tie.InvT-loop
+Inv-loop h₀ a y n modulus j₀ h j =
+    (j ≤ n) × (length h ≡ length h₀) × (h ≡ stored (λ i. modulo (modulus .p) .neg (getD y i 0 % modulus .p)) h₀ a j)
+
+abbrev μ-loop : tie.MeasureT-loop
+μ-loop h₀ a y n modulus j₀ h j = n - j
+
+loop-holds : tie.Need-loop-holds Inv-loop μ-loop
+loop-holds c = (omega arith, refl, stored-none _ _ _)
+
+mul-reduce : tie.Need-mul-reduce Inv-loop μ-loop
+mul-reduce c = search needs
+
+shared-slice-read-reduce : tie.Need-shared-slice-read-reduce Inv-loop μ-loop
+shared-slice-read-reduce c = search needs
+
+reduce-requires : tie.Need-reduce-requires Inv-loop μ-loop
+reduce-requires c κs =
+    let S = c .before .before .before .before .before in
+    (S .pre .0 .0, S .pre .1 (c .before .before .loop .j) (omega arith))
+
+neg-requires : tie.Need-neg-requires Inv-loop μ-loop
+neg-requires c κs =
+    let S = c .before .before .before .before .before .before in
+    let m : ValidModulus (S .args .modulus) = S .pre .0 .0 in
+    let positive : 0 < S .args .modulus .p = omega (arith, m .prime .large) in (
+      m,
+      subst (λ x. x < S .args .modulus .p) (sym (c .reduce .ensures))
+          (mod-lt (getD (S .args .y .now) (c .before .before .before .loop .j) 0) positive),
+    )
+
+add-h : tie.Need-add-h Inv-loop μ-loop
+add-h c = search needs
+
+mul-h : tie.Need-mul-h Inv-loop μ-loop
+mul-h c = search needs
+
+slice-write-h : tie.Need-slice-write-h Inv-loop μ-loop
+slice-write-h c = search needs
+
+add-j : tie.Need-add-j Inv-loop μ-loop
+add-j c = search needs
+
+loop-less : tie.Need-loop-less Inv-loop μ-loop
+loop-less c = search needs
+
+loop-again : tie.Need-loop-again Inv-loop μ-loop
+loop-again c =
+    let S = c .before .before .before .before .before .before .before in
+    let L = c .before .before .before .before .loop in
+    let p = S .args .modulus .p in
+    let more = stored-more (λ i. modulo p .neg (getD (S .args .y .now) i 0 % p)) (S .args .h .now) (S .args .a) (L .j) (L .h) _
+    (L .inv .2)
+    (c .neg .ensures ∙ ap (modulo p .neg) (c .before .reduce .ensures)) in
+    (omega arith, ap length more ∙ length-stored _ (S .args .h .now) (S .args .a) (L .j + 1), more)
+
+same-length : tie.Need-same-length Inv-loop μ-loop
+same-length c = search needs
+
+returns : tie.Need-returns Inv-loop μ-loop
+returns c =
+    let S = c .before .before .before .before in
+    let L = c .before .loop in
+    let p = S .args .modulus .p in
+    let end : L .j ≡ S .args .n = omega arith in
+    L .inv .2 ∙ ap (stored (λ i. modulo p .neg (getD (S .args .y .now) i 0 % p)) (S .args .h .now) (S .args .a)) end
+
+pub store-negated-spec : {M : Type 1} → statement M
+store-negated-spec =
+    tie.close
+    (tie.spec
+    Inv-loop
+    μ-loop
+    loop-holds
+    mul-reduce
+    shared-slice-read-reduce
+    reduce-requires
+    neg-requires
+    add-h
+    mul-h
+    slice-write-h
+    add-j
+    loop-less
+    loop-again
+    same-length
+    returns)

@@ -1,0 +1,118 @@
+-- The loop keeps a `TakesProduct`: the coefficients of f before k are done.
+use Prim.Native.Nat.{_+_, _-_, _*_, _≤_}
+use mathlib.Core.Path.{_≡_, subst}
+use native.Mathlib.Omega.{arith}
+use borrow.Author.Needs.{needs}
+use Rattle.descent.specs.Product.{TakesProduct}
+use Rattle.descent.proofs.Products.{next-multiple, product-start, product-sum, product-turn}
+use Rattle.descent.proofs.product.subtract_product.Statement.{statement}
+use Rattle.descent.proofs.product.subtract_product.Tie as tie
+
+abbrev Inv-loop : tie.InvT-loop
+Inv-loop h₀ w f b v n s a m modulus k₀ h k =
+    (k ≤ n) × TakesProduct (modulus .p) w h₀ f b v k s a m h
+
+abbrev μ-loop : tie.MeasureT-loop
+μ-loop h₀ w f b v n s a m modulus k₀ h k = n - k
+
+loop-holds : tie.Need-loop-holds Inv-loop μ-loop
+loop-holds c = (omega arith, product-start)
+
+mul-add-scaled : tie.Need-mul-add-scaled Inv-loop μ-loop
+mul-add-scaled c =
+    let S = c .before .before .before .before .before .before in
+    let L = c .before .before .loop in
+    let rows = next-multiple (L .k) (S .args .n) (S .args .w) (omega arith) in
+    search needs
+
+mul-add-scaled-2 : tie.Need-mul-add-scaled-2 Inv-loop μ-loop
+mul-add-scaled-2 c =
+    let S = c .before .before .before .before .before .before in
+    let L = c .before .before .loop in
+    let rows = next-multiple (L .k) (S .args .n) (S .args .v) (omega arith) in
+    search needs
+
+add-add-scaled : tie.Need-add-add-scaled Inv-loop μ-loop
+add-add-scaled c =
+    let S = c .before .before .before .before .before .before in
+    let L = c .before .before .loop in
+    let rows = next-multiple (L .k) (S .args .n) (S .args .v) (omega arith) in
+    search needs
+
+mul-add-scaled-3 : tie.Need-mul-add-scaled-3 Inv-loop μ-loop
+mul-add-scaled-3 c =
+    let S = c .before .before .before .before .before .before in
+    let L = c .before .before .loop in
+    let rows = next-multiple (L .k) (S .args .n) (S .args .v) (omega arith) in
+    search needs
+
+shared-slice-read-add-scaled : tie.Need-shared-slice-read-add-scaled Inv-loop μ-loop
+shared-slice-read-add-scaled c =
+    let S = c .before .before .before .before .before .before .before in
+    let L = c .before .before .before .loop in
+    let rows = next-multiple (L .k) (S .args .n) (S .args .v) (omega arith) in
+    omega arith
+
+sub-add-scaled : tie.Need-sub-add-scaled Inv-loop μ-loop
+sub-add-scaled c =
+    let S = c .before .before .before .before .before .before .before .before in
+    let L = c .before .before .before .before .loop in
+    omega (arith, S .pre .1 .0 .1 (S .args .b + L .k * S .args .v))
+
+add-scaled-requires : tie.Need-add-scaled-requires Inv-loop μ-loop
+add-scaled-requires c κs =
+    let S = c .before .before .before .before .before .before .before .before in
+    let L = c .before .before .before .before .loop in
+    let so-far = L .inv .1 in
+    let limit : S .args .modulus .p ≤ 65521 = S .pre .0 .0 .limit in
+    let rows = next-multiple (L .k) (S .args .n) (S .args .w) (omega arith) in (
+      (omega (arith, so-far .same-length), omega arith, omega arith),
+      (
+        (λ j lt. omega (arith, S .pre .1 .1 .1 (S .args .a + j))),
+        λ j lt. product-sum so-far (S .pre .1 .0 .1) (S .pre .1 .1 .1) (S .args .n) (omega arith) (S .pre .0 .1) limit
+            (S .pre .1 .1 .0) j,
+      ),
+    )
+
+add-k : tie.Need-add-k Inv-loop μ-loop
+add-k c = search needs
+
+loop-less : tie.Need-loop-less Inv-loop μ-loop
+loop-less c = search needs
+
+loop-again : tie.Need-loop-again Inv-loop μ-loop
+loop-again c =
+    let S = c .before .before .before .before .before .before .before .before .before .before .before in
+    let L = c .before .before .before .before .before .before .before .loop in
+    (omega arith, product-turn (L .inv .1) (S .pre .1 .0 .1) (S .pre .1 .1 .1) _ (c .before .before .add-scaled .ensures .0))
+
+same-length : tie.Need-same-length Inv-loop μ-loop
+same-length c = search needs
+
+returns : tie.Need-returns Inv-loop μ-loop
+returns c =
+    let S = c .before .before .before .before .before in
+    let L = c .before .loop in
+    let end : L .k ≡ S .args .n = omega arith in
+    subst (λ k. TakesProduct (S .args .modulus .p) (S .args .w) (S .args .h .now) (S .args .f .now) (S .args .b) (S .args .v) k
+    (S .args .s .now) (S .args .a) (S .args .m) (L .h)) end (L .inv .1)
+
+pub subtract-product-spec : {M : Type 1} → statement M
+subtract-product-spec =
+    tie.close
+    (tie.spec
+    Inv-loop
+    μ-loop
+    loop-holds
+    mul-add-scaled
+    mul-add-scaled-2
+    add-add-scaled
+    mul-add-scaled-3
+    shared-slice-read-add-scaled
+    sub-add-scaled
+    add-scaled-requires
+    add-k
+    loop-less
+    loop-again
+    same-length
+    returns)

@@ -1,0 +1,35 @@
+-- A coordinate stored, and the coordinate times its column taken off a block: what the words then hold.
+use Prim.Native.Nat.{ℕ, _%_, _<_}
+use mathlib.Core.Path.{_≡_}
+use mathlib.Core.List.{List}
+use lib.ListN.{length, getD}
+use Rattle.algebra.specs.Polynomial.{Polynomial, polynomials}
+use Rattle.modular.specs.Prime.{Prime}
+use Rattle.modular.specs.Modulo.{modulo}
+use Rattle.modular.specs.Residue.{residues}
+use Rattle.vector.specs.Stored.{stored}
+use Rattle.reduction.specs.Holds.{Holds}
+use Rattle.reduction.specs.Flat.{Flat}
+use Rattle.lattice.specs.Memory.{ZeroFrom, Ends}
+use Rattle.lattice.specs.Word.{words}
+use Rattle.descent.specs.Product.{less}
+
+module _ (p : ℕ) (prime : Prime p) (n : ℕ) (ω : ℕ → ℕ) where
+  -- the coordinate x is stored in h from a on, and v - x·u is in t
+  pub record HoldsRest (v u : ℕ → Polynomial (residues p prime)) (x : Polynomial (residues p prime)) (h : List ℕ) (a : ℕ)
+      (t : List ℕ)
+      : Type 0 where
+    pub coordinate : Holds (residues p prime) (words p prime h a 128) x
+    pub rest : Flat (residues p prime) n 8 ω (words p prime t 0 1088) (λ i. less p prime (v i) x (u i))
+
+-- What it holds is said for a coordinate of at most 121 coefficients, whose negative is in y.
+pub record TakesColumn (p : ℕ) (t h : List ℕ) (a : ℕ) (y columns : List ℕ) (at : ℕ) (t′ h′ : List ℕ) (size : ℕ) : Type 0 where
+  pub same-length : length t′ ≡ length t
+  pub below : (i : ℕ) → getD t′ i 0 < p
+  pub stores : h′ ≡ stored (λ j. modulo p .neg (getD y j 0 % p)) h a 128
+  pub ends : Ends p h′ a 128 size
+  pub holds : ZeroFrom p y 0 256 121 → (prime : Prime p) (n : ℕ) (ω : ℕ → ℕ) (v u : ℕ → Polynomial (residues p prime))
+      (x : Polynomial (residues p prime)) → Flat (residues p prime) n 8 ω (words p prime t 0 1088) v
+      → Flat (residues p prime) n 8 ω (words p prime columns at 128) u
+      → Holds (residues p prime) (words p prime y 0 256) (polynomials (residues p prime) .neg x)
+      → HoldsRest p prime n ω v u x h′ a t′

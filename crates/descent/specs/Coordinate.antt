@@ -1,0 +1,34 @@
+-- What `find_coordinate` leaves in y: minus a combination of tails, less a multiple of the kernel. With such tails, a `Turn` of
+-- `reduction` is made.
+use Prim.Native.Nat.{ℕ, suc, _-_, _*_, _<_}
+use mathlib.Core.List.{List}
+use Rattle.algebra.specs.Polynomial.{Polynomial, polynomials}
+use Rattle.modular.specs.Prime.{Prime}
+use Rattle.modular.specs.Residue.{residues}
+use Rattle.vector.specs.Bound.{AtMost}
+use Rattle.reduction.specs.Replace.{extend}
+use Rattle.reduction.specs.Slots.{Slots}
+use Rattle.reduction.specs.Span.{InSpan}
+use Rattle.reduction.specs.Holds.{Holds}
+use Rattle.lattice.specs.Memory.{Level, ZeroFrom}
+use Rattle.lattice.specs.Word.{words}
+use Rattle.lattice.specs.Quotients.{Dividend}
+use Rattle.descent.specs.Product.{less}
+
+-- v, with a tail, in the span of the slots U; u is the kernel
+pub record Coordinate (p : ℕ) (prime : Prime p) (n : ℕ) (U : Slots (Polynomial (residues p prime)))
+    (v : ℕ → Polynomial (residues p prime))
+    (u : Polynomial (residues p prime)) (y : List ℕ) : Type 0 where
+  pub tails : Polynomial (residues p prime)
+  pub span : InSpan (polynomials (residues p prime)) n (suc n) U (extend n v tails)
+  pub multiple : Polynomial (residues p prime)
+  pub holds : Holds (residues p prime) (words p prime y 0 256)
+      (polynomials (residues p prime) .neg (less p prime tails multiple u))
+
+pub record FindsCoordinate (p : ℕ) (L : Level) (n : ℕ) (kernel : List ℕ) (at size : ℕ) (t y : List ℕ) : Type 0 where
+  pub bound : AtMost (1344 * (p * p)) y
+  pub short : 0 < size → ZeroFrom p y 0 256 (size - 1)
+  pub finds : (prime : Prime p) (ω : ℕ → ℕ) (f : Dividend p prime n ω L t) (u : Polynomial (residues p prime))
+      → InSpan (polynomials (residues p prime)) n n (f .slots) (f .vector) → Holds (residues p prime)
+      (words p prime kernel at 128) u
+      → Coordinate p prime n (f .slots) (f .vector) u y

@@ -1,0 +1,10 @@
+-- a product taken off words in lanes
+pub mod Read
+pub mod Product
+-- the coordinate of a column: tails combined, reduced modulo the kernel
+pub mod Combination
+pub mod Kernel
+pub mod Coordinate
+-- the column taken off, and the turn as a whole
+pub mod Column
+pub mod Turn

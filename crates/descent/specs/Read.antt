@@ -1,0 +1,37 @@
+-- A polynomial read from an array, one coefficient more.
+use Prim.Native.Nat.{ℕ, suc, _<_}
+use mathlib.Core.Path.{_≡_, sym, _∙_, ap, ap₂}
+use native.Mathlib.Omega.{arith}
+use native.Mathlib.Decide.{ℕ-discrete, decLt}
+use Rattle.ring.specs.Ring.{Ring, zero-add}
+use Rattle.algebra.specs.Field.{Field}
+use Rattle.algebra.specs.Polynomial.{polynomials, coefficients, equal-coefficients, coefficients-add}
+use Rattle.reduction.specs.Holds.{monomial, read, read-at, read-beyond}
+use Rattle.lattice.specs.Monomial.{coefficients-monomial, coefficients-monomial-other}
+
+module _ {K : Type 0} (F : Field K) where
+  open Ring (F .ring) using (add as _⊕_, zero as 𝟎, add-zero)
+  open Ring (polynomials F) using (add as _+_)
+
+  infixl 65 _⊕_
+  infixl 65 _+_
+  pub read-suc : (k : ℕ) (f : ℕ → K) → read F (suc k) f ≡ read F k f + monomial F (f k) k
+  read-suc k f = equal-coefficients F _ _
+      (λ j. go j (ℕ-discrete j k) (decLt j k) ∙ sym (coefficients-add F (read F k f) (monomial F (f k) k) j))
+    where
+      go : (j : ℕ) → Dec (j ≡ k) → Dec (j < k)
+          → coefficients F (read F (suc k) f) j ≡ coefficients F (read F k f) j ⊕ coefficients F (monomial F (f k) k) j
+      go j (yes e) l =
+          read-at F (suc k) f j (omega arith)
+          ∙ ap f e
+          ∙ sym (zero-add (F .ring) (f k))
+          ∙ sym (ap₂ _⊕_ (read-beyond F k f j (omega arith))
+          (ap (coefficients F (monomial F (f k) k)) e ∙ coefficients-monomial F (f k) k))
+      go j (no e) (yes l) =
+          read-at F (suc k) f j (omega arith)
+          ∙ sym (add-zero (f j))
+          ∙ sym (ap₂ _⊕_ (read-at F k f j l) (coefficients-monomial-other F (f k) k j e))
+      go j (no e) (no l) =
+          read-beyond F (suc k) f j (omega arith)
+          ∙ sym (add-zero 𝟎)
+          ∙ sym (ap₂ _⊕_ (read-beyond F k f j (omega arith)) (coefficients-monomial-other F (f k) k j e))

@@ -1,0 +1,67 @@
+-- One turn of the way down on memory, in the terms of `reduction`: from a `Descent` to column j + 1 it leads to one to column j.
+use Prim.Native.Nat.{ℕ, suc, _+_, _*_, _<_, _≤_}
+use mathlib.Core.Path.{_≡_}
+use mathlib.Core.Logic.{_⊎_}
+use mathlib.Core.List.{List}
+use lib.ListN.{length, getD}
+use Rattle.algebra.specs.Polynomial.{Polynomial}
+use Rattle.algebra.specs.Size.{sized}
+use Rattle.modular.specs.Prime.{Prime}
+use Rattle.modular.specs.Residue.{residues}
+use Rattle.reduction.specs.Total.{rank}
+use Rattle.reduction.specs.Replace.{replace}
+use Rattle.reduction.specs.Slots.{Slots, unweighted}
+use Rattle.reduction.specs.System.{System}
+use Rattle.reduction.specs.Levels.{Levels}
+use Rattle.reduction.specs.Descent.{Descent, Turn}
+use Rattle.reduction.specs.Holds.{Holds}
+use Rattle.reduction.specs.Flat.{Flat}
+use Rattle.lattice.specs.Memory as memory
+use Rattle.lattice.specs.Memory.{Ends}
+use Rattle.lattice.specs.Holding.{HoldsSlots}
+use Rattle.lattice.specs.Word.{words}
+
+module _ (p : ℕ) (prime : Prime p) where
+  -- Memory holds a descent that has come to column j + 1: the level, its kernel (zero where there is none), the column and the vector.
+  pub record HoldsDescent (L : memory.Level) (kernels : List ℕ) (place : ℕ) (columns : List ℕ) (at : ℕ) (t : List ℕ) : Type 0 where
+    pub system : System (sized (residues p prime))
+    pub level : ℕ → Slots (Polynomial (residues p prime))
+    pub kernel : ℕ → Polynomial (residues p prime)
+    pub levels : Levels system level kernel (system .columns)
+    -- L6: no degree is above 120
+    pub small : rank (system .rows) (level (system .columns) .size) * system .degree ≤ 120
+    pub column : ℕ
+    pub inside : column < system .columns
+    pub whole : ℕ → Polynomial (residues p prime)
+    pub vector : ℕ → Polynomial (residues p prime)
+    pub coordinates : ℕ → Polynomial (residues p prime)
+    pub descent : Descent system level kernel whole (suc column) vector coordinates
+    pub holds-slots : HoldsSlots p prime (system .rows) unweighted L (level (suc column))
+    pub holds-kernel : Holds (residues p prime) (words p prime kernels place 128) (kernel column)
+    pub holds-column : Flat (residues p prime) (system .rows) 8 unweighted (words p prime columns at 128)
+        (λ i. system .matrix i column)
+    pub holds-vector : Flat (residues p prime) (system .rows) 8 unweighted (words p prime t 0 1088) vector
+
+  -- and then that it has come to column j, with the coordinate of that column in `coordinates` from `place` on
+  pub record HoldsTurn {L : memory.Level} {kernels : List ℕ} {kernel : ℕ} {columns : List ℕ} {at : ℕ} {t : List ℕ}
+      (A : HoldsDescent L kernels kernel columns at t) (coordinates : List ℕ) (place : ℕ) (t′ : List ℕ) : Type 0 where
+    pub coordinate : Polynomial (residues p prime)
+    pub vector : ℕ → Polynomial (residues p prime)
+    pub turn : Turn (A .system) (A .level) (A .kernel) (A .column) (A .vector) (A .coordinates) vector
+        (replace (A .coordinates) (A .column) coordinate)
+    pub descent : Descent (A .system) (A .level) (A .kernel) (A .whole) (A .column) vector
+        (replace (A .coordinates) (A .column) coordinate)
+    pub holds-coordinate : Holds (residues p prime) (words p prime coordinates place 128) coordinate
+    pub holds-vector : Flat (residues p prime) (A .system .rows) 8 unweighted (words p prime t′ 0 1088) vector
+
+pub record Turned (p : ℕ) (L : memory.Level) (n : ℕ) (kernels : List ℕ) (kernel : ℕ) (columns : List ℕ) (at : ℕ)
+    (t coordinates : List ℕ)
+    (place : ℕ) (t′ coordinates′ : List ℕ) (size : ℕ) : Type 0 where
+  pub same-length : length t′ ≡ length t
+  pub below : (i : ℕ) → getD t′ i 0 < p
+  pub same-coordinates : length coordinates′ ≡ length coordinates
+  pub coordinates-below : (i : ℕ) → getD coordinates′ i 0 < p
+  pub others : (i : ℕ) → (i < place) ⊎ (place + 128 ≤ i) → getD coordinates′ i 0 ≡ getD coordinates i 0
+  pub ends : Ends p coordinates′ place 128 size
+  pub holds : (prime : Prime p) (A : HoldsDescent p prime L kernels kernel columns at t) → A .system .rows ≡ n
+      → HoldsTurn p prime A coordinates′ place t′

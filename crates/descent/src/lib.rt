@@ -1,0 +1,11 @@
+// The way down: a vector of the span of the levels is taken apart, one column after another.
+pub mod combination;
+pub mod coordinate;
+pub mod kernel;
+pub mod product;
+pub mod search;
+pub mod turn;
+
+pub use coordinate::take_column;
+pub use search::find_coordinate;
+pub use turn::descend_column;

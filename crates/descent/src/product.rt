@@ -1,0 +1,33 @@
+// A product taken off words in lanes: the step of the way down, for the tails with one lane and for a block with eight.
+use residue::modulus::Modulus;
+use vector::add_scaled;
+ghost use Prim.Native.Nat.{ℕ, _+_, _*_, _<_, _≤_};
+ghost use lib.ListN.{length, getD};
+ghost use Rattle.residue.specs.Modulus.{ValidModulus};
+ghost use Rattle.vector.specs.Bound.{AtMost};
+ghost use Rattle.descent.specs.Product.{TakesProduct};
+
+// h -= f s in each of w lanes: f has the n coefficients f[b], f[b + v], .., and s has m words from a on.
+pub fn subtract_product(
+    h: &mut [u64],
+    w: usize,
+    f: &[u64],
+    b: usize,
+    v: usize,
+    n: usize,
+    s: &[u64],
+    a: usize,
+    m: usize,
+    modulus: Modulus,
+)
+    requires { ⌜ ValidModulus modulus × (n ≤ 256) × (n * w + m ≤ length (now h) + w) × (a + m ≤ length (now s)) ⌝ }
+    requires factors { ⌜ (b + n * v < length (now f) + v) × ((i : ℕ) → getD (now f) i 0 < modulus .p) ⌝ }
+    requires small { ⌜ AtMost 281474976710656 (now h) × ((i : ℕ) → getD (now s) i 0 < modulus .p) ⌝ }
+    ensures { λ _. ⌜ TakesProduct (modulus .p) w (now (h .entry)) (now (f .entry)) b v n (now (s .entry)) a m (now (h .exit)) ⌝ }
+{
+    let mut k = 0;
+    while k < n {
+        add_scaled(h, k * w, s, a, m, modulus.p - f[b + k * v]);
+        k += 1;
+    }
+}
