@@ -8,7 +8,7 @@ use file::read_file;
 use verifier::file::FileVerdict;
 use verifier::file::check_files;
 
-// A byte more than any sheet's or card's file has: a file that fills it is too long.
+// A byte more than the longest file that is looked at: what fills it is too long for a sheet or a card.
 const SPACE: usize = 8797;
 
 // A line about a file.

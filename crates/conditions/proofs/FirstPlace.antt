@@ -10,7 +10,6 @@ use borrow.Author.Count.{below-more}
 use Rattle.words.specs.Outcome.{Outcome, refuse}
 use Rattle.words.specs.Outcome.Outcome.{accepted, refused}
 use Rattle.truth.specs.Verdict.{refuseFirst}
-use Rattle.truth.specs.RefusalLaws.{passed-refuseFirst}
 
 -- the places before i are passed
 pub record Passing (n : ℕ) (holds : ℕ → Bool) (i : ℕ) : Type 0 where

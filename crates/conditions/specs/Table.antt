@@ -7,7 +7,7 @@ use Prim.Native.Nat.{ℕ, zero, suc}
 use Rattle.algebra.specs.Coefficients.{mul, remainder}
 use Rattle.modular.specs.Modulo.{modulo}
 use Rattle.words.specs.Outcome.{Outcome, refuse, followedBy}
-use Rattle.words.specs.Outcome.Outcome.{accepted, refused}
+use Rattle.words.specs.Outcome.Outcome.{accepted}
 use Rattle.words.specs.System.{System, rightSide}
 use Rattle.truth.specs.Solution.{rowOf, columnOf, sideOf}
 use Rattle.truth.specs.Right.{certified}

@@ -13,10 +13,21 @@ use products::matrix::target;
 ghost use mathlib.Core.Path.{_≡_};
 ghost use Prim.Native.Nat.{_+_, _<_};
 ghost use lib.ListN.{length};
-ghost use Rattle.truth.specs.Verdict.{solutionVerdict};
+ghost use Rattle.truth.specs.Verdict.{monic?, solutionVerdict};
 ghost use Rattle.conditions.specs.Answer.{verdictOutcome};
-ghost use Rattle.products.specs.Areas.{Loaded, CertificateLoaded, systemIn, denominatorIn, numeratorsIn, certifyingDenominatorIn, certifyingNumeratorsIn};
+ghost use Rattle.loader.specs.Slot.{slot, Filled};
+ghost use Rattle.products.specs.Areas.{ValidLayout, Loaded, CertificateLoaded, systemIn, denominatorIn, numeratorsIn, certifyingDenominatorIn, certifyingNumeratorsIn};
 ghost use Rattle.conditions.specs.Table.{tryMonic, rowWrong, tryRows, columnWrong, tryColumns, tryDenominators};
+
+// Whether polynomial k of the certificate is monic.
+fn is_monic_at(certificate: &[u64], k: usize, layout: Layout) -> bool
+    requires { ⌜ ValidLayout layout × Filled (layout .modulus .p) 122 (now certificate) k ⌝ }
+    ensures { λ r. ⌜ r ≡ monic? (layout .modulus .p) (slot 122 (now (certificate .entry)) k) ⌝ }
+{
+    let m = layout.modulus;
+    let f = polynomial_in(certificate, CERTIFICATE_WIDTH, k, m);
+    f.is_monic()
+}
 
 // 31: d (place 0, tried first) or w (place 1) not monic.
 fn try_monic(certificate: &[u64], layout: Layout) -> Verdict
@@ -24,13 +35,11 @@ fn try_monic(certificate: &[u64], layout: Layout) -> Verdict
     ensures { λ r. ⌜ verdictOutcome r ≡
         tryMonic (layout .modulus .p) (denominatorIn (now (certificate .entry))) (certifyingDenominatorIn layout (now (certificate .entry))) ⌝ }
 {
-    let m = layout.modulus;
-    let d = polynomial_in(certificate, CERTIFICATE_WIDTH, 0, m);
-    if !d.is_monic() {
+    let w = layout.columns + 1;
+    if !is_monic_at(certificate, 0, layout) {
         return Verdict::Refused(31, 0);
     }
-    let w = polynomial_in(certificate, CERTIFICATE_WIDTH, layout.columns + 1, m);
-    if !w.is_monic() {
+    if !is_monic_at(certificate, w, layout) {
         return Verdict::Refused(31, 1);
     }
     Verdict::Accepted

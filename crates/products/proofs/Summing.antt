@@ -1,7 +1,7 @@
 -- The invariant of a growing sum: after k products its words stand for the sum of these, and are small.
 use mathlib.Core.Path.{_≡_, sym, ap, ap₂, _∙_}
-use mathlib.Core.List.{List, []}
-use Prim.Native.Nat.{ℕ, suc, _+_, _*_, _≤_, _<_}
+use mathlib.Core.List.{List}
+use Prim.Native.Nat.{ℕ, _+_, _*_, _≤_, _<_}
 use native.Mathlib.Nat.{le-antisymm, mul-le-mul, mul-le-mul-right, suc-mul}
 use native.Mathlib.Numerals.{add-one}
 use native.Mathlib.Omega.{arith}
@@ -11,7 +11,7 @@ use Rattle.modular.specs.Modulo.{modulo}
 use Rattle.modular.specs.Canonical.{Canonical}
 use Rattle.vector.specs.Bound.{AtMost}
 use Rattle.vector.specs.Reduced.{polynomial}
-use Rattle.polynomial.specs.Value.{coefficientsOf, value-polynomial}
+use Rattle.polynomial.specs.Value.{value-polynomial}
 use Rattle.polynomial.specs.Product.{GainsProduct}
 use Rattle.polynomial.proofs.Made.{represents-zero}
 use Rattle.truth.specs.Solution.{total}

@@ -1,10 +1,10 @@
 -- Rows, columns and sides of the definitions, as sums of products of slots.
 use mathlib.Core.Path.{_≡_, refl, sym, ap, ap₂, _∙_}
-use mathlib.Core.List.{List, [], _∷_}
+use mathlib.Core.List.{List, []}
 use Prim.Native.Nat.{ℕ, zero, suc, _+_, _*_, _≤_, _<_}
 use native.Mathlib.Nat.{mul-le-mul, mul-le-mul-right, suc-mul}
 use native.Mathlib.Omega.{arith}
-use lib.ListN.{length, getD}
+use lib.ListN.{getD}
 use Rattle.algebra.specs.Coefficients.{add, mul}
 use Rattle.modular.specs.Modulo.{modulo}
 use Rattle.modular.specs.Lists.{mul-comm}

@@ -28,16 +28,10 @@ pub fn target(system: &[u64], certificate: &[u64], layout: Layout, i: usize) -> 
     ensures { λ r. ⌜ Represents (layout .modulus .p) r
         (mul (modulo (layout .modulus .p)) (slot 122 (now (certificate .entry)) 0) (rightSide (systemIn layout (now (system .entry))) i)) ⌝ }
 {
+    let rows = layout.rows;
+    let columns = layout.columns;
     let m = layout.modulus;
-    sum_of_products(
-        system,
-        layout.rows * layout.columns + i,
-        1,
-        certificate,
-        0,
-        1,
-        m,
-    )
+    sum_of_products(system, rows * columns + i, 1, certificate, 0, 1, m)
 }
 
 // Column j of Z·A, where Z stands in the certificate from `start` on.
@@ -52,16 +46,10 @@ pub fn column(
     ensures { λ r. ⌜ Represents (layout .modulus .p) r
         (columnOf (systemIn layout (now (system .entry))) (vectorIn (layout .rows) start (now (certificate .entry))) j) ⌝ }
 {
+    let rows = layout.rows;
+    let columns = layout.columns;
     let m = layout.modulus;
-    sum_of_products(
-        system,
-        j,
-        layout.columns,
-        certificate,
-        start,
-        layout.rows,
-        m,
-    )
+    sum_of_products(system, j, columns, certificate, start, rows, m)
 }
 
 // Z·b.
@@ -71,14 +59,7 @@ pub fn side(system: &[u64], certificate: &[u64], start: usize, layout: Layout) -
         (sideOf (systemIn layout (now (system .entry))) (vectorIn (layout .rows) start (now (certificate .entry)))) ⌝ }
 {
     let rows = layout.rows;
+    let columns = layout.columns;
     let m = layout.modulus;
-    sum_of_products(
-        system,
-        rows * layout.columns,
-        1,
-        certificate,
-        start,
-        rows,
-        m,
-    )
+    sum_of_products(system, rows * columns, 1, certificate, start, rows, m)
 }

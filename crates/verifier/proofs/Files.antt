@@ -2,17 +2,17 @@
 use mathlib.Core.Path.{_≡_, refl, sym, ap, _∙_}
 use mathlib.Core.Bool.{Bool, true, false, not, _&&_, _||_}
 use mathlib.Core.List.{List}
-use Prim.Native.Nat.{ℕ, _*_, _%_, _≤_, _<_}
+use Prim.Native.Nat.{ℕ, _%_, _≤_, _<_}
 use native.Mathlib.Omega.{arith}
 use lib.ListN.{length}
-use lib.Dec.{eqb, leb, ltb}
+use lib.Dec.{leb}
 use borrow.Author.Tests.{eq-eqb, ne-eqb, lt-ltb, le-ltb, leb-true}
 use Rattle.words.specs.Limits.{office}
 use Rattle.words.specs.Outcome.{Outcome}
 use Rattle.words.specs.Outcome.Outcome.{refused}
 use Rattle.words.specs.Bytes.{wordsOf, broken, tooLong}
 use Rattle.truth.specs.Verdict.{verdict}
-use Rattle.verifier.specs.File.{FileOutcome, certificateFile?, firstOf, fileVerdict}
+use Rattle.verifier.specs.File.{certificateFile?, firstOf, fileVerdict}
 use Rattle.verifier.specs.File.FileOutcome.{told, notCertificate}
 
 -- the certificate's file

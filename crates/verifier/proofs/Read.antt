@@ -1,32 +1,29 @@
 -- What the areas hold once the words that were read are loaded, and that the verdict on the areas is the verdict on the words.
-use mathlib.Core.Path.{_≡_, refl, sym, ap, _∙_, subst}
-use mathlib.Core.List.{List, [], _∷_, _++_}
-use Prim.Native.Nat.{ℕ, suc, _+_, _*_, _≤_, _<_}
-use native.Mathlib.Nat.{zero-add, mul-le-mul}
+use mathlib.Core.Path.{_≡_, sym, ap, _∙_, subst}
+use mathlib.Core.List.{List, []}
+use Prim.Native.Nat.{ℕ, _+_, _*_, _≤_, _<_}
+use native.Mathlib.Nat.{mul-le-mul}
 use native.Mathlib.Omega.{arith}
-use lib.ListN.{length, getD, length-append, List·getD-append}
-use lib.Seq.{getD-append-add, getD-at}
+use lib.ListN.{length, getD}
 use Rattle.modular.specs.Canonical.{Canonical}
 use Rattle.residue.specs.Modulus.{ValidModulus}
 use Rattle.residue.specs.declared.modulus.Modulus.{Modulus}
 use Rattle.words.specs.Limits.{office}
 use Rattle.words.specs.LimitsLaws.{office-fits}
 use Rattle.words.specs.Outcome.{Outcome, followedBy}
-use Rattle.words.specs.Polynomial.{Within, VectorWithin}
-use Rattle.words.specs.VectorLaws.{all-at}
-use Rattle.words.specs.System.{System, Shape, SystemWithin, ShapeWithin, shape, systemEntries, systemWords, readSystem}
-use Rattle.words.specs.SystemLaws.{system-written-of-read, system-laws}
+use Rattle.words.specs.System.{System, Shape, SystemWithin, ShapeWithin, shape, systemEntries, systemWords}
+use Rattle.words.specs.SystemLaws.{system-written-of-read}
 use Rattle.words.specs.Certificate.{Certificate, Form, CertificateWithin, certificateForm, certificateEntries, certificateWords, entryCount, readCertificate}
 use Rattle.words.specs.Certificate.Certificate.{solution, absence}
 use Rattle.words.specs.Certificate.Form.{solving, absent}
-use Rattle.words.specs.CertificateLaws.{certificate-written-of-read, certificate-laws}
+use Rattle.words.specs.CertificateLaws.{certificate-written-of-read}
 use Rattle.truth.specs.Verdict.{verdict, certificateVerdict, solutionVerdict, absenceVerdict}
-use Rattle.loader.specs.Slot.{slot, Holds, Stands, Filled}
+use Rattle.loader.specs.Slot.{Holds, Stands, Filled}
 use Rattle.loader.specs.SlotLaws.{stands-filled}
 use Rattle.loader.specs.HoldLaws.{system-holds, system-canonical, system-count, certificate-holds, certificate-canonical, certificate-count}
 use Rattle.products.specs.declared.layout.Layout.{Layout}
-use Rattle.products.specs.Areas.{systemIn, vectorIn, denominatorIn, numeratorsIn, certifyingDenominatorIn, certifyingNumeratorsIn, ValidLayout, CertificateLoaded, Loaded}
-use Rattle.products.specs.AreaLaws.{vector-is, system-is}
+use Rattle.products.specs.Areas.{systemIn, vectorIn, denominatorIn, numeratorsIn, certifyingDenominatorIn, certifyingNumeratorsIn, Loaded}
+use Rattle.products.specs.AreaLaws.{system-is}
 use Rattle.verifier.proofs.Parts.{solution-is, absence-is}
 use Rattle.verifier.specs.BothRead.{BothRead}
 

@@ -7,7 +7,7 @@ use Rattle.words.specs.Outcome.{Outcome, followedBy, mapped}
 use Rattle.words.specs.Outcome.Outcome.{accepted, refused}
 use Rattle.words.specs.OutcomeLaws.{mapped-accepted, mapped-refused}
 use Rattle.words.specs.System.{System, Shape, shape, readSystem}
-use Rattle.words.specs.Certificate.{Certificate, Form, certificateForm, readCertificate}
+use Rattle.words.specs.Certificate.{Form, certificateForm, readCertificate}
 use Rattle.truth.specs.Verdict.{verdict, certificateVerdict}
 use Rattle.verifier.specs.BothRead.{BothRead}
 

@@ -7,8 +7,6 @@ use borrow.Author.Needs.{needs}
 use Rattle.loader.specs.Slot.{slot}
 use Rattle.loader.proofs.coefficients_in.Statement.{statement}
 use Rattle.loader.proofs.coefficients_in.Tie as tie
-use Rattle.loader.proofs.coefficients_in.Reads as reads
-use Rattle.loader.proofs.coefficients_in.Lts as lts
 
 mul-start : tie.Need-mul-start
 mul-start c = search needs

@@ -5,10 +5,6 @@ use borrow.Author.Needs.{needs}
 use Rattle.loader.proofs.Loading.{Loads, loads-start, turn-count, turn-room, turn-fits, loads-turn, loads-end}
 use Rattle.loader.proofs.load.Statement.{statement}
 use Rattle.loader.proofs.load.Tie as tie
-use Rattle.loader.proofs.load.Reads as reads
-use Rattle.loader.proofs.load.Lts as lts
-use Rattle.loader.proofs.copy_payloads.Reads as copy-payloads-reads
-use Rattle.reader.proofs.word.payload_of.Reads as payload-of-reads
 
 abbrev Inv-loop : tie.InvT-loop
 Inv-loop area₀ width words count at₀ k₀ area at k = Loads width words count area₀ area at k

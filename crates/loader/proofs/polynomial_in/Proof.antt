@@ -7,10 +7,6 @@ use Rattle.polynomial.specs.Value.{represents-is}
 use Rattle.loader.specs.SlotLaws.{taken-canonical, taken-size, canonical-word, canonical-polynomial}
 use Rattle.loader.proofs.polynomial_in.Statement.{statement}
 use Rattle.loader.proofs.polynomial_in.Tie as tie
-use Rattle.loader.proofs.polynomial_in.Reads as reads
-use Rattle.loader.proofs.polynomial_in.Lts as lts
-use Rattle.loader.proofs.coefficients_in.Reads as coefficients-in-reads
-use Rattle.polynomial.proofs.value.Polynomial.from_words.Reads as from-words-reads
 
 coefficients-in-requires : tie.Need-coefficients-in-requires
 coefficients-in-requires c κs = search needs

@@ -5,12 +5,6 @@ use Rattle.verifier.proofs.Reading.{system-refused, certificate-refused
 use borrow.Author.Needs.{needs}
 use Rattle.verifier.proofs.check.Statement.{statement}
 use Rattle.verifier.proofs.check.Tie as tie
-use Rattle.verifier.proofs.check.Reads as reads
-use Rattle.verifier.proofs.check.Lts as lts
-use Rattle.limits.proofs.Office.limits.Reads as limits-reads
-use Rattle.reader.proofs.certificate.read_certificate.Reads as read-certificate-reads
-use Rattle.reader.proofs.system.read_system.Reads as read-system-reads
-use Rattle.verifier.proofs.check_read.Reads as check-read-reads
 
 limits-requires : tie.Need-limits-requires
 limits-requires c κs = search needs

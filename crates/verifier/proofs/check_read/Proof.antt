@@ -8,12 +8,6 @@ use Rattle.verifier.proofs.Read.{loaded-solution, loaded-absence, verdi
 use borrow.Author.Needs.{needs}
 use Rattle.verifier.proofs.check_read.Statement.{statement}
 use Rattle.verifier.proofs.check_read.Tie as tie
-use Rattle.verifier.proofs.check_read.Reads as reads
-use Rattle.verifier.proofs.check_read.Lts as lts
-use Rattle.loader.proofs.load.Reads as load-reads
-use Rattle.residue.proofs.modulus.Modulus.new.Reads as new-reads
-use Rattle.conditions.proofs.absence.check_absence.Reads as check-absence-reads
-use Rattle.conditions.proofs.solution.check_solution.Reads as check-solution-reads
 
 cast-rows : tie.Need-cast-rows
 cast-rows c = search needs

@@ -5,10 +5,6 @@ use Rattle.conditions.proofs.Order.{absence-product, absence-last}
 use borrow.Author.Needs.{needs}
 use Rattle.conditions.proofs.absence.check_absence.Statement.{statement}
 use Rattle.conditions.proofs.absence.check_absence.Tie as tie
-use Rattle.conditions.proofs.absence.check_absence.Reads as reads
-use Rattle.conditions.proofs.absence.check_absence.Lts as lts
-use Rattle.conditions.proofs.absence.try_products.Reads as try-products-reads
-use Rattle.conditions.proofs.absence.try_side.Reads as try-side-reads
 
 try-products-requires : tie.Need-try-products-requires
 try-products-requires c κs = search needs

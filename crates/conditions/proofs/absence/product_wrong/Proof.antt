@@ -7,10 +7,6 @@ use Rattle.conditions.proofs.Tests.{zero-test}
 use borrow.Author.Needs.{needs}
 use Rattle.conditions.proofs.absence.product_wrong.Statement.{statement}
 use Rattle.conditions.proofs.absence.product_wrong.Tie as tie
-use Rattle.conditions.proofs.absence.product_wrong.Reads as reads
-use Rattle.conditions.proofs.absence.product_wrong.Lts as lts
-use Rattle.polynomial.proofs.value.Polynomial.is_zero.Reads as is-zero-reads
-use Rattle.products.proofs.matrix.column.Reads as column-reads
 
 column-requires : tie.Need-column-requires
 column-requires c κs = let S = c .before .before in (rw zero-add (S .pre .0), S .pre .1)

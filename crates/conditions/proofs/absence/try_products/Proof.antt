@@ -1,16 +1,12 @@
 -- The loop keeps a `Passing`: no column before is wrong.
 use mathlib.Core.Path.{sym, _∙_}
 use Prim.Native.Nat.{_-_}
-use native.Mathlib.Omega.{arith}
 use borrow.Author.Needs.{needs}
 use Rattle.products.specs.Areas.{systemIn, vectorIn}
 use Rattle.conditions.specs.Table.{productWrong, tryProducts}
 use Rattle.conditions.proofs.FirstPlace.{Passing, passing-start, passing-turn, passing-found, passing-end}
 use Rattle.conditions.proofs.absence.try_products.Statement.{statement}
 use Rattle.conditions.proofs.absence.try_products.Tie as tie
-use Rattle.conditions.proofs.absence.try_products.Reads as reads
-use Rattle.conditions.proofs.absence.try_products.Lts as lts
-use Rattle.conditions.proofs.absence.product_wrong.Reads as product-wrong-reads
 
 abbrev Inv-loop : tie.InvT-loop
 Inv-loop system certificate layout j₀ j = Passing (layout .columns) (productWrong (systemIn layout system) (vectorIn (layout .rows) 0 certificate)) j

@@ -5,10 +5,6 @@ use Rattle.conditions.proofs.Tests.{zero-test}
 use borrow.Author.Needs.{needs}
 use Rattle.conditions.proofs.absence.try_side.Statement.{statement}
 use Rattle.conditions.proofs.absence.try_side.Tie as tie
-use Rattle.conditions.proofs.absence.try_side.Reads as reads
-use Rattle.conditions.proofs.absence.try_side.Lts as lts
-use Rattle.polynomial.proofs.value.Polynomial.is_zero.Reads as is-zero-reads
-use Rattle.products.proofs.matrix.side.Reads as side-reads
 
 side-requires : tie.Need-side-requires
 side-requires c κs = rw zero-add (c .before .before .pre)

@@ -8,12 +8,6 @@ use Rattle.conditions.proofs.Order.{solution-monic, solution-row, solut
 use borrow.Author.Needs.{needs}
 use Rattle.conditions.proofs.solution.check_solution.Statement.{statement}
 use Rattle.conditions.proofs.solution.check_solution.Tie as tie
-use Rattle.conditions.proofs.solution.check_solution.Reads as reads
-use Rattle.conditions.proofs.solution.check_solution.Lts as lts
-use Rattle.conditions.proofs.solution.try_columns.Reads as try-columns-reads
-use Rattle.conditions.proofs.solution.try_denominators.Reads as try-denominators-reads
-use Rattle.conditions.proofs.solution.try_monic.Reads as try-monic-reads
-use Rattle.conditions.proofs.solution.try_rows.Reads as try-rows-reads
 
 try-monic-requires : tie.Need-try-monic-requires
 try-monic-requires c κs =

@@ -9,12 +9,6 @@ use Rattle.conditions.proofs.Values.{value-size, remainder-value}
 use borrow.Author.Needs.{needs}
 use Rattle.conditions.proofs.solution.column_wrong.Statement.{statement}
 use Rattle.conditions.proofs.solution.column_wrong.Tie as tie
-use Rattle.conditions.proofs.solution.column_wrong.Reads as reads
-use Rattle.conditions.proofs.solution.column_wrong.Lts as lts
-use Rattle.division.proofs.remainder.Reads as remainder-reads
-use Rattle.loader.proofs.polynomial_in.Reads as polynomial-in-reads
-use Rattle.polynomial.proofs.value.Polynomial.is_zero.Reads as is-zero-reads
-use Rattle.products.proofs.matrix.column.Reads as column-reads
 
 add-polynomial-in : tie.Need-add-polynomial-in
 add-polynomial-in c = search needs

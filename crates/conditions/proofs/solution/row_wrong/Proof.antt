@@ -7,11 +7,6 @@ use Rattle.conditions.proofs.Tests.{equal-test}
 use borrow.Author.Needs.{needs}
 use Rattle.conditions.proofs.solution.row_wrong.Statement.{statement}
 use Rattle.conditions.proofs.solution.row_wrong.Tie as tie
-use Rattle.conditions.proofs.solution.row_wrong.Reads as reads
-use Rattle.conditions.proofs.solution.row_wrong.Lts as lts
-use Rattle.polynomial.proofs.value.Polynomial.equal.Reads as equal-reads
-use Rattle.products.proofs.matrix.row.Reads as row-reads
-use Rattle.products.proofs.matrix.target.Reads as target-reads
 
 row-requires : tie.Need-row-requires
 row-requires c κs = search needs

@@ -1,16 +1,12 @@
 -- The loop keeps a `Passing`: no column before is wrong.
 use mathlib.Core.Path.{sym, _∙_}
 use Prim.Native.Nat.{_-_}
-use native.Mathlib.Omega.{arith}
 use borrow.Author.Needs.{needs}
-use Rattle.products.specs.Areas.{systemIn, denominatorIn, numeratorsIn, certifyingDenominatorIn, certifyingNumeratorsIn}
+use Rattle.products.specs.Areas.{systemIn, certifyingDenominatorIn, certifyingNumeratorsIn}
 use Rattle.conditions.specs.Table.{columnWrong, tryColumns}
 use Rattle.conditions.proofs.FirstPlace.{Passing, passing-start, passing-turn, passing-found, passing-end}
 use Rattle.conditions.proofs.solution.try_columns.Statement.{statement}
 use Rattle.conditions.proofs.solution.try_columns.Tie as tie
-use Rattle.conditions.proofs.solution.try_columns.Reads as reads
-use Rattle.conditions.proofs.solution.try_columns.Lts as lts
-use Rattle.conditions.proofs.solution.column_wrong.Reads as column-wrong-reads
 
 abbrev Inv-loop : tie.InvT-loop
 Inv-loop system certificate layout j₀ j = Passing (layout .columns) (columnWrong (systemIn layout system) (certifyingDenominatorIn layout certificate) (certifyingNumeratorsIn layout certificate)) j

@@ -8,14 +8,6 @@ use Rattle.conditions.proofs.Values.{gcd-some, certified-value}
 use borrow.Author.Needs.{needs}
 use Rattle.conditions.proofs.solution.try_denominators.Statement.{statement}
 use Rattle.conditions.proofs.solution.try_denominators.Tie as tie
-use Rattle.conditions.proofs.solution.try_denominators.Reads as reads
-use Rattle.conditions.proofs.solution.try_denominators.Lts as lts
-use Rattle.division.proofs.gcd.Reads as gcd-reads
-use Rattle.division.proofs.quotient.Reads as quotient-reads
-use Rattle.loader.proofs.polynomial_in.Reads as polynomial-in-reads
-use Rattle.polynomial.proofs.value.Polynomial.equal.Reads as equal-reads
-use Rattle.polynomial.proofs.value.Polynomial.monic.Reads as monic-reads
-use Rattle.products.proofs.matrix.side.Reads as side-reads
 
 polynomial-in-requires : tie.Need-polynomial-in-requires
 polynomial-in-requires c κs =

@@ -1,16 +1,12 @@
 -- The loop keeps a `Passing`: no row before is wrong.
 use mathlib.Core.Path.{sym, _∙_}
 use Prim.Native.Nat.{_-_}
-use native.Mathlib.Omega.{arith}
 use borrow.Author.Needs.{needs}
-use Rattle.products.specs.Areas.{systemIn, denominatorIn, numeratorsIn, certifyingDenominatorIn, certifyingNumeratorsIn}
+use Rattle.products.specs.Areas.{systemIn, denominatorIn, numeratorsIn}
 use Rattle.conditions.specs.Table.{rowWrong, tryRows}
 use Rattle.conditions.proofs.FirstPlace.{Passing, passing-start, passing-turn, passing-found, passing-end}
 use Rattle.conditions.proofs.solution.try_rows.Statement.{statement}
 use Rattle.conditions.proofs.solution.try_rows.Tie as tie
-use Rattle.conditions.proofs.solution.try_rows.Reads as reads
-use Rattle.conditions.proofs.solution.try_rows.Lts as lts
-use Rattle.conditions.proofs.solution.row_wrong.Reads as row-wrong-reads
 
 abbrev Inv-loop : tie.InvT-loop
 Inv-loop system certificate layout i₀ i = Passing (layout .rows) (rowWrong (systemIn layout system) (denominatorIn certificate) (numeratorsIn layout certificate)) i

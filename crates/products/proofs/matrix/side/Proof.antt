@@ -6,14 +6,14 @@ use Rattle.products.proofs.matrix.side.Statement.{statement}
 use Rattle.products.proofs.matrix.side.Tie as tie
 
 mul-sum-of-products : tie.Need-mul-sum-of-products
-mul-sum-of-products c = omega (arith, places-few _ _ _ (c .before .before .before .before .pre))
+mul-sum-of-products c = omega (arith, places-few _ _ _ (c .before .before .before .pre))
 
 sum-of-products-requires : tie.Need-sum-of-products-requires
-sum-of-products-requires c κs = side-asks _ _ _ (c .before .before .before .before .pre) _ (omega arith)
+sum-of-products-requires c κs = side-asks _ _ _ (c .before .before .before .pre) _ (omega arith)
 
 returns : tie.Need-returns
 returns c =
-    represents-is (c .sum-of-products .ensures) (side-sum _ _ _ (c .before .before .before .before .before .pre) _ (omega arith))
+    represents-is (c .sum-of-products .ensures) (side-sum _ _ _ (c .before .before .before .before .pre) _ (omega arith))
 
 pub side-spec : {M : Type 1} → statement M
 side-spec = tie.close (tie.spec mul-sum-of-products sum-of-products-requires returns)

@@ -1,6 +1,6 @@
 -- The loop keeps a `Summing`.
 use mathlib.Core.Path.{_≡_, refl}
-use Prim.Native.Nat.{_+_, _-_, _*_, _<_}
+use Prim.Native.Nat.{_+_, _-_, _<_}
 use native.Mathlib.Omega.{arith}
 use lib.ListN.{length}
 use borrow.Author.Needs.{needs}
@@ -11,12 +11,6 @@ use Rattle.products.specs.Products.{product}
 use Rattle.products.proofs.Summing.{Summing, summing-start, summing-fits, summing-small, summing-turn, summing-end}
 use Rattle.products.proofs.sum.sum_of_products.Statement.{statement}
 use Rattle.products.proofs.sum.sum_of_products.Tie as tie
-use Rattle.products.proofs.sum.sum_of_products.Reads as reads
-use Rattle.products.proofs.sum.sum_of_products.Lts as lts
-use Rattle.loader.proofs.coefficients_in.Reads as coefficients-in-reads
-use Rattle.polynomial.proofs.product.add_rows.Reads as add-rows-reads
-use Rattle.polynomial.proofs.value.Polynomial.from_words.Reads as from-words-reads
-use Rattle.polynomial.proofs.value.zeros.Reads as zeros-reads
 
 abbrev Inv-loop : tie.InvT-loop
 Inv-loop system first step certificate start count m h₀ k₀ h k =

@@ -10,11 +10,6 @@ use Rattle.verifier.proofs.Files.{system-broken, system-long, certifica
 use borrow.Author.Needs.{needs}
 use Rattle.verifier.proofs.file.check_files.Statement.{statement}
 use Rattle.verifier.proofs.file.check_files.Tie as tie
-use Rattle.verifier.proofs.file.check_files.Reads as reads
-use Rattle.verifier.proofs.file.check_files.Lts as lts
-use Rattle.reader.proofs.file.unpack.Reads as unpack-reads
-use Rattle.verifier.proofs.check.Reads as check-reads
-use Rattle.verifier.proofs.file.is_certificate_file.Reads as is-certificate-file-reads
 
 returns : tie.Need-returns
 returns c = system-broken _ _ (c .if1 .taken)

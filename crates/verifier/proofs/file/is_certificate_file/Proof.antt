@@ -3,8 +3,6 @@ use Rattle.verifier.proofs.Files.{certificate-broken, certificate-whole
 use borrow.Author.Needs.{needs}
 use Rattle.verifier.proofs.file.is_certificate_file.Statement.{statement}
 use Rattle.verifier.proofs.file.is_certificate_file.Tie as tie
-use Rattle.verifier.proofs.file.is_certificate_file.Reads as reads
-use Rattle.verifier.proofs.file.is_certificate_file.Lts as lts
 
 returns : tie.Need-returns
 returns c = certificate-broken _ (c .if1 .taken)

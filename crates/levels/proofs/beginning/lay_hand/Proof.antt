@@ -1,0 +1,68 @@
+-- `lay_hand` meets its contract: three calls and a store.
+use mathlib.Core.Path.{refl, _∙_, ap}
+use mathlib.Core.List.{List}
+use Prim.Native.Nat.{ℕ, _+_}
+use native.Mathlib.Omega.{arith}
+use lib.ListN.{getD, set}
+use borrow.Author.Needs.{needs}
+use Rattle.vector.specs.Stored.{stored}
+use Rattle.levels.proofs.beginning.lay_hand.Statement.{statement}
+use Rattle.levels.proofs.beginning.lay_hand.Tie as tie
+use Rattle.levels.proofs.beginning.lay_hand.Reads as reads
+use Rattle.levels.proofs.beginning.lay_hand.Lts as lts
+use Rattle.levels.proofs.beginning.last_place.Reads as last-place-reads
+use Rattle.vector.proofs.clear.Reads as clear-reads
+use Rattle.vector.proofs.copy.Reads as copy-reads
+
+clear-requires : tie.Need-clear-requires
+clear-requires c κs = search needs
+
+copy-requires : tie.Need-copy-requires
+copy-requires c κs = search needs
+
+clear-requires-2 : tie.Need-clear-requires-2
+clear-requires-2 c κs = search needs
+
+slice-write-tail : tie.Need-slice-write-tail
+slice-write-tail c = search needs
+
+last-place-requires : tie.Need-last-place-requires
+last-place-requires c κs = search needs
+
+mul-t14 : tie.Need-mul-t14
+mul-t14 c = search needs
+
+shared-slice-read-t16 : tie.Need-shared-slice-read-t16
+shared-slice-read-t16 c = search needs
+
+same-length : tie.Need-same-length
+same-length c = search needs
+
+same-length-2 : tie.Need-same-length-2
+same-length-2 c = search needs
+
+returns : tie.Need-returns
+returns c =
+    let S = c .before .before .before .before .before .before .before .before .before .before .before .before .before .before .before .before .before in (
+      c .before .before .before .before .before .before .before .before .copy .ensures
+          ∙ ap (λ (w : List ℕ). stored (λ j. getD (S .args .column .now) (0 + j) 0) w 0 128) (c .before .before .before .before .before .before .before .before .before .before .before .before .clear .ensures),
+      (
+        ap (λ (w : List ℕ). set w 0 1) (c .before .before .before .before .clear2 .ensures),
+        ap (λ (i : ℕ). record { size = S .args .size; leading = getD (S .args .column .now) i 0; tail = 1 }) (c .before .last-place .ensures),
+      ),
+    )
+
+pub lay-hand-spec : {M : Type 1} → statement M
+lay-hand-spec =
+    tie.close
+    (tie.spec
+    clear-requires
+    copy-requires
+    clear-requires-2
+    slice-write-tail
+    last-place-requires
+    mul-t14
+    shared-slice-read-t16
+    same-length
+    same-length-2
+    returns)

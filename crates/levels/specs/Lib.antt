@@ -1,0 +1,6 @@
+pub mod Copied
+pub mod Laid
+pub mod Settled
+pub mod Linked
+pub mod Cleared
+pub mod Begun
