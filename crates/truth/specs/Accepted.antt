@@ -180,30 +180,30 @@ module _ (limits : Limits) (fit : LimitsFit limits) where
   words-of-accepted ws cs e =
       let first = followedBy-accepted (readSystem limits ws) _ e in
       let second = followedBy-accepted (readCertificate limits (shape (first .0)) cs) _ (first .2) in
-      let sheet = system-written-of-read limits fit ws (first .0) (first .1) in
-      let card = certificate-written-of-read limits (shape (first .0)) cs (second .0) (second .1) in
+      let system-read = system-written-of-read limits fit ws (first .0) (first .1) in
+      let certificate-read = certificate-written-of-read limits (shape (first .0)) cs (second .0) (second .1) in
       record {
         system = first .0;
         certificate = second .0;
-        system-words = sheet .0;
-        system-within = sheet .1;
-        certificate-words = card .0;
-        certificate-within = card .1;
-        right = verdict-right (first .0) (sheet .1) (second .0) (card .1) (second .2);
+        system-words = system-read .0;
+        system-within = system-read .1;
+        certificate-words = certificate-read .0;
+        certificate-within = certificate-read .1;
+        right = verdict-right (first .0) (system-read .1) (second .0) (certificate-read .1) (second .2);
       }
 
   pub accepted-of-words : (ws cs : List ℕ) → AcceptedWords limits ws cs → verdict limits ws cs ≡ accepted tt
   unfolding verdict
   accepted-of-words ws cs a =
-      ap (λ o. followedBy o (λ s. followedBy (readCertificate limits (shape s) cs) (certificateVerdict s))) sheet
-      ∙ ap (λ o. followedBy o (certificateVerdict (a .system))) card
+      ap (λ o. followedBy o (λ s. followedBy (readCertificate limits (shape s) cs) (certificateVerdict s))) system-read
+      ∙ ap (λ o. followedBy o (certificateVerdict (a .system))) certificate-read
       ∙ right-verdict (a .system) (a .system-within) (a .certificate) (a .certificate-within) (a .right)
     where
-      sheet : readSystem limits ws ≡ accepted (a .system)
-      sheet = ap (readSystem limits) (a .system-words) ∙ system-read-of-written limits fit (a .system) (a .system-within)
+      system-read : readSystem limits ws ≡ accepted (a .system)
+      system-read = ap (readSystem limits) (a .system-words) ∙ system-read-of-written limits fit (a .system) (a .system-within)
 
-      card : readCertificate limits (shape (a .system)) cs ≡ accepted (a .certificate)
-      card = ap (readCertificate limits (shape (a .system))) (a .certificate-words)
+      certificate-read : readCertificate limits (shape (a .system)) cs ≡ accepted (a .certificate)
+      certificate-read = ap (readCertificate limits (shape (a .system))) (a .certificate-words)
           ∙ certificate-read-of-written limits (shape (a .system)) fit (a .system-within .shape) (a .certificate) (a .certificate-within)
 
   pub accepted-iff : (ws cs : List ℕ) → (verdict limits ws cs ≡ accepted tt) ↔ AcceptedWords limits ws cs
