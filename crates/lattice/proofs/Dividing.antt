@@ -1,14 +1,13 @@
 -- The invariant of `divide`: a division as far as it has come, with what is left of the block in the hand.
-use Prim.Native.Nat.{ℕ, suc, _+_, _-_, _*_, _/_, _%_, _<_, _≤_}
-use mathlib.Core.Path.{_≡_, refl, sym, _∙_, ap, ap₂, subst}
-use mathlib.Core.Logic.{_⊎_, inl, inr, ⊎-elim}
+use Prim.Native.Nat.{ℕ, _+_, _-_, _%_, _<_, _≤_}
+use mathlib.Core.Path.{_≡_, refl, sym, _∙_, ap, subst}
+use mathlib.Core.Logic.{_⊎_, inl, inr}
 use mathlib.Core.List.{List}
-use native.Mathlib.Nat.{mod-lt, zero-mod}
+use native.Mathlib.Nat.{zero-mod}
 use native.Mathlib.Omega.{arith}
 use native.Mathlib.Decide.{ℕ-discrete}
 use lib.ListN.{length, getD, set, length-set}
 use lib.Seq.{getD-set-same, getD-set-other}
-use Rattle.ring.specs.Ring.{Ring}
 use Rattle.algebra.specs.Polynomial.{Polynomial, polynomials, coefficients-zero}
 use Rattle.algebra.specs.Size.{sized}
 use Rattle.modular.specs.Prime.{Prime}
@@ -18,12 +17,11 @@ use Rattle.residue.specs.Below.{add-below}
 use Rattle.vector.specs.Bound.{AtMost}
 use Rattle.reduction.specs.Replace.{replace-elim}
 use Rattle.reduction.specs.Pivot.{Pivot}
-use Rattle.reduction.specs.Slots.{Slots}
 use Rattle.reduction.specs.Span.{InSpan}
 use Rattle.reduction.specs.Moves.{Taken}
-use Rattle.reduction.specs.Division.{Division, start, step, quotient, division-on}
-use Rattle.reduction.specs.Holds.{Holds, monomial}
-use Rattle.reduction.specs.Flat.{Flat, flat, flat-step}
+use Rattle.reduction.specs.Division.{start, step, quotient, division-on}
+use Rattle.reduction.specs.Holds.{monomial}
+use Rattle.reduction.specs.Flat.{flat, flat-step}
 use Rattle.lattice.specs.declared.step.Remains.{Remains}
 use Rattle.lattice.specs.Word.{residue, residue-mod, residue-add, words, words-first}
 use Rattle.lattice.specs.Memory.{row, height, Ends, Level, slotSize, Sums, ValidLevel}
@@ -63,7 +61,8 @@ module _ {p : ℕ} (prime₀ : Prime p) {L : Level} {block₀ quotients₀ : Lis
       holds-rest = f .holds;
       holds-quotient = λ q h. record {
         at = λ e. coefficients-zero (residues p prime) e
-            ∙ sym (words-zero p prime quotients₀ 0 1088 0 (λ j l lt. ap (λ w. w % p) (none j) ∙ zero-mod p) (flat 8 q e) (omega arith));
+            ∙ sym (words-zero p prime quotients₀ 0 1088 0 (λ j l lt. ap (λ w. w % p) (none j) ∙ zero-mod p) (flat 8 q e)
+            (omega arith));
       };
     };
   }
@@ -98,12 +97,15 @@ module _ {p : ℕ} (prime₀ : Prime p) {L : Level} {block₀ quotients₀ : Lis
     quotients′ = set quotients (k - slotSize L (row k) + (7 - row k))
         (modulo p .add (getD quotients (k - slotSize L (row k) + (7 - row k)) 0) (r .factor))
 
+    place-there : place < length quotients
+    place-there = omega (arith, Stepping.place-inside S, so-far .same-quotients)
+
     below-set : (i : ℕ) → getD quotients′ i 0 < p
     below-set i = go (ℕ-discrete i place)
       where
         go : Dec (i ≡ place) → getD quotients′ i 0 < p
         go (yes e) = subst (λ x. getD quotients′ x 0 < p) (sym e) (subst (λ x. x < p)
-            (sym (getD-set-same quotients place sum 0 (omega (arith, Stepping.place-inside S, so-far .same-quotients))))
+            (sym (getD-set-same quotients place sum 0 place-there))
             (add-below p (prime₀ .large) _ _))
         go (no e) = subst (λ x. x < p) (sym (getD-set-other quotients place i sum 0 e)) (so-far .below i)
 
@@ -151,7 +153,7 @@ module _ {p : ℕ} (prime₀ : Prime p) {L : Level} {block₀ quotients₀ : Lis
           (λ x. words p prime quotients′ 0 1088 x ≡ residues p prime .ring .add (words p prime quotients 0 1088 x) a)
           here
           (words-first p prime quotients′ 1088 place (Stepping.place-inside S)
-          ∙ ap (residue p prime) (getD-set-same quotients place sum 0 (omega (arith, Stepping.place-inside S, so-far .same-quotients)))
+          ∙ ap (residue p prime) (getD-set-same quotients place sum 0 place-there)
           ∙ residue-mod p prime (getD quotients place 0 + r .factor)
           ∙ residue-add p prime (getD quotients place 0) (r .factor)
           ∙ ap (λ x. residues p prime .ring .add x a) (sym (words-first p prime quotients 1088 place (Stepping.place-inside S))))
@@ -169,7 +171,9 @@ module _ {p : ℕ} (prime₀ : Prime p) {L : Level} {block₀ quotients₀ : Lis
           (λ l. holds-monomial (residues p prime) a degree (D .holds-quotient (row k) l) words-here
           (λ e ne. words-other (flat 8 (row k) e) (λ same. ne (omega arith))))
           q
-          (λ ne l. record { at = λ e. D .holds-quotient q l .at e ∙ sym (words-other (flat 8 q e) (λ same. ne (omega (arith, lanes)))) })
+          (λ ne l. record {
+            at = λ e. D .holds-quotient q l .at e ∙ sym (words-other (flat 8 q e) (λ same. ne (omega (arith, lanes))));
+          })
           h
 
       divides : Divides p prime n ω (f .slots) (f .vector) block′ quotients′
@@ -190,7 +194,8 @@ module _ {p : ℕ} (prime₀ : Prime p) {L : Level} {block₀ quotients₀ : Lis
       ends = T .ends;
       leading = T .leading;
       sums = sums-fewer p block′ (k - 1) (r .size) (omega (arith, T .fewer))
-          (Stepping.step-sums p prime₀ S (r .factor) (T .factor) block′ (T .words) k (S .some) (omega (arith, S .ends .within)) (so-far .sums));
+          (Stepping.step-sums p prime₀ S (r .factor) (T .factor) block′ (T .words) k (S .some)
+          (omega (arith, S .ends .within)) (so-far .sums));
       below = below-set;
       divides = divides;
     }
@@ -214,7 +219,8 @@ module _ {p : ℕ} (prime₀ : Prime p) {L : Level} {block₀ quotients₀ : Lis
       pivot = ends-pivot p prime (so-far .ends) (left .holds-rest) some
 
       on : (0 < f .slots .size (row k)) × (f .slots .size (row k) ≤ height k)
-      on = division-on (polynomials (residues p prime)) n (f .slots) (holds-filled p prime level (f .holds-slots)) (left .trace) span pivot
+      on = division-on (polynomials (residues p prime)) n (f .slots) (holds-filled p prime level (f .holds-slots)) (left .trace)
+          span pivot
 
       goes-on : (slotSize L (row k) ≡ 0) ⊎ (k < slotSize L (row k)) → ⊥
       goes-on (inl empty) = omega (arith, on .0, f .holds-slots .size (row k) (pivot .inside))

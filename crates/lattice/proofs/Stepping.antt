@@ -1,8 +1,8 @@
 -- A step on the block in hand: the multiple of the slot at its pivot that takes the leading word away. `divide` and `insert` make
 -- the same step.
-use Prim.Native.Nat.{ℕ, suc, _+_, _-_, _*_, _/_, _%_, _<_, _≤_}
+use Prim.Native.Nat.{ℕ, _+_, _-_, _*_, _/_, _%_, _<_, _≤_}
 use mathlib.Core.Path.{_≡_, refl, sym, _∙_, ap, ap₂, subst}
-use mathlib.Core.Logic.{_⊎_, inl, inr, ⊎-elim}
+use mathlib.Core.Logic.{inr, ⊎-elim}
 use mathlib.Core.List.{List, [], _∷_}
 use native.Mathlib.Nat.{mod-lt, mul-le-mul}
 use native.Mathlib.Omega.{arith}
@@ -17,13 +17,12 @@ use Rattle.modular.specs.Residue.{Residue, residues}
 use Rattle.residue.specs.Below.{mul-below, inverse-below}
 use Rattle.vector.specs.Stored.{stored, length-stored, stored-outside, below-or-not}
 use Rattle.vector.specs.Multiple.{sumAt}
-use Rattle.vector.specs.Bound.{AtMost}
-use Rattle.lattice.specs.Word.{residue, residue-same, residue-mod, residue-mul, residue-inverse, zero-residue}
+use Rattle.lattice.specs.Word.{residue, residue-mod, residue-mul, residue-inverse, zero-residue}
 use Rattle.lattice.specs.Word.{words, words-inside, words-first}
-use Rattle.lattice.specs.Memory.{row, ZeroFrom, Ends, Level, slotSize, Sums, ValidSlot, ValidLevel}
+use Rattle.lattice.specs.Memory.{row, ZeroFrom, Level, slotSize, Sums, ValidSlot}
 use Rattle.lattice.specs.Sums.{sums-room, sums-step}
 use Rattle.lattice.specs.Step.{factorOf, HasStep}
-use Rattle.lattice.specs.Range.{words-zero, zero-word, words-upper, words-lower}
+use Rattle.lattice.specs.Range.{zero-word, words-upper, words-lower}
 
 -- h less h/u times u
 cancelled : {K : Type 0} (R : Ring K) (h u i : K) → R .mul u i ≡ R .one → R .add h (R .neg (R .mul (R .mul h i) u)) ≡ R .zero
@@ -107,7 +106,8 @@ module _ (p : ℕ) (prime : Prime p) {L : Level} {block : List ℕ} {k value : �
 
     upper : (x : ℕ) → words p prime block′ 0 1088 (d + x)
         ≡ residues p prime .ring .add (words p prime block 0 1088 (d + x))
-        (residues p prime .ring .neg (residues p prime .ring .mul (residue p prime a) (words p prime (L .slots) (256 * row k) 128 x)))
+        (residues p prime .ring .neg (residues p prime .ring .mul (residue p prime a)
+        (words p prime (L .slots) (256 * row k) 128 x)))
     upper = words-upper p prime block block′ (L .slots) d (256 * row k) size 128 1088 a stores step-factor
         (omega (arith, S .fits, S .ends .within)) (S .room) (slot .block .behind) (slot .block .within)
 
@@ -118,7 +118,8 @@ module _ (p : ℕ) (prime : Prime p) {L : Level} {block : List ℕ} {k value : �
     -- as `flat-step` of `reduction` takes it
     pub step-upper : (x : ℕ) → words p prime block′ 0 1088 (shift * 8 + x)
         ≡ residues p prime .ring .add (words p prime block 0 1088 (shift * 8 + x))
-        (residues p prime .ring .neg (residues p prime .ring .mul (residue p prime a) (words p prime (L .slots) (256 * row k) 128 x)))
+        (residues p prime .ring .neg (residues p prime .ring .mul (residue p prime a)
+        (words p prime (L .slots) (256 * row k) 128 x)))
     step-upper = rw step-shift at upper
 
     pub step-lower : (x : ℕ) → x < shift * 8 → words p prime block′ 0 1088 x ≡ words p prime block 0 1088 x
@@ -143,7 +144,9 @@ module _ (p : ℕ) (prime : Prime p) {L : Level} {block : List ℕ} {k value : �
         ∙ residue-mul p prime value (getD (L .inverses) (row k) 0)
         ∙ ap₂
         (F .ring .mul)
-        (ap (residue p prime) (S .leading) ∙ residue-mod p prime (getD block (k - 1) 0) ∙ sym (words-first p prime block 1088 (k - 1) inside))
+        (ap (residue p prime) (S .leading)
+        ∙ residue-mod p prime (getD block (k - 1) 0)
+        ∙ sym (words-first p prime block 1088 (k - 1) inside))
         (ap (residue p prime) (slot .inverse (S .filled)) ∙ residue-inverse p prime last (step-word _))
 
     leading-gone : words p prime block′ 0 1088 (k - 1) ≡ F .ring .zero

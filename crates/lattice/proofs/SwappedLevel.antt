@@ -1,12 +1,12 @@
 -- The level after an exchange of the hand with the slot at its pivot: it stays in order, and the hand's vector is among the slots.
-use Prim.Native.Nat.{ℕ, suc, _+_, _-_, _*_, _%_, _<_, _≤_}
+use Prim.Native.Nat.{ℕ, _+_, _-_, _*_, _%_, _<_, _≤_}
 use mathlib.Core.Path.{_≡_, refl, sym, _∙_, ap, subst}
 use mathlib.Core.Logic.{_⊎_, inl, inr, ⊎-elim}
 use mathlib.Core.List.{List}
 use native.Mathlib.Nat.{mod-lt}
 use native.Mathlib.Omega.{arith}
 use native.Mathlib.Decide.{ℕ-discrete, decLt}
-use lib.ListN.{length, getD, set, length-set}
+use lib.ListN.{getD, set, length-set}
 use lib.Seq.{getD-set-same, getD-set-other}
 use Rattle.algebra.specs.Polynomial.{Polynomial}
 use Rattle.modular.specs.Prime.{Prime}
@@ -87,7 +87,8 @@ module _ {p : ℕ} (prime₀ : Prime p) {M : Memory} {t e m : ℕ} (E : Swap p M
       (ends-same p prime₀ (M .block) (slots₂ p M e m) 0 (256 * q) 1088 128 (λ x. sym (SwappedWords.block-in E prime₀ x)) k
       (E .room .block) (E .valid .hand .block))
       (λ some. refl)
-      (λ some. ap (modulo p .inverse) (E .valid .hand .leading some ∙ sym (SwappedWords.word-block E (k - 1) (omega (arith, E .blocks)))))
+      (λ some. ap (modulo p .inverse)
+      (E .valid .hand .leading some ∙ sym (SwappedWords.word-block E (k - 1) (omega (arith, E .blocks)))))
       (SwappedWords.tail-small E)
       (zero-from-same p prime₀ (M .tail) (slots₂ p M e m) 0 (256 * q + 128) 256 128 (λ x. sym (SwappedWords.tail-in E prime₀ x)) t
       (E .tail .behind))
@@ -154,7 +155,8 @@ module _ {p : ℕ} (prime₀ : Prime p) {M : Memory} {t e m : ℕ} (E : Swap p M
       each r h (no e) = slot-other r h e
 
   -- the slots that the level now holds
-  module _ (prime : Prime p) (n : ℕ) (ω : ℕ → ℕ) (s : State (Polynomial (residues p prime))) (holds : HoldsState p prime n ω M s) where
+  module _ (prime : Prime p) (n : ℕ) (ω : ℕ → ℕ) (s : State (Polynomial (residues p prime)))
+      (holds : HoldsState p prime n ω M s) where
     abbrev after : Slots (Polynomial (residues p prime))
     after = put (s .slots) (row (M .hand .size)) (s .hand) (s .size)
 

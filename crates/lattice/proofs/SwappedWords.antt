@@ -1,7 +1,7 @@
 -- The words after an exchange of the hand with the slot at its pivot, said of residues: block and tail of the slot hold what the
 -- hand's did and the other way round, and no other slot changes.
-use Prim.Native.Nat.{ℕ, suc, _+_, _-_, _*_, _%_, _<_, _≤_, max}
-use mathlib.Core.Path.{_≡_, refl, sym, _∙_, ap}
+use Prim.Native.Nat.{ℕ, _+_, _*_, _%_, _<_, _≤_, max}
+use mathlib.Core.Path.{_≡_, sym, _∙_}
 use mathlib.Core.Logic.{_⊎_, inl, inr, ⊎-elim}
 use mathlib.Core.List.{List}
 use native.Mathlib.Omega.{arith}
@@ -10,7 +10,7 @@ use Rattle.modular.specs.Prime.{Prime}
 use Rattle.vector.specs.Stored.{stored, length-stored, stored-inside, stored-outside}
 use Rattle.vector.specs.Reduced.{polynomial}
 use Rattle.lattice.specs.Word.{words}
-use Rattle.lattice.specs.Memory.{row, ZeroFrom, Ends, Level, slotSize, tailSize, ValidSlot, Memory, places, Valid}
+use Rattle.lattice.specs.Memory.{row, ZeroFrom, Ends, slotSize, tailSize, ValidSlot, Memory, places, Valid}
 use Rattle.lattice.specs.Found.{found-ends}
 use Rattle.lattice.specs.Sums.{sums-room, sums-stored}
 use Rattle.lattice.specs.Moves.{HasRoom}
@@ -25,7 +25,8 @@ pub record Swap (p : ℕ) (M : Memory) (t e m : ℕ) : Type 0 where
   pub tails : m ≡ max t (tailSize (M .level) (row (M .hand .size)))
 
 -- the tail's size as `find_leading` finds it
-pub swap-of : {p : ℕ} → 0 < p → {M : Memory} → Valid p M → HasRoom p M → (t : ℕ) → t ≡ length (polynomial p (M .tail) 0 (M .hand .tail))
+pub swap-of : {p : ℕ} → 0 < p → {M : Memory} → Valid p M → HasRoom p M
+    → (t : ℕ) → t ≡ length (polynomial p (M .tail) 0 (M .hand .tail))
     → (e : ℕ) → e ≡ max (M .hand .size) (slotSize (M .level) (row (M .hand .size)))
     → (m : ℕ) → m ≡ max t (tailSize (M .level) (row (M .hand .size))) → Swap p M t e m
 swap-of {p} positive {M} valid room t found e blocks m tails = record {
@@ -73,13 +74,15 @@ module _ {p : ℕ} {M : Memory} {t e m : ℕ} (E : Swap p M t e m) where
   pub block-reducible : (b : List ℕ) → b ≡ block′ M e → 0 < p → p ≤ 65521 → (j : ℕ) → getD b j 0 < 4294967296 * p
   block-reducible b eb positive limit j =
       let taken : ℕ → ℕ = λ j. getD (M .level .slots) (256 * row (M .hand .size) + j) 0 in
-      let sums = sums-stored p (M .block) taken 0 e (places M) (λ j lt. omega (arith, E .valid .level .below (256 * row (M .hand .size) + j))) (E .valid .hand .sums) in
+      let small : (j : ℕ) → taken j ≤ p = λ j. omega (arith, E .valid .level .below (256 * row (M .hand .size) + j)) in
+      let sums = sums-stored p (M .block) taken 0 e (places M) (λ j lt. small j) (E .valid .hand .sums) in
       rw eb (omega (arith, sums-room p (block′ M e) (places M) positive limit sums j))
 
   -- a word outside of the slot
   pub word-outside : (i : ℕ) → (i < 256 * q) ⊎ (256 * q + 256 ≤ i) → getD (slots₂ p M e m) i 0 ≡ getD s i 0
   word-outside i out =
-      stored-outside _ (slots₁ p M e) (256 * q + 128) m i (⊎-elim (λ lo. inl (omega arith)) (λ hi. inr (omega (arith, tails-fit))) out)
+      stored-outside _ (slots₁ p M e) (256 * q + 128) m i
+      (⊎-elim (λ lo. inl (omega arith)) (λ hi. inr (omega (arith, tails-fit))) out)
       ∙ stored-outside _ s (256 * q) e i (⊎-elim (λ lo. inl (omega arith)) (λ hi. inr (omega (arith, blocks-fit))) out)
 
   -- a word of the slot's block
@@ -106,6 +109,9 @@ module _ {p : ℕ} {M : Memory} {t e m : ℕ} (E : Swap p M t e m) where
     behind-slot-tail j h lt = zero-from-same p prime s (slots₁ p M e) (256 * q + 128) (256 * q + 128) 128 128
         (λ x. sym (tail-apart x)) (tailSize (M .level) q) (slot .tail) j (omega (arith, E .tails)) lt
 
+    room₁ : 256 * q + 128 + 128 ≤ length (slots₁ p M e)
+    room₁ = omega (arith, E .valid .level .room, length-stored (λ j. getD (M .block) j 0 % p) s (256 * q) e)
+
     -- the slot takes the hand
     pub block-in : (x : ℕ) → words p prime (slots₂ p M e m) (256 * q) 128 x ≡ words p prime (M .block) 0 1088 x
     block-in x =
@@ -114,8 +120,8 @@ module _ {p : ℕ} {M : Memory} {t e m : ℕ} (E : Swap p M t e m) where
         (omega (arith, E .valid .level .room)) behind-hand behind-slot x
 
     pub tail-in : (x : ℕ) → words p prime (slots₂ p M e m) (256 * q + 128) 128 x ≡ words p prime (M .tail) 0 256 x
-    tail-in = words-slot p prime (M .tail) (slots₁ p M e) (256 * q + 128) m 128 256 tails-fit (omega arith) (E .valid .hand .tail-room)
-        (omega (arith, E .valid .level .room, length-stored (λ j. getD (M .block) j 0 % p) s (256 * q) e)) behind-tail behind-slot-tail
+    tail-in = words-slot p prime (M .tail) (slots₁ p M e) (256 * q + 128) m 128 256 tails-fit (omega arith)
+        (E .valid .hand .tail-room) room₁ behind-tail behind-slot-tail
 
     -- the hand takes the slot
     pub block-out : (x : ℕ) → words p prime (block′ M e) 0 1088 x ≡ words p prime s (256 * q) 128 x
@@ -124,8 +130,8 @@ module _ {p : ℕ} {M : Memory} {t e m : ℕ} (E : Swap p M t e m) where
 
     pub tail-out : (x : ℕ) → words p prime (tail′ p M e m) 0 256 x ≡ words p prime s (256 * q + 128) 128 x
     tail-out x =
-        words-hand p prime (M .tail) (slots₁ p M e) (256 * q + 128) m 128 256 tails-fit (omega arith) (E .valid .hand .tail-room)
-        (omega (arith, E .valid .level .room, length-stored (λ j. getD (M .block) j 0 % p) s (256 * q) e)) behind-tail behind-slot-tail x
+        words-hand p prime (M .tail) (slots₁ p M e) (256 * q + 128) m 128 256 tails-fit (omega arith)
+        (E .valid .hand .tail-room) room₁ behind-tail behind-slot-tail x
         ∙ tail-apart x
 
     -- another slot stays

@@ -1,6 +1,6 @@
 -- An exchange of the hand with the slot at its pivot: memory stays in order, and where the slot is filled it is an `Exchange` of
 -- `reduction`.
-use Prim.Native.Nat.{ℕ, suc, _+_, _-_, _*_, _%_, _<_, _≤_}
+use Prim.Native.Nat.{ℕ, _+_, _*_, _%_, _<_}
 use mathlib.Core.Path.{_≡_, refl, sym, _∙_, ap}
 use mathlib.Core.List.{List}
 use native.Mathlib.Omega.{arith}
@@ -13,11 +13,11 @@ use Rattle.modular.specs.Modulo.{modulo}
 use Rattle.modular.specs.Residue.{residues}
 use Rattle.vector.specs.Stored.{stored, length-stored}
 use Rattle.vector.specs.Reduced.{polynomial}
-use Rattle.reduction.specs.Total.{total, total-change}
+use Rattle.reduction.specs.Total.{total-change}
 use Rattle.reduction.specs.Replace.{replace-here}
 use Rattle.reduction.specs.Pivot.{Pivot}
 use Rattle.reduction.specs.Slots.{put, put-here, put-same}
-use Rattle.reduction.specs.Trace.{State, Exchange, Trace, start, exchange}
+use Rattle.reduction.specs.Trace.{State, Exchange, start, exchange}
 use Rattle.lattice.specs.Memory.{row, height, Ends, Level, level, slotSize, tailSize, Sums, ValidSlot, Memory, memory, places}
 use Rattle.lattice.specs.Memory.{ValidHand}
 use Rattle.lattice.specs.Holding.{HoldsState, Reached}
@@ -45,13 +45,14 @@ module _ {p : ℕ} (prime₀ : Prime p) {M : Memory} {t e m : ℕ} (E : Swap p M
 
   -- the slot's block is now the hand's, and `find_leading` finds its size and its leading word
   known : Ends p (block′ M e) 0 1088 (slotSize L q)
-  known = ends-same p prime₀ (L .slots) (block′ M e) (256 * q) 0 128 1088 (λ x. sym (SwappedWords.block-out E prime₀ x)) (slotSize L q)
-      (omega (arith, slot .block .within)) (slot .block)
+  known = ends-same p prime₀ (L .slots) (block′ M e) (256 * q) 0 128 1088 (λ x. sym (SwappedWords.block-out E prime₀ x))
+      (slotSize L q) (omega (arith, slot .block .within)) (slot .block)
 
   module _ (f v : ℕ) (found : f ≡ length (polynomial p (block′ M e) 0 (slotSize (M .level) (row (M .hand .size)))))
       (found-value : v ≡ leading (modulo p) (polynomial p (block′ M e) 0 (slotSize (M .level) (row (M .hand .size))))) where
     abbrev M′ : Memory
-    M′ = memory (SwappedLevel.level′ prime₀ E) (block′ M e) (tail′ p M e m) (record { size = f; leading = v; tail = tailSize (M .level) (row (M .hand .size)) })
+    M′ = memory (SwappedLevel.level′ prime₀ E) (block′ M e) (tail′ p M e m)
+        (record { size = f; leading = v; tail = tailSize (M .level) (row (M .hand .size)) })
 
     ends : Ends p (block′ M e) 0 1088 f
     ends = found-ends p positive (block′ M e) 1088 (slotSize L q) (known .within) (known .behind) f found
@@ -61,7 +62,12 @@ module _ {p : ℕ} (prime₀ : Prime p) {M : Memory} {t e m : ℕ} (E : Swap p M
 
     -- an exchange keeps the places
     same-places : places M′ ≡ places M
-    same-places = omega (arith, total-change 8 q (slotSize (SwappedLevel.level′ prime₀ E)) (slotSize L) (omega arith) (SwappedLevel.size-other prime₀ E), SwappedLevel.size-here prime₀ E, hand-size)
+    same-places = omega (
+      arith,
+      total-change 8 q (slotSize (SwappedLevel.level′ prime₀ E)) (slotSize L) (omega arith) (SwappedLevel.size-other prime₀ E),
+      SwappedLevel.size-here prime₀ E,
+      hand-size,
+    )
 
     sums-kept : (g : ℕ → ℕ) (w : List ℕ) (n : ℕ) → ((j : ℕ) → g j < p) → Sums p (places M) w → Sums p (places M′) (stored g w 0 n)
     sums-kept g w n small sums = rw same-places (sums-stored p w g 0 n (places M) (λ j lt. omega (arith, small j)) sums)
@@ -69,16 +75,20 @@ module _ {p : ℕ} (prime₀ : Prime p) {M : Memory} {t e m : ℕ} (E : Swap p M
     hand-valid : ValidHand p M′
     hand-valid = record {
       room = omega (arith, E .valid .hand .room, length-stored (λ j. getD (L .slots) (256 * q + j) 0) (M .block) 0 e);
-      tail-room = omega (arith, E .valid .hand .tail-room, length-stored (λ j. getD (slots₁ p M e) (256 * q + 128 + j) 0) (M .tail) 0 m);
+      tail-room = omega (
+        arith,
+        E .valid .hand .tail-room,
+        length-stored (λ j. getD (slots₁ p M e) (256 * q + 128 + j) 0) (M .tail) 0 m,
+      );
       block = ends;
       leading = found-leading p positive (block′ M e) 1088 (slotSize L q) (known .within) (known .behind) f found v found-value;
       tail-within = omega (arith, slot .tail-within);
-      tail = zero-from-same p prime₀ (L .slots) (tail′ p M e m) (256 * q + 128) 0 128 256 (λ x. sym (SwappedWords.tail-out E prime₀ x))
-          (tailSize L q) (slot .tail);
+      tail = zero-from-same p prime₀ (L .slots) (tail′ p M e m) (256 * q + 128) 0 128 256
+          (λ x. sym (SwappedWords.tail-out E prime₀ x)) (tailSize L q) (slot .tail);
       sums = sums-kept (λ j. getD (L .slots) (256 * q + j) 0) (M .block) e (λ j. E .valid .level .below (256 * q + j))
           (E .valid .hand .sums);
-      tail-sums = sums-kept (λ j. getD (slots₁ p M e) (256 * q + 128 + j) 0) (M .tail) m (λ j. SwappedLevel.below₁ prime₀ E (256 * q + 128 + j))
-          (E .valid .hand .tail-sums);
+      tail-sums = sums-kept (λ j. getD (slots₁ p M e) (256 * q + 128 + j) 0) (M .tail) m
+          (λ j. SwappedLevel.below₁ prime₀ E (256 * q + 128 + j)) (E .valid .hand .tail-sums);
     }
 
     module _ (prime : Prime p) (n : ℕ) (ω : ℕ → ℕ) (s : State (Polynomial (residues p prime))) (holds : HoldsState p prime n ω M s)

@@ -1,7 +1,7 @@
 -- A step of an insertion: the multiple of the slot at the pivot is taken off the hand, block and tail. It is a `Step` of
 -- `reduction`.
-use Prim.Native.Nat.{ℕ, suc, _+_, _-_, _*_, _/_, _%_, _<_, _≤_, max}
-use mathlib.Core.Path.{_≡_, refl, sym, _∙_, ap}
+use Prim.Native.Nat.{ℕ, _+_, _-_, _*_, _/_, _%_, _<_, _≤_, max}
+use mathlib.Core.Path.{_≡_, refl, _∙_, ap}
 use mathlib.Core.Logic.{inr}
 use mathlib.Core.List.{List}
 use native.Mathlib.Omega.{arith}
@@ -12,15 +12,15 @@ use Rattle.modular.specs.Prime.{Prime}
 use Rattle.modular.specs.Residue.{Residue, residues}
 use Rattle.vector.specs.Stored.{stored, length-stored, stored-outside}
 use Rattle.vector.specs.Multiple.{sumAt}
-use Rattle.reduction.specs.Total.{total, total-le, total-constant}
+use Rattle.reduction.specs.Total.{total-le, total-constant}
 use Rattle.reduction.specs.Pivot.{Pivot}
 use Rattle.reduction.specs.Slots.{same-refl}
-use Rattle.reduction.specs.Trace.{State, Step, Trace, start, step}
+use Rattle.reduction.specs.Trace.{State, Step, start, step}
 use Rattle.reduction.specs.Holds.{monomial, monomial-size}
 use Rattle.reduction.specs.Held.{held-step}
 use Rattle.lattice.specs.declared.step.Remains.{Remains}
 use Rattle.lattice.specs.Word.{residue, words}
-use Rattle.lattice.specs.Memory.{row, height, ZeroFrom, Ends, Level, slotSize, tailSize, Sums, ValidSlot, ValidLevel}
+use Rattle.lattice.specs.Memory.{row, height, ZeroFrom, Level, slotSize, tailSize, ValidSlot}
 use Rattle.lattice.specs.Memory.{Memory, memory, places, Valid}
 use Rattle.lattice.specs.Holding.{HoldsState, Reached}
 use Rattle.lattice.specs.Range.{words-upper, words-lower}
@@ -96,7 +96,8 @@ module _ {p : ℕ} (prime₀ : Prime p) {M : Memory} (valid : Valid p M) (fits :
   pub taking-slot-room : 256 * q + 128 + size ≤ length (L .slots)
   taking-slot-room = omega (arith, valid .level .room, slot .tail-within)
 
-  module _ (tail′ : List ℕ) (stores : tail′ ≡ stored (sumAt (M .tail) shift (L .slots) (256 * q + 128) (p - r .factor)) (M .tail) shift size)
+  module _ (tail′ : List ℕ)
+      (stores : tail′ ≡ stored (sumAt (M .tail) shift (L .slots) (256 * q + 128) (p - r .factor)) (M .tail) shift size)
       (t : ℕ) (larger : t ≡ max (M .hand .tail) (shift + size)) where
     abbrev M′ : Memory
     M′ = memory (M .level) block′ tail′ (record { size = r .size; leading = r .leading; tail = t })
@@ -133,7 +134,8 @@ module _ {p : ℕ} (prime₀ : Prime p) {M : Memory} (valid : Valid p M) (fits :
       };
     }
 
-    module _ (prime : Prime p) (n : ℕ) (ω : ℕ → ℕ) (s : State (Polynomial (residues p prime))) (holds : HoldsState p prime n ω M s) where
+    module _ (prime : Prime p) (n : ℕ) (ω : ℕ → ℕ) (s : State (Polynomial (residues p prime)))
+        (holds : HoldsState p prime n ω M s) where
       P : Pivot (sized (residues p prime)) n ω (s .hand) (row (M .hand .size)) (s .size)
       P = holds-pivot p prime (valid .hand) holds (fits .some)
 

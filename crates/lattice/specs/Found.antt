@@ -1,5 +1,5 @@
 -- What `find_leading` finds, where all words from the k-th on are 0 modulo p: the size of the range, and its last word.
-use Prim.Native.Nat.{ℕ, suc, _+_, _-_, _%_, _<_, _≤_}
+use Prim.Native.Nat.{ℕ, _+_, _-_, _%_, _<_, _≤_}
 use mathlib.Core.Path.{_≡_, sym, _∙_, ap, subst}
 use mathlib.Core.Logic.{⊎-elim}
 use mathlib.Core.List.{List}
@@ -9,7 +9,7 @@ use lib.ListN.{length, getD, take, drop, length-take}
 use Rattle.algebra.specs.Coefficients.{leading}
 use Rattle.modular.specs.Modulo.{modulo}
 use Rattle.vector.specs.Stored.{below-or-not}
-use Rattle.vector.specs.Reduced.{polynomial, reduced, word-inside}
+use Rattle.vector.specs.Reduced.{polynomial, word-inside}
 use Rattle.vector.specs.Size.{word-past, word-last, word-last-positive, size-reduced}
 use Rattle.lattice.specs.Memory.{ZeroFrom, Ends}
 

@@ -1,7 +1,7 @@
 -- How an insertion begins in memory and how it ends: slots with tails 0 and a hand with tail 1; then a state that is reached from
 -- there, with the hand's block zero or stuck. By L4 tails have at most 121 coefficients all the way.
 use Prim.Native.Nat.{ℕ, zero, suc, _+_, _-_, _*_, _%_, _<_, _≤_}
-use mathlib.Core.Path.{_≡_, refl, sym, _∙_, ap}
+use mathlib.Core.Path.{_≡_, sym, _∙_}
 use mathlib.Core.Logic.{inl, inr}
 use native.Mathlib.Omega.{arith}
 use native.Mathlib.Decide.{ℕ-discrete}
@@ -17,7 +17,7 @@ use Rattle.reduction.specs.Tails.{tails-room-hand}
 use Rattle.reduction.specs.Trace.{State}
 use Rattle.reduction.specs.Kept.{Begins, trace-kept}
 use Rattle.reduction.specs.Insert.{Stop, Inserted}
-use Rattle.reduction.specs.Holds.{Holds, holds-size, holds-unique}
+use Rattle.reduction.specs.Holds.{holds-size, holds-unique}
 use Rattle.lattice.specs.Word.{words, words-first, residue-one}
 use Rattle.lattice.specs.Memory.{row, height, ZeroFrom, slotSize, tailSize, Memory, Valid}
 use Rattle.lattice.specs.Holding.{HoldsState, Reached, Leads}
@@ -55,19 +55,21 @@ module _ (p : ℕ) (prime : Prime p) where
       tail-zero : (q : ℕ) → q < n → 0 < s .slots .size q → s .slots .at q n ≡ polynomials (residues p prime) .zero
       tail-zero q h f =
           let A = holds .slots .vector q h f in
-          let q-small : q < 8 = omega (arith, A .block .lanes) in
-          size-none (residues p prime) (s .slots .at q n) (omega (
-            arith,
-            holds-size (residues p prime) (A .tail) 0
-                (λ j l. words-zero p prime (M .level .slots) (256 * q + 128) 128 (tailSize (M .level) q) (valid .level .slot q q-small .tail) j (omega (arith, starts .tails q q-small))),
-          ))
+          let inside : q < 8 = omega (arith, A .block .lanes) in
+          let behind = valid .level .slot q inside .tail in
+          let none : size (residues p prime) (s .slots .at q n) ≤ 0 =
+          holds-size (residues p prime) (A .tail) 0
+          (λ j l. words-zero p prime (M .level .slots) (256 * q + 128) 128 _ behind j (omega (arith, starts .tails q inside))) in
+          size-none (residues p prime) (s .slots .at q n) (omega arith)
 
       tail-one : s .hand n ≡ polynomials (residues p prime) .one
-      tail-one = holds-unique (residues p prime) (holds .hand .tail) (record { at = λ k. coefficients-one (residues p prime) k ∙ at k })
+      tail-one = holds-unique (residues p prime) (holds .hand .tail)
+          (record { at = λ k. coefficients-one (residues p prime) k ∙ at k })
         where
           at : (k : ℕ) → unit (residues p prime .ring) k ≡ words p prime (M .tail) 0 256 k
           at zero = sym (words-first p prime (M .tail) 256 0 (omega arith) ∙ residue-one p prime _ (starts .one))
-          at (suc k) = sym (words-zero p prime (M .tail) 0 256 (M .hand .tail) (valid .hand .tail) (suc k) (omega (arith, starts .tail)))
+          at (suc k) = sym (words-zero p prime (M .tail) 0 256 (M .hand .tail) (valid .hand .tail) (suc k)
+              (omega (arith, starts .tail)))
 
       pub starts-begins : Begins (sized (residues p prime)) n ω s
       starts-begins = record {
@@ -87,10 +89,12 @@ module _ (p : ℕ) (prime : Prime p) where
     -- L4: the tail has room
     pub starts-room : {M′ : Memory} → Leads p M M′ → ZeroFrom p (M′ .tail) 0 256 121
     starts-room {M′} leads j h lt = zero-word p prime (M′ .tail) 0 256 j lt
-        (sym (R .holds .hand .tail .at j) ∙ coefficients-beyond (residues p prime) (R .now .hand 8) j (omega (arith, small, degrees-most)))
+        (sym (R .holds .hand .tail .at j)
+        ∙ coefficients-beyond (residues p prime) (R .now .hand 8) j (omega (arith, small, degrees-most)))
       where
         R : Reached p prime 8 unweighted (stateOf p prime M) M′
         R = leads prime 8 unweighted (stateOf p prime M) (stateOf-held p prime M)
 
         small : size (residues p prime) (R .now .hand 8) ≤ suc (degrees 8 (λ q. height (slotSize (M .level) q)))
-        small = tails-room-hand (polynomials (residues p prime)) (trace-kept (starts-begins (stateOf-held p prime M)) (R .trace) .tails)
+        small = tails-room-hand (polynomials (residues p prime))
+            (trace-kept (starts-begins (stateOf-held p prime M)) (R .trace) .tails)

@@ -1,8 +1,7 @@
 -- Whatever words stand in memory, it holds a state of eight rows with no weights, read off its lanes. So laws on states say
 -- something of any memory.
-use Prim.Native.Nat.{ℕ, _+_, _*_, _<_, _≤_}
-use mathlib.Core.Path.{_≡_, refl, sym, _∙_, subst}
-use mathlib.Core.List.{List}
+use Prim.Native.Nat.{ℕ, _+_, _*_, _≤_}
+use mathlib.Core.Path.{_≡_, refl, sym, subst}
 use native.Mathlib.Omega.{arith}
 use Rattle.algebra.specs.Field.{Field}
 use Rattle.algebra.specs.Polynomial.{Polynomial}
@@ -17,7 +16,7 @@ use Rattle.reduction.specs.Flat.{Flat, flat, read-flat}
 use Rattle.reduction.specs.Held.{Held}
 use Rattle.lattice.specs.Word.{words, words-behind}
 use Rattle.lattice.specs.Memory.{height, Level, slotSize, Memory}
-use Rattle.lattice.specs.Holding.{HoldsSlots, HoldsState}
+use Rattle.lattice.specs.Holding.{HoldsState}
 
 module _ {K : Type 0} (F : Field K) where
   abbrev rows : (ℕ → K) → ℕ → ℕ → Polynomial F
@@ -32,7 +31,8 @@ module _ {K : Type 0} (F : Field K) where
   vectorOf-held degrees m H τ high end = record {
     block = record {
       lanes = B .lanes;
-      lane = λ i h. subst (λ x. Holds F (λ e. H (flat 8 i e)) (shift F 0 x)) (sym (extend-below 8 (rows H degrees) (read F m τ) i h)) (B .lane i h);
+      lane = λ i h. subst (λ x. Holds F (λ e. H (flat 8 i e)) (shift F 0 x))
+          (sym (extend-below 8 (rows H degrees) (read F m τ) i h)) (B .lane i h);
       beside = B .beside;
     };
     tail = subst (Holds F τ) (sym (extend-at 8 (rows H degrees) (read F m τ))) (read-holds F m τ end);
@@ -65,6 +65,7 @@ module _ (p : ℕ) (prime : Prime p) where
       vector = λ q h f. vectorOf-held F 16 128 _ _ (λ x l. words-behind p prime (M .level .slots) (256 * q) 128 x (omega arith))
           (words-behind p prime (M .level .slots) (256 * q + 128) 128);
     };
-    hand = vectorOf-held F 136 256 _ _ (λ x l. words-behind p prime (M .block) 0 1088 x (omega arith)) (words-behind p prime (M .tail) 0 256);
+    hand = vectorOf-held F 136 256 _ _ (λ x l. words-behind p prime (M .block) 0 1088 x (omega arith))
+        (words-behind p prime (M .tail) 0 256);
     size = refl;
   }

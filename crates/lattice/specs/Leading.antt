@@ -1,5 +1,5 @@
 -- One move after another: what memory leads to.
-use Prim.Native.Nat.{ℕ, _<_, _≤_}
+use Prim.Native.Nat.{ℕ, _<_}
 use mathlib.Core.Path.{_≡_, _∙_, ap}
 use native.Mathlib.Omega.{arith}
 use Rattle.ring.specs.Ring.{Ring}

@@ -37,8 +37,8 @@ pub record Stepped (p : ℕ) (M M′ : Memory) : Type 0 where
   pub moved : Moved p M M′
   pub falls : places M′ < places M
 
--- The hand and the slot at its pivot changed places. Where the slot was filled, that is a move; where it was empty, the hand is now
--- among the slots.
+-- The hand and the slot at its pivot changed places. Where the slot was filled, that is a move; where it was empty, the hand is
+-- now among the slots.
 pub record Swapped (p : ℕ) (M M′ : Memory) : Type 0 where
   pub valid : Valid p M′
   pub places-kept : places M′ ≡ places M

@@ -1,9 +1,8 @@
 -- What the loops of `vector` do to a range of words, said of the residues that stand there.
-use Prim.Native.Nat.{ℕ, suc, _+_, _-_, _*_, _%_, _<_, _≤_}
-use mathlib.Core.Path.{_≡_, refl, sym, _∙_, ap, ap₂, subst}
+use Prim.Native.Nat.{ℕ, _+_, _-_, _%_, _<_, _≤_}
+use mathlib.Core.Path.{_≡_, refl, sym, _∙_, ap, ap₂}
 use mathlib.Core.Logic.{_⊎_, inl, inr, ⊎-elim}
 use mathlib.Core.List.{List, [], _∷_}
-use native.Mathlib.Nat.{zero-add}
 use native.Mathlib.Omega.{arith}
 use native.Mathlib.Decide.{decLe}
 use lib.ListN.{length, getD}
@@ -55,7 +54,8 @@ module _ (p : ℕ) (prime : Prime p) where
   -- words that are 0 modulo p
   pub words-zero : (l : List ℕ) (b n k : ℕ) → ZeroFrom p l b n k → (j : ℕ) → k ≤ j → words p prime l b n j ≡ 𝟎
   words-zero l b n k z j h =
-      ⊎-elim (λ lt. words-inside p prime l b n j lt ∙ residue-zero p prime _ (z j h lt)) (words-behind p prime l b n j) (below-or-not j n)
+      ⊎-elim (λ lt. words-inside p prime l b n j lt ∙ residue-zero p prime _ (z j h lt)) (words-behind p prime l b n j)
+      (below-or-not j n)
 
   pub zero-word : (l : List ℕ) (b n j : ℕ) → j < n → words p prime l b n j ≡ 𝟎 → getD l (b + j) 0 % p ≡ 0
   zero-word l b n j lt e = zero-residue p prime _ (sym (words-inside p prime l b n j lt) ∙ e)
@@ -98,7 +98,8 @@ module _ (p : ℕ) (prime : Prime p) where
         ∙ ap (λ w. residue p prime (getD w (d + x) 0)) stores
         ∙ ap (residue p prime) (stored-inside (sumAt l d s b (p - a)) l d m x (omega arith) lt)
         ∙ residue-less p prime (getD l (d + x) 0) a (getD s (b + x) 0) small
-        ∙ sym (ap₂ (λ y z. y ⊕ (⊝ (residue p prime a ⊗ z))) (words-first p prime l N (d + x) lt-N) (words-inside p prime s b n x lt-n)))
+        ∙ sym (ap₂ (λ y z. y ⊕ (⊝ (residue p prime a ⊗ z)))
+        (words-first p prime l N (d + x) lt-N) (words-inside p prime s b n x lt-n)))
         (λ ge.
         outside (d + x) (inr (omega arith))
         ∙ sym (ap (λ y. words p prime l 0 N (d + x) ⊕ (⊝ (residue p prime a ⊗ y))) (words-zero s b n m behind x ge)

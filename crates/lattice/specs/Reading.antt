@@ -1,6 +1,6 @@
 -- What is read off memory: the last word that is not 0 modulo p is the pivot, so slots of a valid level have their pivots in
 -- place, and a hand of size 0 has block zero.
-use Prim.Native.Nat.{ℕ, suc, _+_, _-_, _*_, _/_, _%_, _<_, _≤_}
+use Prim.Native.Nat.{ℕ, _-_, _%_, _<_}
 use mathlib.Core.Path.{_≡_, sym, _∙_, ap, subst, subst₂}
 use mathlib.Core.List.{List}
 use native.Mathlib.Nat.{mod-lt, zero-add}
@@ -15,7 +15,6 @@ use Rattle.reduction.specs.Pivot.{Vanishes, Pivot}
 use Rattle.reduction.specs.Slots.{Slots, Filled}
 use Rattle.reduction.specs.Trace.{State}
 use Rattle.reduction.specs.Insert.{Stuck}
-use Rattle.reduction.specs.Holds.{Holds}
 use Rattle.reduction.specs.Flat.{Flat, flat-pivot, flat-zero}
 use Rattle.reduction.specs.Held.{Held}
 use Rattle.lattice.specs.Word.{words}
@@ -52,8 +51,8 @@ module _ (p : ℕ) (prime : Prime p) where
     ends-zero none = flat-zero F A (λ x. words-zero p prime l b N k (ends .behind) x (omega arith))
 
   -- L1 in memory: slots have their pivots in place
-  pub holds-filled : {n : ℕ} {ω : ℕ → ℕ} {L : Level} {U : Slots (Polynomial (residues p prime))} → ValidLevel p L → HoldsSlots p prime n ω L U
-      → Filled (sized F) n ω U
+  pub holds-filled : {n : ℕ} {ω : ℕ → ℕ} {L : Level} {U : Slots (Polynomial (residues p prime))} → ValidLevel p L
+      → HoldsSlots p prime n ω L U → Filled (sized F) n ω U
   holds-filled {n} {ω} {L} {U} valid holds q h f =
       let A = holds .vector q h f .block in
       let some : 0 < slotSize L q = omega (arith, holds .size q h) in
@@ -69,7 +68,8 @@ module _ (p : ℕ) (prime : Prime p) where
       )
 
   -- where an insertion stops
-  module _ {n : ℕ} {ω : ℕ → ℕ} {M : Memory} {s : State (Polynomial (residues p prime))} (valid : ValidHand p M) (holds : HoldsState p prime n ω M s) where
+  module _ {n : ℕ} {ω : ℕ → ℕ} {M : Memory} {s : State (Polynomial (residues p prime))} (valid : ValidHand p M)
+      (holds : HoldsState p prime n ω M s) where
     pub holds-zero : M .hand .size ≡ 0 → Vanishes (polynomials F) n (s .hand)
     holds-zero none = ends-zero (valid .block) (holds .hand .block) none
 

@@ -1,8 +1,8 @@
 -- A word as a residue modulo p, and a range of words as an array of residues: what the loops of this crate do to words, said of
 -- residues. A hand's words are sums that are not reduced; as residues they are what the mathematics of `reduction` speaks of.
-use Prim.Native.Nat.{ℕ, suc, _+_, _-_, _*_, _%_, _<_, _≤_}
-use mathlib.Core.Path.{_≡_, refl, sym, _∙_, ap, ap₂}
-use mathlib.Core.List.{List, [], _∷_}
+use Prim.Native.Nat.{ℕ, _+_, _-_, _*_, _%_, _<_, _≤_}
+use mathlib.Core.Path.{_≡_, sym, _∙_, ap}
+use mathlib.Core.List.{List}
 use native.Mathlib.Nat.{mod-lt, mod-eq-of-lt, add-mod, zero-mod, zero-add}
 use native.Mathlib.Omega.{arith}
 use lib.ListN.{getD, take, drop}

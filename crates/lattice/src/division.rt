@@ -22,7 +22,8 @@ pub fn divide(
     modulus: Modulus,
 ) -> usize
     requires { ⌜ ValidModulus modulus × ValidLevel (modulus .p) (level (now slots) (now sizes) (now inverses)) ⌝ }
-    requires block { ⌜ (1088 ≤ length (now block)) × (n ≤ 1088) × ZeroFrom (modulus .p) (now block) 0 1088 n × Sums (modulus .p) 2112 (now block) ⌝ }
+    requires block { ⌜ (1088 ≤ length (now block)) × (n ≤ 1088) × ZeroFrom (modulus .p) (now block) 0 1088 n
+        × Sums (modulus .p) 2112 (now block) ⌝ }
     requires quotients { ⌜ (1088 ≤ length (now quotients)) × AtMost 0 (now quotients) ⌝ }
     ensures { λ r. ⌜ Divided (modulus .p) (level (now (slots .entry)) (now (sizes .entry)) (now (inverses .entry)))
         (now (block .entry)) (now (block .exit)) (now (quotients .exit)) r ⌝ }

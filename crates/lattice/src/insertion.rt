@@ -23,8 +23,10 @@ pub fn turn(
     requires memory { ⌜ Valid (modulus .p) (memory (level (now slots) (now sizes) (now inverses)) (now block) (now tail) hand) ⌝ }
     requires filled { ⌜ GoesOn (modulus .p) (memory (level (now slots) (now sizes) (now inverses)) (now block) (now tail) hand) ⌝ }
     ensures { λ r. ⌜ Stepped (modulus .p)
-        (memory (level (now (slots .entry)) (now (sizes .entry)) (now (inverses .entry))) (now (block .entry)) (now (tail .entry)) hand)
-        (memory (level (now (slots .exit)) (now (sizes .exit)) (now (inverses .exit))) (now (block .exit)) (now (tail .exit)) r) ⌝ }
+        (memory (level (now (slots .entry)) (now (sizes .entry)) (now (inverses .entry)))
+        (now (block .entry)) (now (tail .entry)) hand)
+        (memory (level (now (slots .exit)) (now (sizes .exit)) (now (inverses .exit)))
+        (now (block .exit)) (now (tail .exit)) r) ⌝ }
 {
     let k = hand.size;
     let q = 7 - (k - 1) % 8;
@@ -49,8 +51,10 @@ pub fn insert(
     requires memory { ⌜ Valid (modulus .p) (memory (level (now slots) (now sizes) (now inverses)) (now block) (now tail) at) ⌝ }
     requires starts { ⌜ Starts (modulus .p) (memory (level (now slots) (now sizes) (now inverses)) (now block) (now tail) at) ⌝ }
     ensures { λ r. ⌜ Inserts (modulus .p)
-        (memory (level (now (slots .entry)) (now (sizes .entry)) (now (inverses .entry))) (now (block .entry)) (now (tail .entry)) at)
-        (memory (level (now (slots .exit)) (now (sizes .exit)) (now (inverses .exit))) (now (block .exit)) (now (tail .exit)) r) ⌝ }
+        (memory (level (now (slots .entry)) (now (sizes .entry)) (now (inverses .entry)))
+        (now (block .entry)) (now (tail .entry)) at)
+        (memory (level (now (slots .exit)) (now (sizes .exit)) (now (inverses .exit)))
+        (now (block .exit)) (now (tail .exit)) r) ⌝ }
 {
     let mut hand = at;
     while 0 < hand.size {

@@ -32,8 +32,10 @@ pub fn take_from_hand(
     requires memory { ⌜ Valid (modulus .p) (memory (level (now slots) (now sizes) (now inverses)) (now block) (now tail) hand) ⌝ }
     requires fits { ⌜ Fits (memory (level (now slots) (now sizes) (now inverses)) (now block) (now tail) hand) ⌝ }
     ensures { λ r. ⌜ Stepped (modulus .p)
-        (memory (level (now (slots .entry)) (now (sizes .entry)) (now (inverses .entry))) (now (block .entry)) (now (tail .entry)) hand)
-        (memory (level (now (slots .entry)) (now (sizes .entry)) (now (inverses .entry))) (now (block .exit)) (now (tail .exit)) r) ⌝ }
+        (memory (level (now (slots .entry)) (now (sizes .entry)) (now (inverses .entry)))
+        (now (block .entry)) (now (tail .entry)) hand)
+        (memory (level (now (slots .entry)) (now (sizes .entry)) (now (inverses .entry)))
+        (now (block .exit)) (now (tail .exit)) r) ⌝ }
 {
     let k = hand.size;
     let q = 7 - (k - 1) % 8;
@@ -67,8 +69,10 @@ pub fn swap_with_slot(
     requires memory { ⌜ Valid (modulus .p) (memory (level (now slots) (now sizes) (now inverses)) (now block) (now tail) hand) ⌝ }
     requires room { ⌜ HasRoom (modulus .p) (memory (level (now slots) (now sizes) (now inverses)) (now block) (now tail) hand) ⌝ }
     ensures { λ r. ⌜ Swapped (modulus .p)
-        (memory (level (now (slots .entry)) (now (sizes .entry)) (now (inverses .entry))) (now (block .entry)) (now (tail .entry)) hand)
-        (memory (level (now (slots .exit)) (now (sizes .exit)) (now (inverses .exit))) (now (block .exit)) (now (tail .exit)) r) ⌝ }
+        (memory (level (now (slots .entry)) (now (sizes .entry)) (now (inverses .entry)))
+        (now (block .entry)) (now (tail .entry)) hand)
+        (memory (level (now (slots .exit)) (now (sizes .exit)) (now (inverses .exit)))
+        (now (block .exit)) (now (tail .exit)) r) ⌝ }
 {
     let k = hand.size;
     let q = 7 - (k - 1) % 8;

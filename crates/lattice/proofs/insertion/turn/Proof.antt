@@ -27,7 +27,8 @@ swap-with-slot-requires c κs =
 
 take-from-hand-requires : tie.Need-take-from-hand-requires
 take-from-hand-requires c κs =
-    let X = c .before .before .before .before .before .before .before .before .before .before .before .before .before .before .before in
+    let Y = c .before .before .before .before .before .before .before .before in
+    let X = Y .before .before .before .before .before .before .before in
     let T = X .before .before .before .before .before .before in
     let S = T .before .before .before .before .before .before .before in
     let swapped = X .swap-with-slot .ensures in
@@ -51,7 +52,8 @@ same-length-5 c = search needs
 returns : tie.Need-returns
 returns c =
     let Z = c .before .before .before .before in
-    let X = Z .before .before .before .before .before .before .before .before .before .before .before .before .before .before .before .before in
+    let Y = Z .before .before .before .before .before .before .before .before in
+    let X = Y .before .before .before .before .before .before .before .before in
     let T = X .before .before .before .before .before .before in
     let S = T .before .before .before .before .before .before .before in
     swapped-stepped (S .pre .1 .0) (S .pre .1 .1 .some) (T .if1 .taken) (X .swap-with-slot .ensures) (Z .take-from-hand .ensures)

@@ -1,5 +1,5 @@
 -- Two calls of `exchange`, for the blocks and for the tails; what they leave is the memory of `Swapping`.
-use Prim.Native.Nat.{ℕ, _+_, _-_, _*_, _%_, _≤_, _<_}
+use Prim.Native.Nat.{_≤_, _<_}
 use native.Mathlib.Omega.{arith}
 use lib.ListN.{length-set}
 use borrow.Author.Needs.{needs}
@@ -88,7 +88,8 @@ exchange-requires-2 c κs =
 
 inverse-requires : tie.Need-inverse-requires
 inverse-requires c κs =
-    let S = c .before .before .before .before .before .before .before .before .before .before .before .before .before .before .before .before .before .before .before .before .before .before .before .before .before in
+    let X = c .before .before .before .before .before .before .before .before .before .before .before .before in
+    let S = X .before .before .before .before .before .before .before .before .before .before .before .before .before in
     let first = leading-residue _ (S .pre .0 .prime) (S .pre .1 .0 .hand) (S .pre .1 .1 .some) in
     (S .pre .0, first .0, first .1)
 
