@@ -34,14 +34,14 @@ module _ {h : Shape} {form : Form} {ws cs : List ℕ} (b : BothRead h form ws cs
   abbrev c : Certificate
   c = b .certificate
 
-  sheet : (ws ≡ systemWords s) × SystemWithin office s
-  sheet = system-written-of-read office office-fits ws s (b .system-read)
+  system-part : (ws ≡ systemWords s) × SystemWithin office s
+  system-part = system-written-of-read office office-fits ws s (b .system-read)
 
-  card : (cs ≡ certificateWords c) × CertificateWithin office (shape s) c
-  card = certificate-written-of-read office (shape s) cs c (b .certificate-read)
+  certificate-part : (cs ≡ certificateWords c) × CertificateWithin office (shape s) c
+  certificate-part = certificate-written-of-read office (shape s) cs c (b .certificate-read)
 
   pub read-shape : ShapeWithin office h
-  read-shape = rw (b .same-shape) (sheet .1 .shape)
+  read-shape = rw (b .same-shape) (system-part .1 .shape)
 
   -- there are at most 72 polynomials
   pub read-places : h .rows * h .columns ≤ 64
@@ -50,17 +50,17 @@ module _ {h : Shape} {form : Form} {ws cs : List ℕ} (b : BothRead h form ws cs
   -- ---- what `load` asks
 
   pub read-system : Holds 17 ws (systemEntries s)
-  read-system = system-holds office office-fits ws s (sheet .0) (sheet .1)
+  read-system = system-holds office office-fits ws s (system-part .0) (system-part .1)
 
   pub read-system-count : length (systemEntries s) ≡ h .rows * h .columns + h .rows
-  read-system-count = system-count office office-fits ws s (sheet .0) (sheet .1) ∙ ap (λ (g : Shape). g .rows * g .columns + g .rows) (sym (b .same-shape))
+  read-system-count = system-count office office-fits ws s (system-part .0) (system-part .1) ∙ ap (λ (g : Shape). g .rows * g .columns + g .rows) (sym (b .same-shape))
 
   pub read-certificate : Holds 122 cs (certificateEntries c)
-  read-certificate = certificate-holds office office-fits cs (shape s) (sheet .1 .shape) c (card .0) (card .1)
+  read-certificate = certificate-holds office office-fits cs (shape s) (system-part .1 .shape) c (certificate-part .0) (certificate-part .1)
 
   certificate-entries : length (certificateEntries c) ≡ entryCount h form
   certificate-entries =
-      certificate-count office office-fits cs (shape s) (sheet .1 .shape) c (card .0) (card .1)
+      certificate-count office office-fits cs (shape s) (system-part .1 .shape) c (certificate-part .0) (certificate-part .1)
       ∙ ap (λ (g : Shape). entryCount g (certificateForm c)) (sym (b .same-shape))
       ∙ ap (entryCount h) (sym (b .same-form))
 
@@ -103,13 +103,13 @@ module _ {h : Shape} {form : Form} {ws cs : List ℕ} (b : BothRead h form ws cs
       filled-system k lt =
           let few : length (systemEntries s) * 17 ≤ 1224 = omega (arith, read-system-count, read-places, read-shape .rows .1) in
           stands-filled in-A k (omega (arith, read-system-count)) (omega arith) (read-system .sizes k)
-          (subst (λ (p : ℕ). Canonical p (getD (systemEntries s) k [])) (sym same-modulus) (system-canonical office office-fits ws s (sheet .0) (sheet .1) k))
+          (subst (λ (p : ℕ). Canonical p (getD (systemEntries s) k [])) (sym same-modulus) (system-canonical office office-fits ws s (system-part .0) (system-part .1) k))
 
       filled-certificate : length (certificateEntries c) ≤ 18 → (k : ℕ) → k < length (certificateEntries c) → Filled (m .p) 122 C k
       filled-certificate few k lt =
           stands-filled in-C k lt (omega arith) (read-certificate .sizes k)
           (subst (λ (p : ℕ). Canonical p (getD (certificateEntries c) k [])) (sym same-modulus)
-          (certificate-canonical office office-fits cs (shape s) (sheet .1 .shape) c (card .0) (card .1) k))
+          (certificate-canonical office office-fits cs (shape s) (system-part .1 .shape) c (certificate-part .0) (certificate-part .1) k))
 
       loaded : (count : ℕ) → length (certificateEntries c) ≡ count → count ≤ 18 → Loaded l count A C
       loaded count all few = record {
@@ -135,7 +135,7 @@ module _ {h : Shape} {form : Form} {ws cs : List ℕ} (b : BothRead h form ws cs
       system-in : systemIn l A ≡ s
       system-in =
           system-is l A s in-A same-modulus (ap (λ (g : Shape). g .rows) (b .same-shape)) (ap (λ (g : Shape). g .columns) (b .same-shape))
-          (sheet .1 .matrix .count) (sheet .1 .right .count)
+          (system-part .1 .matrix .count) (system-part .1 .right .count)
 
       -- by the form of the certificate
       solution-by : (x : Certificate) → solving ≡ certificateForm x → CertificateWithin office (shape s) x → Stands 122 C (certificateEntries x)
@@ -160,10 +160,10 @@ module _ {h : Shape} {form : Form} {ws cs : List ℕ} (b : BothRead h form ws cs
       verdict-solution e is =
           is
           ∙ ap (λ (t : System). solutionVerdict t (denominatorIn C) (numeratorsIn l C) (certifyingDenominatorIn l C) (certifyingNumeratorsIn l C)) system-in
-          ∙ solution-by c (sym e ∙ b .same-form) (card .1) in-C
+          ∙ solution-by c (sym e ∙ b .same-form) (certificate-part .1) in-C
           ∙ verdict-read
 
       pub verdict-absence : form ≡ absent → {told : Outcome (Unit {0})} → told ≡ absenceVerdict (systemIn l A) (vectorIn (h .rows) 0 C)
           → told ≡ verdict office ws cs
       verdict-absence e is =
-          is ∙ ap (λ (t : System). absenceVerdict t (vectorIn (h .rows) 0 C)) system-in ∙ absence-by c (sym e ∙ b .same-form) (card .1) in-C ∙ verdict-read
+          is ∙ ap (λ (t : System). absenceVerdict t (vectorIn (h .rows) 0 C)) system-in ∙ absence-by c (sym e ∙ b .same-form) (certificate-part .1) in-C ∙ verdict-read

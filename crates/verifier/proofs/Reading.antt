@@ -23,26 +23,26 @@ module _ (ws cs : List ℕ) (limits : Limits) (is : limits ≡ office) where
     found-system : (s : System) × (readSystem office ws ≡ accepted s) × (shape s ≡ h)
     found-system = mapped-accepted shape _ (ap (λ (l : Limits). mapped shape (readSystem l ws)) (sym is) ∙ sym tells ∙ e)
 
-    module _ (limits′ : Limits) (is′ : limits′ ≡ office) {card : Outcome Form} (tells-card : card ≡ mapped certificateForm (readCertificate limits′ h cs)) where
-      card-told : {o : Outcome Form} → card ≡ o → mapped certificateForm (readCertificate office (shape (found-system .0)) cs) ≡ o
-      card-told f =
+    module _ (limits′ : Limits) (is′ : limits′ ≡ office) {certificate-part : Outcome Form} (tells-certificate : certificate-part ≡ mapped certificateForm (readCertificate limits′ h cs)) where
+      certificate-part-told : {o : Outcome Form} → certificate-part ≡ o → mapped certificateForm (readCertificate office (shape (found-system .0)) cs) ≡ o
+      certificate-part-told f =
           ap (λ (g : Shape). mapped certificateForm (readCertificate office g cs)) (found-system .2)
           ∙ ap (λ (l : Limits). mapped certificateForm (readCertificate l h cs)) (sym is′)
-          ∙ sym tells-card
+          ∙ sym tells-certificate
           ∙ f
 
-      pub certificate-refused : {number place : ℕ} → card ≡ refused number place → _≡_ {A = Outcome (Unit {0})} (refused number place) (verdict office ws cs)
+      pub certificate-refused : {number place : ℕ} → certificate-part ≡ refused number place → _≡_ {A = Outcome (Unit {0})} (refused number place) (verdict office ws cs)
       unfolding verdict
       certificate-refused {number} {place} f =
           let s = found-system .0 in
-          let r : readCertificate office (shape s) cs ≡ refused number place = mapped-refused certificateForm _ (card-told f) in
+          let r : readCertificate office (shape s) cs ≡ refused number place = mapped-refused certificateForm _ (certificate-part-told f) in
           sym
           (ap (λ o. followedBy o (λ t. followedBy (readCertificate office (shape t) cs) (certificateVerdict t))) (found-system .1)
           ∙ ap (λ o. followedBy o (certificateVerdict s)) r)
 
-      pub both-read : {form : Form} → card ≡ accepted form → BothRead h form ws cs
+      pub both-read : {form : Form} → certificate-part ≡ accepted form → BothRead h form ws cs
       both-read f =
-          let found = mapped-accepted certificateForm _ (card-told f) in
+          let found = mapped-accepted certificateForm _ (certificate-part-told f) in
           record {
             system = found-system .0;
             certificate = found .0;

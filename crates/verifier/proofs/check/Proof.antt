@@ -26,10 +26,10 @@ enum-known-found c = search needs
 
 check-read-requires : tie.Need-check-read-requires
 check-read-requires c κs =
-    let card = c .before .before .before in
-    let sheet = card .before .before .before .before .before in
-    both-read _ _ _ (sheet .before .limits .ensures) (sheet .read-system .ensures) (ap systemOutcome (card .before .before .before .read .given .1))
-    _ (card .before .limits2 .ensures) (card .read-certificate .ensures) (ap certificateOutcome (c .before .found .given .1))
+    let certificate-part = c .before .before .before in
+    let system-part = certificate-part .before .before .before .before .before in
+    both-read _ _ _ (system-part .before .limits .ensures) (system-part .read-system .ensures) (ap systemOutcome (certificate-part .before .before .before .read .given .1))
+    _ (certificate-part .before .limits2 .ensures) (certificate-part .read-certificate .ensures) (ap certificateOutcome (c .before .found .given .1))
 
 enum-known-found-2 : tie.Need-enum-known-found-2
 enum-known-found-2 c = search needs
@@ -42,15 +42,15 @@ returns c = search needs
 
 returns-2 : tie.Need-returns-2
 returns-2 c =
-    let card = c .before .before .before in
-    let sheet = card .before .before .before .before .before in
-    certificate-refused _ _ _ (sheet .before .limits .ensures) (sheet .read-system .ensures) (ap systemOutcome (card .before .before .before .read .given .1))
-    _ (card .before .limits2 .ensures) (card .read-certificate .ensures) (ap certificateOutcome (c .before .found2 .given .1))
+    let certificate-part = c .before .before .before in
+    let system-part = certificate-part .before .before .before .before .before in
+    certificate-refused _ _ _ (system-part .before .limits .ensures) (system-part .read-system .ensures) (ap systemOutcome (certificate-part .before .before .before .read .given .1))
+    _ (certificate-part .before .limits2 .ensures) (certificate-part .read-certificate .ensures) (ap certificateOutcome (c .before .found2 .given .1))
 
 returns-3 : tie.Need-returns-3
 returns-3 c =
-    let sheet = c .before .before .before in
-    system-refused _ _ _ (sheet .before .limits .ensures) (sheet .read-system .ensures) (ap systemOutcome (c .before .read2 .given .1))
+    let system-part = c .before .before .before in
+    system-refused _ _ _ (system-part .before .limits .ensures) (system-part .read-system .ensures) (ap systemOutcome (c .before .read2 .given .1))
 
 pub check-spec : {M : Type 1} → statement M
 check-spec =

@@ -48,8 +48,8 @@ array-share-prefix-certificate-words c = search needs
 
 slice-aggregate-check-2 : tie.Need-slice-aggregate-check-2
 slice-aggregate-check-2 c =
-    let card? = c .before .before .before .before .before .before .before .before in
-    let is = sym (card? .before .is-certificate-file .ensures) ∙ not-false _ (card? .if3 .left) in
+    let file-test = c .before .before .before .before .before .before .before .before in
+    let is = sym (file-test .before .is-certificate-file .ensures) ∙ not-false _ (file-test .if3 .left) in
     unpacked-all _ _ _ _ (c .before .before .before .unpack2 .ensures) (omega (arith, certificate-room _ is)) .0
 
 check-requires : tie.Need-check-requires
@@ -63,21 +63,21 @@ enum-known-verdict c = search needs
 
 returns-4 : tie.Need-returns-4
 returns-4 c =
-    let card? = c .before .before .before .before .before .before .before .before .before .before .before in
-    let is = sym (card? .before .is-certificate-file .ensures) ∙ not-false _ (card? .if3 .left) in
-    let sheet = unpacked-all _ _ _ _ (c .before .before .before .before .before .before .before .before .before .unpack .ensures) (omega arith) in
-    let card = unpacked-all _ _ _ _ (c .before .before .before .before .before .before .unpack2 .ensures) (omega (arith, certificate-room _ is)) in
-    both-whole _ _ (card? .before .before .before .if1 .left) (card? .before .before .if2 .left) is
-    (sym (ap verdictOutcome (c .enum-told .given .1)) ∙ c .before .before .check .ensures ∙ ap₂ (verdict office) (sheet .1) (card .1))
+    let file-test = c .before .before .before .before .before .before .before .before .before .before .before in
+    let is = sym (file-test .before .is-certificate-file .ensures) ∙ not-false _ (file-test .if3 .left) in
+    let system-part = unpacked-all _ _ _ _ (c .before .before .before .before .before .before .before .before .before .unpack .ensures) (omega arith) in
+    let certificate-part = unpacked-all _ _ _ _ (c .before .before .before .before .before .before .unpack2 .ensures) (omega (arith, certificate-room _ is)) in
+    both-whole _ _ (file-test .before .before .before .if1 .left) (file-test .before .before .if2 .left) is
+    (sym (ap verdictOutcome (c .enum-told .given .1)) ∙ c .before .before .check .ensures ∙ ap₂ (verdict office) (system-part .1) (certificate-part .1))
 
 returns-5 : tie.Need-returns-5
 returns-5 c =
-    let card? = c .before .before .before .before .before .before .before .before .before .before .before .before in
-    let is = sym (card? .before .is-certificate-file .ensures) ∙ not-false _ (card? .if3 .left) in
-    let sheet = unpacked-all _ _ _ _ (c .before .before .before .before .before .before .before .before .before .before .unpack .ensures) (omega arith) in
-    let card = unpacked-all _ _ _ _ (c .before .before .before .before .before .before .before .unpack2 .ensures) (omega (arith, certificate-room _ is)) in
-    both-whole _ _ (card? .before .before .before .if1 .left) (card? .before .before .if2 .left) is
-    (sym (ap verdictOutcome (c .before .verdict .given .1)) ∙ c .before .before .before .check .ensures ∙ ap₂ (verdict office) (sheet .1) (card .1))
+    let file-test = c .before .before .before .before .before .before .before .before .before .before .before .before in
+    let is = sym (file-test .before .is-certificate-file .ensures) ∙ not-false _ (file-test .if3 .left) in
+    let system-part = unpacked-all _ _ _ _ (c .before .before .before .before .before .before .before .before .before .before .unpack .ensures) (omega arith) in
+    let certificate-part = unpacked-all _ _ _ _ (c .before .before .before .before .before .before .before .unpack2 .ensures) (omega (arith, certificate-room _ is)) in
+    both-whole _ _ (file-test .before .before .before .if1 .left) (file-test .before .before .if2 .left) is
+    (sym (ap verdictOutcome (c .before .verdict .given .1)) ∙ c .before .before .before .check .ensures ∙ ap₂ (verdict office) (system-part .1) (certificate-part .1))
 
 pub check-files-spec : {M : Type 1} → statement M
 check-files-spec =
