@@ -1,8 +1,10 @@
 -- A level copied with tails 0, in the terms of `lattice` and `reduction`: it is in order, and holds the same slots with tails 0.
-use Prim.Native.Nat.{ℕ, _+_, _-_, _*_, _%_, _<_, _≤_}
+use Prim.Native.Nat.{ℕ, _+_, _-_, _*_, _/_, _%_, _<_, _≤_}
 use mathlib.Core.Path.{_≡_, refl, sym, _∙_, ap, subst}
-use native.Mathlib.Nat.{zero-mod}
+use mathlib.Core.Logic.{_⊎_, inl, inr, ⊎-elim}
+use native.Mathlib.Nat.{zero-mod, mod-eq-of-lt}
 use native.Mathlib.Omega.{arith}
+use native.Mathlib.Decide.{decLt}
 use lib.ListN.{length, getD}
 use Rattle.algebra.specs.Field.{Field}
 use Rattle.algebra.specs.Polynomial.{Polynomial, polynomials, coefficients-zero}
@@ -10,6 +12,7 @@ use Rattle.algebra.specs.Expressions.{shift}
 use Rattle.modular.specs.Prime.{Prime}
 use Rattle.modular.specs.Modulo.{modulo}
 use Rattle.modular.specs.Residue.{residues}
+use Rattle.vector.specs.Stored.{below-or-not}
 use Rattle.reduction.specs.Replace.{extend, extend-below, extend-at}
 use Rattle.reduction.specs.Slots.{Slots}
 use Rattle.reduction.specs.Inserting.{cleared}
@@ -21,6 +24,7 @@ use Rattle.lattice.specs.Memory.{row, height, Ends, Level, slotSize, tailSize, 
 use Rattle.lattice.specs.Holding.{HoldsSlots}
 use Rattle.lattice.specs.Range.{words-same, words-zero}
 use Rattle.lattice.specs.Reading.{flat-same}
+use Rattle.levels.specs.Copied.{Copied}
 
 -- the level L′ has the blocks of L and no tails
 pub record Copies (p : ℕ) (L L′ : Level) : Type 0 where
@@ -33,6 +37,34 @@ pub record Copies (p : ℕ) (L L′ : Level) : Type 0 where
   pub sizes : (q : ℕ) → q < 8 → slotSize L′ q ≡ slotSize L q
   pub tail-sizes : (q : ℕ) → q < 8 → tailSize L′ q ≡ 0
   pub inverses : (q : ℕ) → q < 8 → getD (L′ .inverses) q 0 ≡ getD (L .inverses) q 0
+
+-- words of a block that do not count are 0, since they are below p
+pub copied-copies : {p : ℕ} {L L′ : Level} → ValidLevel p L → Copied L 8 L′ → Copies p L L′
+copied-copies {p} {L} {L′} valid copied = record {
+  room = omega (arith, copied .room);
+  all-sizes = omega (arith, copied .all-sizes);
+  all-inverses = omega (arith, copied .all-inverses);
+  below = λ i. subst (λ x. getD (L′ .slots) x 0 < p) (omega arith) (below (i / 256) (i % 256) (omega arith) (decLt (i / 256) 8));
+  blocks = λ q j h lt. block q j h lt (below-or-not j (slotSize L q));
+  tails = λ q j h lt. ap (λ x. getD (L′ .slots) x 0) (omega arith)
+      ∙ copied .others q (128 + j) (omega arith) (λ l. omega (arith, valid .slot q h .block .within));
+  sizes = copied .sizes;
+  tail-sizes = λ q h. copied .other-sizes (8 + q) (omega arith);
+  inverses = copied .inverses;
+}
+  where
+    block : (q j : ℕ) → q < 8 → j < 128 → (j < slotSize L q) ⊎ (slotSize L q ≤ j)
+        → getD (L′ .slots) (256 * q + j) 0 ≡ getD (L .slots) (256 * q + j) 0
+    block q j h lt (inl counts) = copied .blocks q j h counts
+    block q j h lt (inr not) = copied .others q j (omega arith) (λ l. not)
+        ∙ sym (sym (mod-eq-of-lt (valid .below (256 * q + j))) ∙ valid .slot q h .block .behind j not lt)
+
+    below : (q j : ℕ) → j < 256 → Dec (q < 8) → getD (L′ .slots) (256 * q + j) 0 < p
+    below q j lt (no out) = omega (arith, copied .others q j lt (λ l. absurd (out l)), valid .below 0)
+    below q j lt (yes h) = ⊎-elim
+        (λ counts. omega (arith, copied .blocks q j h counts, valid .below (256 * q + j)))
+        (λ not. omega (arith, copied .others q j lt (λ l. not), valid .below 0))
+        (below-or-not j (slotSize L q))
 
 -- a block, and a tail behind it
 pub held-extend : {K : Type 0} {F : Field K} {n W : ℕ} {ω : ℕ → ℕ} {H τ : ℕ → K} {v : ℕ → Polynomial F} {t : Polynomial F}

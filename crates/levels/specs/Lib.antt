@@ -4,3 +4,5 @@ pub mod Settled
 pub mod Linked
 pub mod Cleared
 pub mod Begun
+pub mod Started
+pub mod Next

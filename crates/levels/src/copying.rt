@@ -1,56 +1,34 @@
-// A level copied to the next one, with all tails 0.
+// A level copied to cleared memory, without its tails.
+use vector::copy;
 ghost use mathlib.Core.Path.{_≡_};
-ghost use Prim.Native.Nat.{_+_, _≤_};
+ghost use Prim.Native.Nat.{ℕ, _<_, _≤_};
 ghost use lib.ListN.{length, getD};
-ghost use Rattle.vector.specs.Stored.{stored};
-ghost use Rattle.levels.specs.Copied.{firstHalf, copiedWord};
+ghost use Rattle.vector.specs.Bound.{AtMost};
+ghost use Rattle.lattice.specs.Memory.{level};
+ghost use Rattle.levels.specs.Copied.{Copied};
 
-// The word i of a level's slots as it is copied: tails, the second halves of 256 words, are left out.
-pub fn block_word(i: usize, word: u64) -> u64
-    ensures { λ r. ⌜ r ≡ firstHalf 128 i word ⌝ }
+// Of each slot the words of its block that count, their number and the inverse of the last; tails stay 0.
+pub fn copy_level(
+    slots: &[u64],
+    sizes: &[usize],
+    inverses: &[u64],
+    next: &mut [u64],
+    next_sizes: &mut [usize],
+    next_inverses: &mut [u64],
+)
+    requires { ⌜ (2048 ≤ length (now slots)) × (16 ≤ length (now sizes)) × (8 ≤ length (now inverses)) ⌝ }
+    requires blocks { ⌜ ((q : ℕ) → q < 8 → getD (now sizes) q 0 ≤ 128) ⌝ }
+    requires room { ⌜ (length (now next) ≡ 2048) × (length (now «next_sizes») ≡ 16) × (length (now «next_inverses») ≡ 8) ⌝ }
+    requires zeros { ⌜ AtMost 0 (now next) × AtMost 0 (now «next_sizes») ⌝ }
+    ensures { λ _. ⌜ Copied (level (now (slots .entry)) (now (sizes .entry)) (now (inverses .entry))) 8
+        (level (now (next .exit)) (now («next_sizes» .exit)) (now («next_inverses» .exit))) ⌝ }
 {
-    if i / 128 % 2 == 0 { word } else { 0 }
-}
-
-// The same of a level's sizes.
-pub fn block_size(i: usize, size: usize) -> usize
-    ensures { λ r. ⌜ r ≡ firstHalf 8 i size ⌝ }
-{
-    if i / 8 % 2 == 0 { size } else { 0 }
-}
-
-// The slots from a on, with tails 0, to the place d.
-pub fn copy_slots(area: &mut [u64], a: usize, d: usize)
-    requires { ⌜ (a + 2048 ≤ d) × (d + 2048 ≤ length (now area)) ⌝ }
-    ensures { λ _. ⌜ now (area .exit) ≡ stored (copiedWord 128 (now (area .entry)) a) (now (area .entry)) d 2048 ⌝ }
-{
-    let mut i = 0;
-    while i < 2048 {
-        area[d + i] = block_word(i, area[a + i]);
-        i += 1;
-    }
-}
-
-// The sizes from a on, with those of tails 0, to the place d.
-pub fn copy_sizes(sizes: &mut [usize], a: usize, d: usize)
-    requires { ⌜ (a + 16 ≤ d) × (d + 16 ≤ length (now sizes)) ⌝ }
-    ensures { λ _. ⌜ now (sizes .exit) ≡ stored (copiedWord 8 (now (sizes .entry)) a) (now (sizes .entry)) d 16 ⌝ }
-{
-    let mut i = 0;
-    while i < 16 {
-        sizes[d + i] = block_size(i, sizes[a + i]);
-        i += 1;
-    }
-}
-
-// The inverses from a on to the place d.
-pub fn copy_inverses(inverses: &mut [u64], a: usize, d: usize)
-    requires { ⌜ (a + 8 ≤ d) × (d + 8 ≤ length (now inverses)) ⌝ }
-    ensures { λ _. ⌜ now (inverses .exit) ≡ stored (λ i. getD (now (inverses .entry)) (a + i) 0) (now (inverses .entry)) d 8 ⌝ }
-{
-    let mut i = 0;
-    while i < 8 {
-        inverses[d + i] = inverses[a + i];
-        i += 1;
+    let mut q = 0;
+    while q < 8 {
+        let size = sizes[q];
+        copy(next, 256 * q, slots, 256 * q, size);
+        next_sizes[q] = size;
+        next_inverses[q] = inverses[q];
+        q += 1;
     }
 }

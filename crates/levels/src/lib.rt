@@ -1,5 +1,6 @@
-// The levels of the solver in memory: all levels lie in one area, and each column of a system makes the next one.
+// The levels of the solver in memory: each column of a system makes the next one.
 pub mod beginning;
 pub mod column;
 pub mod copying;
+pub mod next;
 pub mod settling;

@@ -35,6 +35,7 @@ pub mod Second
 -- certificates: L7, L9
 pub mod Certificate
 pub mod Solution
+pub mod Unfinished
 pub mod Absence
 -- the algorithm as functions, and that every system has a certificate
 pub mod Run

@@ -5,3 +5,13 @@ pub mod ValidTransposed
 pub mod RightInserted
 pub mod SecondReady
 pub mod SecondDual
+pub mod Solved
+pub mod Row
+pub mod RowTaken
+pub mod First
+pub mod Zeros
+pub mod Denominator
+pub mod Scaled
+pub mod DividedSecond
+pub mod QuotientRows
+pub mod SecondEnds

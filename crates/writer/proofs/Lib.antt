@@ -4,3 +4,4 @@ pub mod Overwriting
 pub mod Framed
 pub mod Answers
 pub mod Ready
+pub mod WordBytes

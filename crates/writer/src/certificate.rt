@@ -26,7 +26,7 @@ pub enum Form {
 }
 
 // The format of certificates for systems of a shape within the limits; p does not matter.
-fn format_for(form: Form, rows: u32, columns: u32) -> Format
+pub fn format_for(form: Form, rows: u32, columns: u32) -> Format
     requires { ⌜ (rows ≤ office .rows) × (columns ≤ office .columns) ⌝ }
     ensures { λ r. ⌜ ((p : ℕ) → r ≡ certificateFormat office (shapeOf p rows columns) (formOf form)) ⌝ }
 {

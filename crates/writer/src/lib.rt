@@ -3,6 +3,7 @@
 // keep the limits.
 pub mod answer;
 pub mod certificate;
+pub mod file;
 pub mod format;
 pub mod frame;
 mod shape;

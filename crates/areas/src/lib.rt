@@ -1,0 +1,1 @@
+// How the solver's input and output lie in memory. Definitions only: see specs/.

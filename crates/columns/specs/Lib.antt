@@ -1,0 +1,5 @@
+pub mod HasWords
+pub mod Lane
+pub mod Column
+pub mod Matrix
+pub mod Laying

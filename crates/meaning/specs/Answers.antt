@@ -1,0 +1,23 @@
+-- What a right certificate answers to its system: kind and d, which leave nothing free.
+use Rattle.words.specs.Limits.{Limits}
+use Rattle.words.specs.System.{System, SystemWithin, shape}
+use Rattle.words.specs.Certificate.{Certificate, CertificateWithin}
+use Rattle.words.specs.Certificate.Certificate.{solution, absence}
+use Rattle.truth.specs.Solution.{Answer, Answers}
+use Rattle.truth.specs.Solution.Answer.{none, least}
+use Rattle.truth.specs.Right.{Right}
+use Rattle.truth.specs.Demand.{True, right-true}
+
+-- the least denominator, or none
+unfoldable pub answerOf : Certificate → Answer
+answerOf (solution d N w Z) = least d
+answerOf (absence q) = none
+
+true-answers : (s : System) (c : Certificate) → True s c → Answers s (answerOf c)
+unfolding True Answers answerOf
+true-answers s (solution d N w Z) t = t .least
+true-answers s (absence q) t = t
+
+pub right-answers : (limits : Limits) (s : System) → SystemWithin limits s
+    → (c : Certificate) → CertificateWithin limits (shape s) c → Right s c → Answers s (answerOf c)
+right-answers limits s h c k r = true-answers s c (right-true limits s h c k r)

@@ -1,0 +1,9 @@
+pub mod Laid
+pub mod Taken
+pub mod Lists
+pub mod Equations
+pub mod LaidLaws
+pub mod TakenLaws
+pub mod RightLists
+pub mod TakenRight
+pub mod Answers

@@ -1,0 +1,46 @@
+// A polynomial times a flat block, and times a polynomial.
+use descent::coordinate::store_negated;
+use descent::product::subtract_product;
+use residue::modulus::Modulus;
+use vector::clear;
+use vector::reduce_range;
+ghost use mathlib.Core.Path.{_≡_};
+ghost use Prim.Native.Nat.{ℕ, _+_, _*_, _<_, _≤_};
+ghost use lib.ListN.{length, getD};
+ghost use Rattle.residue.specs.Modulus.{ValidModulus};
+ghost use Rattle.multiples.specs.Product.{BlockMultiplied, Multiplied};
+
+// f, its first n words, times the block of 8 lanes in m words. What stood in `out` is lost.
+pub fn multiply_block(
+    f: &[u64],
+    n: usize,
+    block: &[u64],
+    m: usize,
+    out: &mut [u64],
+    modulus: Modulus,
+)
+    requires { ⌜ ValidModulus modulus × (n ≤ 128) × (n ≤ length (now f)) × (m ≤ length (now block)) × (n * 8 + m ≤ 1096)
+        × (length (now out) ≡ 1088) ⌝ }
+    requires small { ⌜ ((i : ℕ) → getD (now f) i 0 < modulus .p) × ((i : ℕ) → getD (now block) i 0 < modulus .p) ⌝ }
+    ensures { λ _. ⌜ BlockMultiplied (modulus .p) (now (f .entry)) n (now (block .entry)) m (now (out .exit)) ⌝ }
+{
+    let mut minus = [0u64; 128];
+    store_negated(&mut minus, 0, f, n, modulus);
+    clear(out, 0, 1088);
+    subtract_product(out, 8, &minus, 0, 1, n, block, 0, m, modulus);
+    reduce_range(out, 1088, modulus);
+}
+
+// f, its first n words, times g, its first m. What stood in `out` is lost.
+pub fn multiply(f: &[u64], n: usize, g: &[u64], m: usize, out: &mut [u64], modulus: Modulus)
+    requires { ⌜ ValidModulus modulus × (n ≤ 128) × (n ≤ length (now f)) × (m ≤ length (now g)) × (n + m ≤ 129)
+        × (length (now out) ≡ 128) ⌝ }
+    requires small { ⌜ ((i : ℕ) → getD (now f) i 0 < modulus .p) × ((i : ℕ) → getD (now g) i 0 < modulus .p) ⌝ }
+    ensures { λ _. ⌜ Multiplied (modulus .p) (now (f .entry)) n (now (g .entry)) m (now (out .exit)) ⌝ }
+{
+    let mut minus = [0u64; 128];
+    store_negated(&mut minus, 0, f, n, modulus);
+    clear(out, 0, 128);
+    subtract_product(out, 1, &minus, 0, 1, n, g, 0, m, modulus);
+    reduce_range(out, 128, modulus);
+}

@@ -1,0 +1,46 @@
+-- A solution certificate but for its numerators: what is known when the right side was inserted into the last level U, with block
+-- zero at the end, and the second system was solved. The way down from d·b gives the numerators.
+use Prim.Native.Nat.{ℕ, suc, _<_, _≤_}
+use Prim.Native.Nat.{_+_ as _+ₙ_, _*_ as _*ₙ_}
+use mathlib.Core.Path.{_≡_}
+use Rattle.ring.specs.Ring.{Ring}
+use Rattle.ring.specs.Sum.{sum}
+use Rattle.algebra.specs.Sized.{Sized}
+use Rattle.reduction.specs.Total.{rank, degrees}
+use Rattle.reduction.specs.Pivot.{Vanishes}
+use Rattle.reduction.specs.Slots.{Slots, unweighted}
+use Rattle.reduction.specs.Span.{InSpan}
+use Rattle.reduction.specs.Euclidean.{Euclidean, Associate}
+use Rattle.reduction.specs.Inserting.{Inserting}
+use Rattle.reduction.specs.System.{System}
+use Rattle.reduction.specs.Levels.{Level}
+use Rattle.reduction.specs.Dual.{Dual}
+use Rattle.reduction.specs.Certificate.{RightSolution, SmallSolution}
+use Rattle.reduction.specs.Solution.{solution-span, solution-small, solution-right, solution-sizes}
+
+module _ {A : Type 0} {R : Ring A} {S : Sized R} (E : Euclidean S) (T : System S) where
+  open System T using (rows as n, columns as m, degree as δ, matrix as M, right as b)
+  open Ring R using (mul as _*_)
+  open Sized S using (size)
+
+  infixl 70 _*_
+  pub record Unfinished (U : Slots A) (d w : A) (Z : ℕ → A) : Type 0 where
+    -- where the way down starts
+    pub span : InSpan R n n U (λ k. d * b k)
+    pub vector-small : (i : ℕ) → i < n → size (d * b i) ≤ suc (δ +ₙ degrees n (U .size))
+    -- with numerators that solve the system, the certificate is right; with small ones, it is small
+    pub right : (N : ℕ → A) → ((i : ℕ) → i < n → sum R m (λ j. M i j * N j) ≡ d * b i) → RightSolution E T d N w Z
+    pub small : (N : ℕ → A) → ((j : ℕ) → j < m → size (N j) ≤ suc (rank n (U .size) *ₙ δ))
+        → SmallSolution E T (suc (rank n (U .size) *ₙ δ)) d N w Z
+
+  -- L7 and L8
+  pub unfinished : {U : Slots A} (L : Level T m U) (X : Inserting S n unweighted U b) (z : Vanishes R n (X .now .hand))
+      (μ : Associate S (E .Monic) (X .now .hand n)) (w′ : A) (Y : ℕ → A) → E .Monic w′
+      → Dual S n (degrees n (U .size)) (X .now .slots) w′ Y
+      → Unfinished U (μ .unit * X .now .hand n) (μ .unit * X .now .hand n * w′) Y
+  unfinished L X z μ w′ Y monic K = record {
+    span = solution-span E T L X z μ;
+    vector-small = solution-small E T L X z μ;
+    right = λ N solves. solution-right E T L X z μ w′ Y monic K N solves;
+    small = λ N small. solution-sizes E T L X z μ w′ Y monic K N small;
+  }

@@ -1,0 +1,51 @@
+-- The tail with which the insertion of the right side ends, made monic: the denominator w of the second system's solution.
+use Prim.Native.Nat.{ℕ, _<_}
+use mathlib.Core.List.{List}
+use native.Mathlib.Omega.{arith}
+use lib.ListN.{getD}
+use Rattle.algebra.specs.Polynomial.{Polynomial, polynomials}
+use Rattle.algebra.specs.Size.{size, sized}
+use Rattle.modular.specs.Prime.{Prime}
+use Rattle.modular.specs.Residue.{residues}
+use Rattle.reduction.specs.Slots.{Slots, unweighted}
+use Rattle.reduction.specs.Transpose.{Tops}
+use Rattle.reduction.specs.Second.{second-positive}
+use Rattle.reduction.specs.Polynomials.{associate}
+use Rattle.reduction.specs.Holds.{Holds}
+use Rattle.lattice.specs.Word.{words}
+use Rattle.lattice.specs.Memory.{Ends, Sums, Level, Memory, places, Valid}
+use Rattle.lattice.specs.Sums.{sums-fewer}
+use Rattle.lattice.specs.Holding.{HoldsSlots}
+use Rattle.multiples.specs.Monic.{MadeMonic}
+use Rattle.second.specs.RightInserted.{InsertedRight, RightInserted}
+
+-- of slots U: how the insertion ended, and that w is its tail made monic
+pub record FoundDenominator (p : ℕ) (prime : Prime p) (n : ℕ) (U : Slots (Polynomial (residues p prime))) (w : List ℕ) : Type 0
+  where
+    pub memory : Memory
+    pub inserted : InsertedRight p prime n U memory
+    pub some : 0 < size (residues p prime) (inserted .run .now .hand n)
+    pub holds : Holds (residues p prime) (words p prime w 0 128)
+        (polynomials (residues p prime) .mul (associate (residues p prime) (inserted .run .now .hand n) some .unit)
+        (inserted .run .now .hand n))
+
+-- w has so many coefficients
+pub record DenominatorFound (p n : ℕ) (L : Level) (w : List ℕ) (count : ℕ) : Type 0 where
+  pub below : (i : ℕ) → getD w i 0 < p
+  pub ends : Ends p w 0 128 count
+  pub found : (prime : Prime p) (B : ℕ) (U : Slots (Polynomial (residues p prime))) → HoldsSlots p prime n unweighted L U
+      → Tops (sized (residues p prime)) n B 16 U → FoundDenominator p prime n U w
+
+pub tail-reducible : {p : ℕ} {M : Memory} → Valid p M → Sums p 0 (M .tail)
+tail-reducible {p} {M} valid = sums-fewer p (M .tail) (places M) 0 (omega arith) (valid .hand .tail-sums)
+
+pub denominator-found : {p n : ℕ} {L : Level} {M : Memory} {w : List ℕ} {count : ℕ} → RightInserted p n L M
+    → MadeMonic p (M .tail) w count → DenominatorFound p n L w count
+denominator-found {p} {n} {L} {M} {w} {count} done made = record {
+  below = made .below;
+  ends = made .ends;
+  found = λ prime B U holds tops.
+      let I = done .inserted prime U holds in
+      let some = second-positive tops (I .run) (I .ends) in
+      record { memory = M; inserted = I; some = some; holds = made .holds prime (I .run .now .hand n) some (I .holds .hand .tail) };
+}

@@ -1,0 +1,51 @@
+-- The quotients by the transposed slots as the rows of the second system's solution: row k is 128 words of lane 7 - (n - 1 - k).
+use Prim.Native.Nat.{ℕ, _+_, _-_, _*_, _/_, _%_, _<_, _≤_}
+use mathlib.Core.Path.{_≡_, sym, _∙_, ap, subst}
+use mathlib.Core.Logic.{⊎-elim}
+use mathlib.Core.List.{List}
+use native.Mathlib.Omega.{arith}
+use native.Mathlib.Decide.{decLt}
+use lib.ListN.{length, getD, List·getD-eq-default}
+use Rattle.reduction.specs.Flat.{flat}
+use Rattle.reduction.specs.Transpose.{back}
+use Rattle.vector.specs.Stored.{stored, length-stored, below-or-not}
+use Rattle.second.specs.Words.{when, when-yes, when-no, reversed}
+use Rattle.second.specs.ValidTransposed.{when-below}
+use Rattle.second.specs.First.{stored-first}
+
+-- the word at x of the rows
+abbrev pub quotientWord : (l : List ℕ) (n x : ℕ) → ℕ
+quotientWord l n x = when (decLt (x / 128) n) (getD l (8 * (x % 128) + (7 - reversed n (x / 128))) 0)
+
+module _ (l : List ℕ) (n x : ℕ) where
+  pub quotient-beyond : ¬ (x / 128 < n) → quotientWord l n x ≡ 0
+  quotient-beyond out = when-no (decLt (x / 128) n) _ out
+
+  pub quotient-value : x / 128 < n → quotientWord l n x ≡ getD l (8 * (x % 128) + (7 - reversed n (x / 128))) 0
+  quotient-value inside = when-yes (decLt (x / 128) n) _ inside
+
+module _ (l : List ℕ) (n : ℕ) (small : n ≤ 8) (o : List ℕ) (room : length o ≡ 1024) where
+  -- coefficient e of row k
+  pub row-cell : (k e : ℕ) → k < n → e < 128
+      → getD (stored (quotientWord l n) o 0 1024) (128 * k + e) 0 ≡ getD l (flat 8 (back n k) e) 0
+  row-cell k e h lt =
+      let y : ℕ = 128 * k + e in
+      let slot : y / 128 ≡ k = omega arith in
+      let degree : y % 128 ≡ e = omega arith in
+      stored-first (quotientWord l n) o 1024 y (omega arith) (omega arith)
+      ∙ quotient-value l n y (omega (arith, slot))
+      ∙ ap (λ i. getD l i 0) (place y slot degree)
+    where
+      place : (y : ℕ) → y / 128 ≡ k → y % 128 ≡ e → 8 * (y % 128) + (7 - reversed n (y / 128)) ≡ flat 8 (back n k) e
+      place y slot degree = ap (λ i. 8 * (y % 128) + (7 - reversed n i)) slot ∙ omega arith
+
+  pub rows-below : (p : ℕ) → ((i : ℕ) → getD l i 0 < p) → (i : ℕ) → getD (stored (quotientWord l n) o 0 1024) i 0 < p
+  rows-below p all i =
+      ⊎-elim
+      (λ lt. subst (λ v. v < p) (sym (stored-first (quotientWord l n) o 1024 i (omega arith) lt))
+      (when-below p (omega (arith, all 0)) _ _ (all _)))
+      (λ ge.
+      let none : getD (stored (quotientWord l n) o 0 1024) i 0 ≡ 0 =
+      List·getD-eq-default (stored (quotientWord l n) o 0 1024) 0 (omega (arith, length-stored (quotientWord l n) o 0 1024)) in
+      omega (arith, all 0))
+      (below-or-not i 1024)

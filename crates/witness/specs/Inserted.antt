@@ -1,0 +1,130 @@
+-- The right side of a system inserted into its last level: what memory holds where its block became zero, and where it got stuck.
+use Prim.Native.Nat.{ℕ, suc, _*_, _<_, _≤_}
+use mathlib.Core.Path.{_≡_, refl}
+use mathlib.Core.List.{List}
+use native.Mathlib.Omega.{arith}
+use Rattle.algebra.specs.Polynomial.{Polynomial, polynomials}
+use Rattle.algebra.specs.Size.{size, sized}
+use Rattle.modular.specs.Prime.{Prime}
+use Rattle.modular.specs.Residue.{residues}
+use Rattle.reduction.specs.Total.{rank, degrees, rank-le}
+use Rattle.reduction.specs.Pivot.{Vanishes}
+use Rattle.reduction.specs.Slots.{Slots, unweighted}
+use Rattle.reduction.specs.Insert.{Stuck}
+use Rattle.reduction.specs.Inserting.{begin, Inserting}
+use Rattle.reduction.specs.Polynomials.{euclidean}
+use Rattle.reduction.specs.Levels as reduction
+use Rattle.reduction.specs.Solution.{solution-positive, solution-tops}
+use Rattle.reduction.specs.Absence.{absence-tops}
+use Rattle.reduction.specs.Holds.{Holds}
+use Rattle.reduction.specs.Flat.{Flat}
+use Rattle.lattice.specs.Word.{words}
+use Rattle.lattice.specs.Memory.{row, height, Level, slotSize, ValidLevel, Memory, Valid}
+use Rattle.lattice.specs.Holding.{HoldsSlots, HoldsState, Reached}
+use Rattle.lattice.specs.Reading.{holds-zero, holds-pivot}
+use Rattle.lattice.specs.Insertion.{Inserts}
+use Rattle.areas.specs.Input.{Equations, systemOf}
+use Rattle.levels.specs.Started.{Started}
+use Rattle.second.specs.Solved.{HasTops}
+use Rattle.witness.specs.Witnessed.{HoldsLast, HasLast}
+
+module _ (p : ℕ) (prime : Prime p) (n m : ℕ) where
+  -- the slots after the insertion into U, and the tail that is left
+  pub record HoldsVanished (X : Equations p prime n m) (U : Slots (Polynomial (residues p prime))) (input : List ℕ) (L : Level)
+      (tail : List ℕ) : Type 0 where
+    pub right : Flat (residues p prime) n 8 unweighted (words p prime input (128 * m) 128) (X .right)
+    pub last : reduction.Level (systemOf p prime n m X) m U
+    pub inserting : Inserting (sized (residues p prime)) n unweighted U (X .right)
+    pub vanishes : Vanishes (polynomials (residues p prime)) n (inserting .now .hand)
+    pub slots : HoldsSlots p prime n unweighted L (inserting .now .slots)
+    pub held : Holds (residues p prime) (words p prime tail 0 256) (inserting .now .hand n)
+
+  -- stuck at h; L still holds U
+  pub record HoldsStuck (X : Equations p prime n m) (U : Slots (Polynomial (residues p prime))) (L : Level) (h : ℕ) : Type 0 where
+    pub last : reduction.Level (systemOf p prime n m X) m U
+    pub inserting : Inserting (sized (residues p prime)) n unweighted U (X .right)
+    pub stuck : Stuck (sized (residues p prime)) n unweighted (inserting .now)
+    pub at : stuck .at ≡ h
+    pub slots : HoldsSlots p prime n unweighted L U
+
+-- some system has come there
+pub record HasVanished (p n m : ℕ) (input : List ℕ) (L : Level) (tail : List ℕ) : Type 0 where
+  pub prime : Prime p
+  pub equations : Equations p prime n m
+  pub slots : Slots (Polynomial (residues p prime))
+  pub vanished : HoldsVanished p prime n m equations slots input L tail
+
+pub record HasStuck (p n : ℕ) (L : Level) (h : ℕ) : Type 0 where
+  pub prime : Prime p
+  pub columns : ℕ
+  pub equations : Equations p prime n columns
+  pub slots : Slots (Polynomial (residues p prime))
+  pub stuck : HoldsStuck p prime n columns equations slots L h
+
+-- slots in memory have at most 16 degrees
+pub slots-high : {p : ℕ} (prime : Prime p) {n : ℕ} {ω : ℕ → ℕ} {L : Level} {U : Slots (Polynomial (residues p prime))} → n ≤ 8
+    → ValidLevel p L → HoldsSlots p prime n ω L U → (q : ℕ) → q < n → U .size q ≤ 16
+slots-high prime {L = L} lanes valid holds q h =
+    let within : slotSize L q ≤ 128 = valid .slot q (omega arith) .block .within in
+    omega (arith, holds .size q h)
+
+-- L6: at most 8 slots of degree 15
+pub last-degrees : {p : ℕ} (prime : Prime p) {n m : ℕ} {X : Equations p prime n m} {U : Slots (Polynomial (residues p prime))}
+    → n ≤ 8 → reduction.Level (systemOf p prime n m X) m U → (rank n (U .size) * 15 ≤ 120) × (degrees n (U .size) ≤ 120)
+last-degrees prime {n = n} {U = U} lanes last =
+    let few : rank n (U .size) ≤ 8 = omega (arith, rank-le n (U .size)) in
+    let small : degrees n (U .size) ≤ rank n (U .size) * 15 = last .degrees-le in
+    (omega arith, omega arith)
+
+module _ {p : ℕ} (prime : Prime p) {n m : ℕ} {X : Equations p prime n m} {U : Slots (Polynomial (residues p prime))} (lanes : n ≤ 8)
+  where
+    pub vanished-some : {input : List ℕ} {L : Level} {tail : List ℕ} (Q : HoldsVanished p prime n m X U input L tail)
+        → 0 < size (residues p prime) (Q .inserting .now .hand n)
+    vanished-some Q = solution-positive (euclidean (residues p prime)) (systemOf p prime n m X) (Q .last) (Q .inserting) (Q .vanishes)
+
+    -- there is a second system
+    pub vanished-tops : {input : List ℕ} {L : Level} {tail : List ℕ} → ValidLevel p L → HoldsVanished p prime n m X U input L tail
+        → HasTops p n L
+    vanished-tops valid Q = record {
+      prime = prime;
+      bound = degrees n (U .size);
+      small = last-degrees prime lanes (Q .last) .1;
+      slots = Q .inserting .now .slots;
+      holds = Q .slots;
+      tops = solution-tops (euclidean (residues p prime)) (systemOf p prime n m X) (Q .last) (Q .inserting) (Q .vanishes) 16
+          (slots-high prime lanes valid (Q .slots));
+    }
+
+-- an insertion that starts with the right side beside the last level, and its end
+module _ {p n m : ℕ} {input : List ℕ} {L : Level} {M M′ : Memory} (started : Started p L input (128 * m) M) (done : Inserts p M M′)
+    (prime : Prime p) {X : Equations p prime n m} (H : HoldsLast p prime n m X input L) where
+  abbrev R : Reached p prime n unweighted (begin (polynomials (residues p prime)) n (H .slots) (X .right) (height (M .hand .size))) M′
+  R = done .leads prime n unweighted (begin (polynomials (residues p prime)) n (H .slots) (X .right) (height (M .hand .size)))
+      (started .holds prime n (H .slots) (X .right) (H .holds) (H .system .right))
+
+  abbrev made : Inserting (sized (residues p prime)) n unweighted (H .slots) (X .right)
+  made = record { size = height (M .hand .size); now = R .now; trace = R .trace }
+
+  pub inserted-vanished : M′ .hand .size ≡ 0 → HoldsVanished p prime n m X (H .slots) input (M′ .level) (M′ .tail)
+  inserted-vanished none = record {
+    right = H .system .right;
+    last = H .last;
+    inserting = made;
+    vanishes = holds-zero p prime (done .valid .hand) (R .holds) none;
+    slots = R .holds .slots;
+    held = R .holds .hand .tail;
+  }
+
+  pub inserted-stuck : 0 < M′ .hand .size → HoldsStuck p prime n m X (H .slots) L (row (M′ .hand .size))
+  inserted-stuck some =
+      let P = holds-pivot p prime (done .valid .hand) (R .holds) some in record {
+        last = H .last;
+        inserting = made;
+        stuck = record {
+          at = row (M′ .hand .size);
+          pivot = P;
+          empty = omega (arith, R .holds .slots .size _ (P .inside), done .stops some);
+        };
+        at = refl;
+        slots = H .holds;
+      }

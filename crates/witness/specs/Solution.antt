@@ -1,0 +1,163 @@
+-- The certificate of a solution, but for its numerators: d, w = d·w′ and Z, with w′ and Z of the second system of the slots after the
+-- insertion.
+use Prim.Native.Nat.{ℕ, suc, _+_, _-_, _*_, _<_, _≤_}
+use mathlib.Core.Path.{_≡_, sym, _∙_}
+use mathlib.Core.Logic.{inl, inr}
+use mathlib.Core.List.{List}
+use native.Mathlib.Omega.{arith}
+use lib.ListN.{length, getD}
+use Rattle.algebra.specs.Polynomial.{Polynomial, polynomials}
+use Rattle.algebra.specs.Sized.{size-mul-nonzero}
+use Rattle.algebra.specs.Size.{size, sized}
+use Rattle.modular.specs.Prime.{Prime}
+use Rattle.modular.specs.Residue.{residues}
+use Rattle.vector.specs.Stored.{stored, length-stored}
+use Rattle.reduction.specs.Total.{rank, degrees}
+use Rattle.reduction.specs.Slots.{Slots}
+use Rattle.reduction.specs.Euclidean.{associate-nonzero}
+use Rattle.reduction.specs.Polynomials.{associate, euclidean}
+use Rattle.reduction.specs.Solution.{solution-tops}
+use Rattle.reduction.specs.Unfinished.{Unfinished, unfinished}
+use Rattle.reduction.specs.Holds.{Holds}
+use Rattle.lattice.specs.Word.{words}
+use Rattle.lattice.specs.Memory.{Level, ValidLevel}
+use Rattle.lattice.specs.Range.{words-apart, ends-most}
+use Rattle.areas.specs.Input.{Equations, systemOf}
+use Rattle.areas.specs.Output.{ValidOutput, HoldsAt}
+use Rattle.multiples.specs.Product.{Multiplied}
+use Rattle.second.specs.Solved.{HoldsSecond, SecondSolved}
+use Rattle.witness.specs.Witnessed.{HoldsUnfinished}
+use Rattle.witness.specs.Words.{stored-below, held-zero-from, held-fewer, words-copied}
+use Rattle.witness.specs.Inserted.{HoldsVanished, HasVanished, slots-high, last-degrees, vanished-some}
+use Rattle.witness.specs.Denominator.{HasTail, HasDenominator, HoldsDenominator}
+
+pub record SolutionFound (p n m : ℕ) (input : List ℕ) (L : Level) (tail t output : List ℕ) : Type 0 where
+  pub below : (i : ℕ) → getD t i 0 < p
+  pub valid : ValidOutput p output
+  pub holds : (prime : Prime p) (X : Equations p prime n m) (U : Slots (Polynomial (residues p prime)))
+      → HoldsVanished p prime n m X U input L tail → HoldsUnfinished p prime n m X U t output
+
+pub vanished-tail : {p n m : ℕ} {input : List ℕ} {L : Level} {tail : List ℕ} → n ≤ 8 → HasVanished p n m input L tail → HasTail p tail
+vanished-tail {n = n} lanes has = record {
+  prime = has .prime;
+  polynomial = has .vanished .inserting .now .hand n;
+  some = vanished-some (has .prime) lanes (has .vanished);
+  holds = has .vanished .held;
+}
+
+-- d, w and the rows of Z at their places in written order
+abbrev pub storedSolution : (n m : ℕ) (d w rows output : List ℕ) → List ℕ
+storedSolution n m d w rows output = stored (λ j. getD rows (0 + j) 0)
+    (stored (λ j. getD w (0 + j) 0) (stored (λ j. getD d (0 + j) 0) output 0 128) (128 * (1 + m)) 128) (128 * (2 + m)) (128 * n)
+
+module _ (p : ℕ) (prime₀ : Prime p) (n m : ℕ) (lanes : n ≤ 8) (columns : m ≤ 8) (d w rows output : List ℕ) (valid : ValidOutput p output) where
+  abbrev first : List ℕ
+  first = stored (λ j. getD d (0 + j) 0) output 0 128
+
+  abbrev second : List ℕ
+  second = stored (λ j. getD w (0 + j) 0) (stored (λ j. getD d (0 + j) 0) output 0 128) (128 * (1 + m)) 128
+
+  first-length : length (stored (λ j. getD d (0 + j) 0) output 0 128) ≡ 2304
+  first-length = length-stored (λ j. getD d (0 + j) 0) output 0 128 ∙ valid .room
+
+  second-length : length (stored (λ j. getD w (0 + j) 0) (stored (λ j. getD d (0 + j) 0) output 0 128) (128 * (1 + m)) 128) ≡ 2304
+  second-length = length-stored (λ j. getD w (0 + j) 0) first (128 * (1 + m)) 128 ∙ first-length
+
+  pub stored-valid : ((i : ℕ) → getD d i 0 < p) → ((i : ℕ) → getD w i 0 < p) → ((i : ℕ) → getD rows i 0 < p)
+      → ValidOutput p (storedSolution n m d w rows output)
+  stored-valid d-below w-below rows-below = record {
+    room = length-stored (λ j. getD rows (0 + j) 0) second (128 * (2 + m)) (128 * n) ∙ second-length;
+    below = stored-below p (λ j. getD rows (0 + j) 0) second (128 * (2 + m)) (128 * n) some (λ j lt. rows-below (0 + j))
+        (stored-below p (λ j. getD w (0 + j) 0) first (128 * (1 + m)) 128 some (λ j lt. w-below (0 + j))
+        (stored-below p (λ j. getD d (0 + j) 0) output 0 128 some (λ j lt. d-below (0 + j)) (valid .below)));
+  }
+    where
+      some : 0 < p
+      some = omega (arith, prime₀ .large)
+
+  module _ (prime : Prime p) where
+    pub stored-d : (x : ℕ) → words p prime d 0 128 x ≡ words p prime (storedSolution n m d w rows output) 0 128 x
+    stored-d x =
+        words-copied p prime d output 0 0 128 0 0 128 (omega (arith, valid .room)) (omega arith) (omega arith) (omega arith) x
+        ∙ sym (words-apart p prime (λ j. getD w (0 + j) 0) first (128 * (1 + m)) 128 0 128 (inl (omega arith)) x)
+        ∙ sym (words-apart p prime (λ j. getD rows (0 + j) 0) second (128 * (2 + m)) (128 * n) 0 128 (inl (omega arith)) x)
+
+    pub stored-w : (x : ℕ) → words p prime w 0 128 x ≡ words p prime (storedSolution n m d w rows output) (128 * (1 + m)) 128 x
+    stored-w x =
+        words-copied p prime w first 0 (128 * (1 + m)) 128 0 (128 * (1 + m)) 128 (omega (arith, first-length))
+        (omega arith) (omega arith) (omega arith) x
+        ∙ sym (words-apart p prime (λ j. getD rows (0 + j) 0) second (128 * (2 + m)) (128 * n) (128 * (1 + m)) 128 (inl (omega arith)) x)
+
+    pub stored-Z : (i : ℕ) → i < n → (x : ℕ)
+        → words p prime rows (128 * i) 128 x ≡ words p prime (storedSolution n m d w rows output) (128 * (2 + m + i)) 128 x
+    stored-Z i h = words-copied p prime rows second 0 (128 * (2 + m)) (128 * n) (128 * i) (128 * (2 + m + i)) 128
+        (omega (arith, second-length)) (omega arith) (omega arith) (omega arith)
+
+-- L8: d and w′ have together at most 122 coefficients
+module _ {p n m : ℕ} {input : List ℕ} {L : Level} {tail d t : List ℕ} {found : ℕ} {w rows : List ℕ} (lanes : n ≤ 8) (level : ValidLevel p L)
+    (has : HasDenominator p m input tail d t found) (solved : SecondSolved p n L w rows) where
+  module _ (prime : Prime p) (X : Equations p prime n m) (U : Slots (Polynomial (residues p prime)))
+      (Q : HoldsVanished p prime n m X U input L tail) where
+    abbrev e : Polynomial (residues p prime)
+    e = Q .inserting .now .hand n
+
+    abbrev x : Polynomial (residues p prime)
+    x = polynomials (residues p prime) .mul (associate (residues p prime) e (vanished-some prime lanes Q) .unit) e
+
+    D : HoldsDenominator p prime n d t x (X .right)
+    D = has .holds prime n e (vanished-some prime lanes Q) (X .right) (Q .held) (Q .right)
+
+    S : HoldsSecond p prime n (degrees n (U .size)) (Q .inserting .now .slots) w rows
+    S = solved .solved prime (degrees n (U .size)) (Q .inserting .now .slots) (last-degrees prime lanes (Q .last) .1) (Q .slots)
+        (solution-tops (euclidean (residues p prime)) (systemOf p prime n m X) (Q .last) (Q .inserting) (Q .vanishes) 16
+        (slots-high prime lanes level (Q .slots)))
+
+    made : Unfinished (euclidean (residues p prime)) (systemOf p prime n m X) U x (polynomials (residues p prime) .mul x (S .polynomial)) (S .Y)
+    made = unfinished (euclidean (residues p prime)) (systemOf p prime n m X) (Q .last) (Q .inserting) (Q .vanishes)
+        (associate (residues p prime) e (vanished-some prime lanes Q)) (S .polynomial) (S .Y) (S .monic) (S .dual)
+
+    together : size (residues p prime) x + size (residues p prime) (S .polynomial) ≤ 122
+    together =
+        let product : size (residues p prime) (polynomials (residues p prime) .mul x (S .polynomial)) ≤ suc (rank n (U .size) * 15) =
+        made .small (λ j. polynomials (residues p prime) .zero) (λ j h. omega (arith, sized (residues p prime) .size-zero))
+        .certifying-denominator in
+        omega (
+          arith,
+          last-degrees prime lanes (Q .last) .0,
+          size-mul-nonzero (sized (residues p prime)) x (S .polynomial)
+              (associate-nonzero (sized (residues p prime)) (associate (residues p prime) e (vanished-some prime lanes Q))
+              (vanished-some prime lanes Q)) (S .dual .nonzero),
+        )
+
+    held-w : Holds (residues p prime) (words p prime w 0 (122 - found)) (S .polynomial)
+    held-w = held-fewer p prime w 0 128 (122 - found) (S .holds-w) (omega arith)
+        (held-zero-from p prime w 0 128 (122 - found) (S .holds-w) (omega (arith, together, most)))
+      where
+        most : found ≤ size (residues p prime) x
+        most = ends-most d 0 128 found (size (residues p prime) x) (has .ends)
+            (held-zero-from p prime d 0 128 (size (residues p prime) x) (D .denominator) (omega arith))
+
+  pub solution-found : {product output : List ℕ} → Prime p → m ≤ 8 → Multiplied p d found w (122 - found) product → ValidOutput p output
+      → SolutionFound p n m input L tail t (storedSolution n m d product rows output)
+  solution-found {product} {output} prime₀ columns multiplied valid = record {
+    below = has .vector-below;
+    valid = stored-valid p prime₀ n m lanes columns d product rows output valid (has .below) (multiplied .below) (solved .rows-below);
+    holds = λ prime X U Q. record {
+      d = x prime X U Q;
+      w = polynomials (residues p prime) .mul (x prime X U Q) (S prime X U Q .polynomial);
+      Z = S prime X U Q .Y;
+      unfinished = made prime X U Q;
+      holds-d = record { at = λ j. D prime X U Q .denominator .at j ∙ stored-d p prime₀ n m lanes columns d product rows output valid prime j };
+      holds-w = record {
+        at = λ j.
+            multiplied .holds prime (x prime X U Q) (S prime X U Q .polynomial)
+            (held-fewer p prime d 0 128 found (D prime X U Q .denominator) (has .ends .within) (has .ends .behind))
+            (held-w prime X U Q) .at j
+            ∙ stored-w p prime₀ n m lanes columns d product rows output valid prime j;
+      };
+      holds-Z = λ i h. record {
+        at = λ j. S prime X U Q .holds-Y i h .at j ∙ stored-Z p prime₀ n m lanes columns d product rows output valid prime i h j;
+      };
+      holds-vector = D prime X U Q .vector;
+    };
+  }

@@ -1,0 +1,93 @@
+// The right side of a system inserted into its last level, and the second system: what makes a certificate right.
+pub mod absence;
+pub mod solution;
+
+use crate::absence::find_absence;
+use crate::solution::find_solution;
+use lattice::insert;
+use levels::next::start_column;
+use residue::modulus::Modulus;
+use vector::clear;
+ghost use mathlib.Core.Path.{_≡_};
+ghost use Prim.Native.Nat.{_≤_};
+ghost use lib.ListN.{length};
+ghost use Rattle.residue.specs.Modulus.{ValidModulus};
+ghost use Rattle.lattice.specs.Memory.{level, ValidLevel};
+ghost use Rattle.areas.specs.Input.{ValidInput};
+ghost use Rattle.areas.specs.Output.{ValidOutput};
+ghost use Rattle.witness.specs.Witnessed.{HasLast, Witnessed};
+
+// Of a system of n rows and m columns whose last level is given. Where there is a solution: d, w and Z to the output, d b to t, and
+// true. Where there is none: q to the output, and false.
+pub fn find_witness(
+    input: &[u64],
+    n: usize,
+    m: usize,
+    slots: &[u64],
+    sizes: &[usize],
+    inverses: &[u64],
+    t: &mut [u64],
+    output: &mut [u64],
+    modulus: Modulus,
+) -> bool
+    requires { ⌜ ValidModulus modulus × (n ≤ 8) × (m ≤ 8) × ValidInput (modulus .p) (now input) ⌝ }
+    requires level { ⌜ ValidLevel (modulus .p) (level (now slots) (now sizes) (now inverses)) ⌝ }
+    requires last { ⌜ HasLast (modulus .p) n m (now input) (level (now slots) (now sizes) (now inverses)) ⌝ }
+    requires areas { ⌜ (length (now t) ≡ 1088) × ValidOutput (modulus .p) (now output) ⌝ }
+    ensures { λ r. ⌜ Witnessed (modulus .p) n m (now (input .entry))
+        (level (now (slots .entry)) (now (sizes .entry)) (now (inverses .entry))) (now (t .exit)) (now (output .exit)) r ⌝ }
+{
+    let mut next = [0u64; 2048];
+    let mut heights = [0usize; 16];
+    let mut reciprocals = [0u64; 8];
+    let mut block = [0u64; 1088];
+    let mut tail = [0u64; 256];
+    let start = start_column(
+        slots,
+        sizes,
+        inverses,
+        input,
+        128 * m,
+        &mut next,
+        &mut heights,
+        &mut reciprocals,
+        &mut block,
+        &mut tail,
+        modulus,
+    );
+    let hand = insert(
+        &mut next,
+        &mut heights,
+        &mut reciprocals,
+        &mut block,
+        &mut tail,
+        start,
+        modulus,
+    );
+    if hand.size == 0 {
+        find_solution(
+            input,
+            n,
+            m,
+            &next,
+            &heights,
+            &reciprocals,
+            &tail,
+            t,
+            output,
+            modulus,
+        );
+        return true;
+    }
+    find_absence(
+        slots,
+        sizes,
+        inverses,
+        n,
+        7 - (hand.size - 1) % 8,
+        output,
+        modulus,
+    );
+    clear(t, 0, 1088);
+    false
+}

@@ -1,0 +1,30 @@
+// Words as the bytes of a file, four to a word, lowest first.
+ghost use mathlib.Core.Path.{_≡_};
+ghost use Prim.Native.Nat.{_+_, _*_, _/_, _%_, _≤_};
+ghost use lib.ListN.{length, set};
+ghost use Rattle.words.specs.Bytes.{bytesOf};
+ghost use Rattle.writer.specs.Writing.{overwritten};
+
+// The four bytes of a word, from the place `at` on.
+fn write_word(word: u32, bytes: &mut [u8], at: usize)
+    requires { ⌜ at + 4 ≤ length (now bytes) ⌝ }
+    ensures { λ _. ⌜ now (bytes .exit) ≡ set (set (set (set (now (bytes .entry)) at (word % 256)) (at + 1) (word / 256 % 256))
+        (at + 2) (word / 65536 % 256)) (at + 3) (word / 16777216) ⌝ }
+{
+    bytes[at] = (word % 256) as u8;
+    bytes[at + 1] = (word / 256 % 256) as u8;
+    bytes[at + 2] = (word / 65536 % 256) as u8;
+    bytes[at + 3] = (word / 16777216) as u8;
+}
+
+// The words as bytes, over the first of those lent.
+pub fn write_bytes(words: &[u32], bytes: &mut [u8])
+    requires { ⌜ 4 * length (now words) ≤ length (now bytes) ⌝ }
+    ensures { λ _. ⌜ now (bytes .exit) ≡ overwritten (bytesOf (now (words .entry))) (now (bytes .entry)) ⌝ }
+{
+    let mut i: usize = 0;
+    while i < words.len() {
+        write_word(words[i], bytes, 4 * i);
+        i = i + 1;
+    }
+}
