@@ -1,0 +1,144 @@
+//! The text cut into tokens, each with its position.
+
+use crate::source::{Fault, Position};
+
+#[derive(PartialEq)]
+pub enum Token {
+    /// Decimal digits, as many as there are: coefficients may have any length.
+    Number(String),
+    /// The digits of a raised number, as in x².
+    Superscript(String),
+    Name(String),
+    Symbol(char),
+    EndOfLine,
+    EndOfText,
+}
+
+struct Lexeme {
+    token: Token,
+    at: Position,
+}
+
+const SUPERSCRIPTS: [char; 10] = ['⁰', '¹', '²', '³', '⁴', '⁵', '⁶', '⁷', '⁸', '⁹'];
+
+/// A place in the sequence of tokens. The last token is the end of the text, and is never passed.
+pub struct Cursor {
+    lexemes: Vec<Lexeme>,
+    next: usize,
+}
+
+impl Cursor {
+    pub fn new(text: &str) -> Cursor {
+        let mut lexemes = Vec::new();
+        for (index, line) in text.split('\n').enumerate() {
+            lex_line(line, index + 1, &mut lexemes);
+        }
+        if let Some(last) = lexemes.last_mut() {
+            last.token = Token::EndOfText;
+        }
+        Cursor { lexemes, next: 0 }
+    }
+
+    pub fn token(&self) -> &Token {
+        &self.lexemes[self.next].token
+    }
+
+    pub fn advance(&mut self) {
+        if *self.token() != Token::EndOfText {
+            self.next += 1;
+        }
+    }
+
+    pub fn is_name(&self, name: &str) -> bool {
+        matches!(self.token(), Token::Name(found) if found == name)
+    }
+
+    pub fn is_symbol(&self, symbol: char) -> bool {
+        *self.token() == Token::Symbol(symbol)
+    }
+
+    /// Passes this symbol, if it is next.
+    pub fn accept(&mut self, symbol: char) -> bool {
+        let found = self.is_symbol(symbol);
+        if found {
+            self.advance();
+        }
+        found
+    }
+
+    pub fn is_line_end(&self) -> bool {
+        matches!(self.token(), Token::EndOfLine | Token::EndOfText)
+    }
+
+    pub fn skip_empty_lines(&mut self) {
+        while *self.token() == Token::EndOfLine {
+            self.advance();
+        }
+    }
+
+    /// The next token is not what was expected.
+    pub fn fault(&self, expected: &str) -> Fault {
+        self.fault_found(expected, describe(self.token()))
+    }
+
+    /// The same, where there is more to say of the token.
+    pub fn fault_found(&self, expected: &str, found: String) -> Fault {
+        Fault { at: self.lexemes[self.next].at, expected: expected.to_string(), found }
+    }
+}
+
+fn describe(token: &Token) -> String {
+    match token {
+        Token::Number(text) | Token::Name(text) => format!("`{text}`"),
+        Token::Superscript(digits) => format!("a raised {digits}"),
+        Token::Symbol(symbol) => format!("`{symbol}`"),
+        Token::EndOfLine => "the end of the line".to_string(),
+        Token::EndOfText => "the end of the text".to_string(),
+    }
+}
+
+/// The tokens of one line up to its comment, and the line's end.
+fn lex_line(line: &str, number: usize, lexemes: &mut Vec<Lexeme>) {
+    let content = line.split('#').next().unwrap_or("").trim_end();
+    let characters: Vec<char> = content.chars().collect();
+    let mut index = 0;
+    while index < characters.len() {
+        let at = Position { line: number, column: index + 1 };
+        if characters[index].is_whitespace() {
+            index += 1;
+        } else {
+            let (token, length) = first_token(&characters[index..]);
+            lexemes.push(Lexeme { token, at });
+            index += length;
+        }
+    }
+    lexemes.push(Lexeme { token: Token::EndOfLine, at: Position { line: number, column: index + 1 } });
+}
+
+/// The token that these characters begin with, and how many of them it takes. Signs that papers use are taken for the plain ones.
+fn first_token(characters: &[char]) -> (Token, usize) {
+    let run = |member: fn(char) -> bool| characters.iter().take_while(|c| member(**c)).collect::<String>();
+    let length = |text: &str| text.chars().count();
+    match characters[0] {
+        c if c.is_ascii_digit() => {
+            let digits = run(|c| c.is_ascii_digit());
+            (Token::Number(digits.clone()), length(&digits))
+        }
+        c if SUPERSCRIPTS.contains(&c) => {
+            let raised = run(|c| SUPERSCRIPTS.contains(&c));
+            (Token::Superscript(raised.chars().map(lowered).collect()), length(&raised))
+        }
+        c if c.is_alphabetic() => {
+            let name = run(char::is_alphabetic);
+            (Token::Name(name.clone()), length(&name))
+        }
+        '·' => (Token::Symbol('*'), 1),
+        '−' => (Token::Symbol('-'), 1),
+        c => (Token::Symbol(c), 1),
+    }
+}
+
+fn lowered(superscript: char) -> char {
+    let digit = SUPERSCRIPTS.iter().position(|s| *s == superscript).unwrap_or(0);
+    char::from(b'0' + digit as u8)
+}

@@ -1,0 +1,133 @@
+//! Document 01's refusals of files that are not well formed: their numbers, and what they mean in a sentence.
+
+use crate::values::{modulus_fault, CERTIFICATE_SIZE, LARGEST_MODULUS, LONGEST_SYSTEM, MOST_COLUMNS, MOST_ROWS, SYSTEM_SIZE};
+use crate::words::{has_kind, Kind};
+
+/// What is read.
+#[derive(Clone, Copy, PartialEq)]
+pub enum Side {
+    System,
+    Certificate,
+}
+
+/// What is wrong, with the values that a sentence about it needs.
+pub enum Reason {
+    Head { found: u32 },
+    Modulus { found: u32 },
+    Shape { rows: u32, columns: u32 },
+    Missing { due: Kind },
+    Kind { due: Kind, found: u32 },
+    Size { found: u32 },
+    Range { found: u32, modulus: u32 },
+    Leading,
+    Count { found: u32, words: usize },
+    Behind,
+    Bytes { found: usize },
+}
+
+pub struct Refusal {
+    pub side: Side,
+    pub reason: Reason,
+    pub place: usize,
+}
+
+impl Side {
+    /// The most coefficients of a polynomial.
+    pub fn size(self) -> usize {
+        match self {
+            Side::System => SYSTEM_SIZE,
+            Side::Certificate => CERTIFICATE_SIZE,
+        }
+    }
+
+    fn name(self) -> &'static str {
+        match self {
+            Side::System => "sheet",
+            Side::Certificate => "card",
+        }
+    }
+}
+
+impl Refusal {
+    /// The number in document 01's table. On a certificate, numbers are larger by 20.
+    pub fn number(&self) -> u32 {
+        let number = match self.reason {
+            Reason::Head { .. } => 1,
+            Reason::Modulus { .. } => 2,
+            Reason::Shape { .. } => 3,
+            Reason::Missing { .. } => 4,
+            Reason::Kind { .. } => 5,
+            Reason::Size { .. } => 6,
+            Reason::Range { .. } => 7,
+            Reason::Leading => 8,
+            Reason::Count { .. } | Reason::Behind => 9,
+            Reason::Bytes { .. } => 10,
+        };
+        if self.side == Side::System {
+            number
+        } else {
+            number + 20
+        }
+    }
+
+    /// The refusal as all programs print it, then the file's name and the sentence.
+    pub fn report(&self, file: &str) -> String {
+        format!("refused {} at {}\n{file}: {}\n", self.number(), self.place, self.sentence())
+    }
+
+    fn sentence(&self) -> String {
+        let word = format!("word {}", self.place);
+        match self.reason {
+            Reason::Head { found } => format!("{word} is {found:08X}, and {}", self.head(found)),
+            Reason::Modulus { found } => {
+                let fault = modulus_fault(found).unwrap_or_default();
+                format!("p in {word} must be a prime from 2 to {LARGEST_MODULUS}, and is {fault}")
+            }
+            Reason::Shape { rows, columns } => {
+                format!("{word} must say 1 to {MOST_ROWS} rows and 1 to {MOST_COLUMNS} columns, and says {rows} and {columns}")
+            }
+            Reason::Missing { due } => format!("{word}, which should be {}, is missing", self.due(due)),
+            Reason::Kind { due, found } => format!("{word} should be {}, and is {found:08X}", self.due(due)),
+            Reason::Size { found } => format!(
+                "{word} begins a polynomial of {found} coefficients, and one of a {} has at most {}",
+                self.side.name(),
+                self.side.size()
+            ),
+            Reason::Range { found, modulus } => {
+                format!("{word} is the coefficient {found}, and must be below p, which is {modulus}")
+            }
+            Reason::Leading => format!("{word} is the last coefficient of a polynomial, and must not be 0"),
+            Reason::Count { found, words } => format!("{word} is the end of {words} words, and says {found}"),
+            Reason::Behind => format!("{word} stands behind the end word"),
+            Reason::Bytes { found } => bytes_sentence(found),
+        }
+    }
+
+    fn head(&self, found: u32) -> &'static str {
+        match self.side {
+            Side::System if has_kind(found, Kind::CertificateHead) => {
+                "begins a card, not a sheet: `sheet show SHEET CARD` shows a card"
+            }
+            Side::System => "the head of a sheet has 1 as its first digit and 0 as its second",
+            Side::Certificate => "the head of a card is 50000001 for a solution, 50000002 for an absence",
+        }
+    }
+
+    fn due(&self, kind: Kind) -> String {
+        match kind {
+            Kind::SystemHead | Kind::CertificateHead => format!("the head of a {}", self.side.name()),
+            Kind::Start => "the start of a polynomial (2.......)".to_string(),
+            Kind::Coefficient => "a coefficient (3.......)".to_string(),
+            Kind::End => "the end (4.......)".to_string(),
+        }
+    }
+}
+
+fn bytes_sentence(found: usize) -> String {
+    let most = 4 * LONGEST_SYSTEM;
+    if found > most {
+        format!("the file of a sheet has at most {most} bytes, and this one has more")
+    } else {
+        format!("the file of a sheet has four bytes for each word, and this one has {found} in all")
+    }
+}
