@@ -1,13 +1,13 @@
 -- The hand (column | 1) beside a level with tails 0, in the terms of `lattice` and `reduction`: memory is in order, an insertion
 -- can start, and it holds the state in which `reduction` begins to insert the column.
-use Prim.Native.Nat.{ℕ, zero, suc, _+_, _-_, _*_, _%_, _<_, _≤_}
-use mathlib.Core.Path.{_≡_, refl, sym, _∙_, ap, subst}
-use mathlib.Core.Logic.{inl, inr, ⊎-elim}
+use Prim.Native.Nat.{ℕ, zero, suc, _+_, _-_, _%_, _<_, _≤_}
+use mathlib.Core.Path.{_≡_, refl, sym, _∙_, ap}
+use mathlib.Core.Logic.{inr, ⊎-elim}
 use mathlib.Core.List.{List}
 use native.Mathlib.Nat.{zero-add, zero-mod, mod-eq-of-lt}
 use native.Mathlib.Omega.{arith}
 use native.Mathlib.Decide.{ℕ-discrete}
-use lib.ListN.{length, getD, set, length-set, List·getD-eq-default}
+use lib.ListN.{length, getD, length-set, List·getD-eq-default}
 use lib.Seq.{getD-set-same, getD-set-other}
 use Rattle.algebra.specs.Series.{unit}
 use Rattle.algebra.specs.Polynomial.{Polynomial, polynomials, coefficients-one}
@@ -18,8 +18,8 @@ use Rattle.reduction.specs.Slots.{Slots}
 use Rattle.reduction.specs.Inserting.{cleared, begin}
 use Rattle.reduction.specs.Holds.{Holds}
 use Rattle.reduction.specs.Flat.{Flat}
-use Rattle.lattice.specs.Word.{residue, words, words-inside, words-behind, words-first, residue-zero, residue-one}
-use Rattle.lattice.specs.Memory.{height, Ends, ZeroFrom, Level, tailSize, memory, places, ValidHand}
+use Rattle.lattice.specs.Word.{residue, words, words-inside, words-behind, words-first, residue-one}
+use Rattle.lattice.specs.Memory.{height, Ends, ZeroFrom, Level, tailSize, memory, ValidHand}
 use Rattle.lattice.specs.Holding.{HoldsSlots, HoldsState}
 use Rattle.lattice.specs.Range.{words-zero, ends-same}
 use Rattle.lattice.specs.Reading.{flat-same}
@@ -114,7 +114,8 @@ module _ {p : ℕ} (prime₀ : Prime p) (column block tail : List ℕ) (size : �
   laid-valid L = record {
     room = omega (arith, length-stored (λ j. getD column (0 + j) 0) zeros 0 128, zeros-length);
     tail-room = omega (arith, length-set tail-zeros 0 1, tail-zeros-length);
-    block = ends-same p prime₀ column block′ 0 0 128 1088 (laid-words prime₀) size (omega (arith, valid .ends .within)) (valid .ends);
+    block = ends-same p prime₀ column block′ 0 0 128 1088 (laid-words prime₀) size (omega (arith, valid .ends .within))
+        (valid .ends);
     leading = λ some.
         sym (mod-eq-of-lt (valid .below (size - 1)))
         ∙ ap (λ w. w % p) (sym (ap (λ i. getD block′ i 0) (sym (zero-add (size - 1)))

@@ -1,6 +1,6 @@
 -- A level copied with tails 0, in the terms of `lattice` and `reduction`: it is in order, and holds the same slots with tails 0.
 use Prim.Native.Nat.{ℕ, _+_, _-_, _*_, _/_, _%_, _<_, _≤_}
-use mathlib.Core.Path.{_≡_, refl, sym, _∙_, ap, subst}
+use mathlib.Core.Path.{_≡_, sym, _∙_, ap, subst}
 use mathlib.Core.Logic.{_⊎_, inl, inr, ⊎-elim}
 use native.Mathlib.Nat.{zero-mod, mod-eq-of-lt}
 use native.Mathlib.Omega.{arith}
@@ -19,7 +19,6 @@ use Rattle.reduction.specs.Inserting.{cleared}
 use Rattle.reduction.specs.Holds.{Holds}
 use Rattle.reduction.specs.Flat.{Flat, flat}
 use Rattle.reduction.specs.Held.{Held}
-use Rattle.lattice.specs.Word.{words}
 use Rattle.lattice.specs.Memory.{row, height, Ends, Level, slotSize, tailSize, ValidSlot, ValidLevel}
 use Rattle.lattice.specs.Holding.{HoldsSlots}
 use Rattle.lattice.specs.Range.{words-same, words-zero}
@@ -95,7 +94,8 @@ module _ {p : ℕ} {L L′ : Level} (copies : Copies p L L′) where
           let same : slotSize L′ q ≡ k = copies .sizes q h in record {
             block = subst (Ends p (L′ .slots) (256 * q) 128) (sym same) record {
               within = old .block .within;
-              last = λ some. subst (λ w. 0 < w % p) (sym (copies .blocks q (k - 1) h (omega (arith, old .block .within)))) (old .block .last some);
+              last = λ some. subst (λ w. 0 < w % p) (sym (copies .blocks q (k - 1) h (omega (arith, old .block .within))))
+                  (old .block .last some);
               behind = λ j l lt. ap (λ w. w % p) (copies .blocks q j h lt) ∙ old .block .behind j l lt;
             };
             pivot = λ some. ap row same ∙ old .pivot (omega arith);
@@ -103,7 +103,8 @@ module _ {p : ℕ} {L L′ : Level} (copies : Copies p L L′) where
                 copies .inverses q h
                 ∙ old .inverse (omega arith)
                 ∙ ap (λ w. modulo p .inverse w)
-                (sym (ap (λ i. getD (L′ .slots) (256 * q + (i - 1)) 0) same ∙ copies .blocks q (k - 1) h (omega (arith, old .block .within))));
+                (sym (ap (λ i. getD (L′ .slots) (256 * q + (i - 1)) 0) same
+                ∙ copies .blocks q (k - 1) h (omega (arith, old .block .within))));
             tail-within = omega (arith, copies .tail-sizes q h);
             tail = λ j l lt. ap (λ w. w % p) (copies .tails q j h lt) ∙ zero-mod p;
           }

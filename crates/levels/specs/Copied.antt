@@ -9,7 +9,7 @@ use lib.ListN.{length, getD, set, length-set}
 use lib.Seq.{getD-set-same, getD-set-other}
 use Rattle.vector.specs.Bound.{AtMost}
 use Rattle.vector.specs.Stored.{stored, length-stored, stored-inside, stored-outside, below-or-not}
-use Rattle.lattice.specs.Memory.{Level, level, slotSize, tailSize}
+use Rattle.lattice.specs.Memory.{Level, level, slotSize}
 
 -- the first n slots of L are copied to L′, where all else is 0
 pub record Copied (L : Level) (n : ℕ) (L′ : Level) : Type 0 where
@@ -85,7 +85,8 @@ module _ {L : Level} {n : ℕ} {next sizes inverses : List ℕ} (so-far : Copied
       blocks : (q j : ℕ) → q < n + 1 → j < slotSize L q → slotSize L q ≤ 256 → Dec (q ≡ n)
           → getD next′ (256 * q + j) 0 ≡ getD (L .slots) (256 * q + j) 0
       blocks q j h lt le (yes same) =
-          subst (λ x. j < slotSize L x → getD next′ (256 * x + j) 0 ≡ getD (L .slots) (256 * x + j) 0) (sym same) (inside-block j) lt
+          subst (λ x. j < slotSize L x → getD next′ (256 * x + j) 0 ≡ getD (L .slots) (256 * x + j) 0) (sym same)
+          (inside-block j) lt
       blocks q j h lt le (no other) = apart q j (omega arith) other ∙ so-far .blocks q j (omega arith) lt
 
       others : (q j : ℕ) → j < 256 → (q < n + 1 → slotSize L q ≤ j) → Dec (q ≡ n) → getD next′ (256 * q + j) 0 ≡ 0

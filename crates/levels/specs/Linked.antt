@@ -1,6 +1,6 @@
 -- A column inserted into a level in memory: the level after it and the kernel, linked to the level before as `reduction` has it.
-use Prim.Native.Nat.{ℕ, suc, _+_, _%_, _<_, _≤_}
-use mathlib.Core.Path.{_≡_, refl, sym, _∙_, ap, subst}
+use Prim.Native.Nat.{ℕ, suc, _<_, _≤_}
+use mathlib.Core.Path.{_≡_, refl, sym, _∙_, subst}
 use mathlib.Core.List.{List}
 use native.Mathlib.Omega.{arith}
 use native.Mathlib.Decide.{ℕ-discrete}
@@ -11,7 +11,7 @@ use Rattle.modular.specs.Prime.{Prime}
 use Rattle.modular.specs.Residue.{residues}
 use Rattle.reduction.specs.Replace.{replace-here}
 use Rattle.reduction.specs.Slots.{Slots, Filled, unweighted, put, put-same, put-here, same-refl}
-use Rattle.reduction.specs.Trace.{State, Under, trace-under}
+use Rattle.reduction.specs.Trace.{Under, trace-under}
 use Rattle.reduction.specs.Insert.{Stuck}
 use Rattle.reduction.specs.Inserting.{begin, Inserting}
 use Rattle.reduction.specs.Holds.{Holds}
@@ -40,8 +40,8 @@ pub record AfterColumn (p : ℕ) (M : Memory) (L : Level) (kernel : List ℕ) (s
   pub valid : ValidLevel p L
   pub kernel-below : (j : ℕ) → j < 128 → getD kernel j 0 < p
   pub kernel-ends : Ends p kernel 0 128 size
-  pub linked : (prime : Prime p) (n δ : ℕ) (U : Slots (Polynomial (residues p prime))) (a : ℕ → Polynomial (residues p prime)) (d : ℕ)
-      → Filled (sized (residues p prime)) n unweighted U → d ≤ suc δ
+  pub linked : (prime : Prime p) (n δ : ℕ) (U : Slots (Polynomial (residues p prime))) (a : ℕ → Polynomial (residues p prime))
+      (d : ℕ) → Filled (sized (residues p prime)) n unweighted U → d ≤ suc δ
       → HoldsState p prime n unweighted M (begin (polynomials (residues p prime)) n U a d) → Linked p prime n δ a U L kernel
 
 -- L1: blocks stay within 16 degrees, so what an insertion leaves has room in a slot
@@ -61,7 +61,8 @@ inserts-stopped {p} prime {M} {M′} valid small done = record {
       hand = omega arith;
     }) (R .trace)
 
-module _ {p : ℕ} {M M′ : Memory} (done : Inserts p M M′) {L : Level} {kernel : List ℕ} {size : ℕ} (settled : Settled p M′ L kernel size) where
+module _ {p : ℕ} {M M′ : Memory} (done : Inserts p M M′) {L : Level} {kernel : List ℕ} {size : ℕ}
+    (settled : Settled p M′ L kernel size) where
   module _ (prime : Prime p) (n δ : ℕ) (U : Slots (Polynomial (residues p prime))) (a : ℕ → Polynomial (residues p prime)) (d : ℕ)
       (full : Filled (sized (residues p prime)) n unweighted U) (small : d ≤ suc δ)
       (holds : HoldsState p prime n unweighted M (begin (polynomials (residues p prime)) n U a d)) where
@@ -79,7 +80,8 @@ module _ {p : ℕ} {M M′ : Memory} (done : Inserts p M M′) {L : Level} {kern
           polynomial = X .now .hand n;
           holds = subst (λ l. HoldsSlots p prime n unweighted l (X .now .slots)) (sym (same .0)) (R .holds .slots);
           holds-kernel = record { at = λ e. R .holds .hand .tail .at e ∙ sym (same .1 prime e) };
-          link = link-kernel (sized (residues p prime)) n δ a U full X (X .now .slots) (holds-zero p prime (done .valid .hand) (R .holds) none)
+          link = link-kernel (sized (residues p prime)) n δ a U full X (X .now .slots)
+              (holds-zero p prime (done .valid .hand) (R .holds) none)
               (same-refl (X .now .slots)) (X .now .hand n) refl;
         }
 
@@ -96,7 +98,10 @@ module _ {p : ℕ} {M M′ : Memory} (done : Inserts p M M′) {L : Level} {kern
           slots = U′;
           polynomial = polynomials (residues p prime) .zero;
           holds = fills .1 prime n unweighted (X .now) (R .holds);
-          holds-kernel = record { at = λ e. coefficients-zero (residues p prime) e ∙ sym (words-zero p prime kernel 0 128 0 (ends .behind) e (omega arith)) };
+          holds-kernel = record {
+            at = λ e. coefficients-zero (residues p prime) e
+                ∙ sym (words-zero p prime kernel 0 128 0 (ends .behind) e (omega arith));
+          };
           link = link-put (sized (residues p prime)) n δ a U full X U′ K
               (put-same (X .now .slots) q (X .now .hand) (X .now .size) (P .inside))
               (λ k l. put-here (X .now .slots) q (X .now .hand) (X .now .size) k)

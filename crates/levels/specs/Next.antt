@@ -30,7 +30,8 @@ pub record NextLevel (p : ℕ) (L : Level) (input : List ℕ) (at : ℕ) (L′ :
       → ((i : ℕ) → i < n → size (residues p prime) (a i) ≤ suc δ) → HoldsSlots p prime n unweighted L U
       → Flat (residues p prime) n 8 unweighted (words p prime input at 128) a → Linked p prime n δ a U L′ kernel
 
-module _ {p : ℕ} {L : Level} {input : List ℕ} {at : ℕ} {M : Memory} (started : Started p L input at M) (valid : ValidLevel p L) where
+module _ {p : ℕ} {L : Level} {input : List ℕ} {at : ℕ} {M : Memory} (started : Started p L input at M)
+    (valid : ValidLevel p L) where
   -- the hand is no higher than the column
   height-small : (prime : Prime p) (n δ : ℕ) {s : State (Polynomial (residues p prime))} → HoldsState p prime n unweighted M s
       → ((i : ℕ) → i < n → size (residues p prime) (s .hand i) ≤ suc δ) → height (M .hand .size) ≤ suc δ
@@ -47,7 +48,8 @@ module _ {p : ℕ} {L : Level} {input : List ℕ} {at : ℕ} {M : Memory} (start
   next-level {L′} {kernel} {found} room after = record {
     valid = after .valid;
     below = λ i. ⊎-elim (after .kernel-below i)
-        (λ past. let none : getD kernel i 0 ≡ 0 = List·getD-eq-default kernel 0 (omega (arith, room)) in omega (arith, valid .below 0))
+        (λ past. let none : getD kernel i 0 ≡ 0 = List·getD-eq-default kernel 0 (omega (arith, room)) in
+        omega (arith, valid .below 0))
         (below-or-not i 128);
     ends = after .kernel-ends;
     linked = λ prime n δ U a small holds A.

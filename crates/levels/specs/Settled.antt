@@ -1,8 +1,7 @@
 -- What becomes of the hand after an insertion. Stuck: it is among the slots, and the kernel is 0. Block zero: the slots stay, and
 -- the kernel is its tail.
 use Prim.Native.Nat.{ℕ, _+_, _%_, _<_, _≤_}
-use mathlib.Core.Path.{_≡_, refl, sym, _∙_, ap, subst}
-use mathlib.Core.Logic.{inr}
+use mathlib.Core.Path.{_≡_, refl, sym, _∙_, ap}
 use mathlib.Core.List.{List}
 use native.Mathlib.Nat.{zero-add, zero-mod, mod-lt}
 use native.Mathlib.Omega.{arith}
@@ -83,7 +82,8 @@ module _ {p : ℕ} (prime₀ : Prime p) {M : Memory} (valid : Valid p M) (stoppe
       ends = found-ends p positive (M .tail) 256 128 (omega arith) behind size found
 
       same : (prime : Prime p) (x : ℕ) → words p prime k 0 128 x ≡ words p prime (M .tail) 0 256 x
-      same prime x = ap (λ w. words p prime w 0 128 x) e ∙ words-slot p prime (M .tail) kernel 0 128 128 256 (omega arith) (omega arith)
+      same prime x = ap (λ w. words p prime w 0 128 x) e
+          ∙ words-slot p prime (M .tail) kernel 0 128 128 256 (omega arith) (omega arith)
           (valid .hand .tail-room) (omega arith) behind (λ j h lt. absurd (omega arith)) x
 
       word : (j : ℕ) → j < 128 → getD k (0 + j) 0 ≡ getD (M .tail) j 0 % p

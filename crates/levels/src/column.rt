@@ -25,7 +25,8 @@ pub fn insert_column(
     requires memory { ⌜ Valid (modulus .p) (memory (level (now slots) (now sizes) (now inverses)) (now block) (now tail) hand) ⌝ }
     requires starts { ⌜ Starts (modulus .p) (memory (level (now slots) (now sizes) (now inverses)) (now block) (now tail) hand) ⌝ }
     ensures { λ r. ⌜ AfterColumn (modulus .p)
-        (memory (level (now (slots .entry)) (now (sizes .entry)) (now (inverses .entry))) (now (block .entry)) (now (tail .entry)) hand)
+        (memory (level (now (slots .entry)) (now (sizes .entry)) (now (inverses .entry)))
+        (now (block .entry)) (now (tail .entry)) hand)
         (level (now (slots .exit)) (now (sizes .exit)) (now (inverses .exit))) (now (kernel .exit)) r ⌝ }
 {
     let left = insert(slots, sizes, inverses, block, tail, hand, modulus);

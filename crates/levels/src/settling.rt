@@ -25,9 +25,11 @@ pub fn settle(
 ) -> usize
     requires { ⌜ ValidModulus modulus × (128 ≤ length (now kernel)) ⌝ }
     requires memory { ⌜ Valid (modulus .p) (memory (level (now slots) (now sizes) (now inverses)) (now block) (now tail) hand) ⌝ }
-    requires stopped { ⌜ Stopped (modulus .p) (memory (level (now slots) (now sizes) (now inverses)) (now block) (now tail) hand) ⌝ }
+    requires stopped { ⌜ Stopped (modulus .p)
+        (memory (level (now slots) (now sizes) (now inverses)) (now block) (now tail) hand) ⌝ }
     ensures { λ r. ⌜ Settled (modulus .p)
-        (memory (level (now (slots .entry)) (now (sizes .entry)) (now (inverses .entry))) (now (block .entry)) (now (tail .entry)) hand)
+        (memory (level (now (slots .entry)) (now (sizes .entry)) (now (inverses .entry)))
+        (now (block .entry)) (now (tail .entry)) hand)
         (level (now (slots .exit)) (now (sizes .exit)) (now (inverses .exit))) (now (kernel .exit)) r ⌝ }
 {
     if hand.size == 0 {

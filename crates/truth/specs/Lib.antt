@@ -9,3 +9,4 @@ pub mod Accepted
 pub mod Demand
 pub mod Denominators
 pub mod Cases
+pub mod Places

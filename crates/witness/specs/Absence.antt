@@ -1,7 +1,7 @@
 -- The certificate of absence: stuck at row h, the second system of the last level with row h of the blocks for tails gives w and Y;
 -- the certificate is w at h, minus Y elsewhere.
-use Prim.Native.Nat.{ℕ, suc, _+_, _*_, _%_, _<_, _≤_}
-use mathlib.Core.Path.{_≡_, refl, sym, _∙_, ap, subst}
+use Prim.Native.Nat.{ℕ, _+_, _*_, _%_, _<_, _≤_}
+use mathlib.Core.Path.{_≡_, refl, sym, _∙_, subst}
 use mathlib.Core.Logic.{inl, inr, ⊎-elim}
 use mathlib.Core.List.{List}
 use native.Mathlib.Omega.{arith}
@@ -34,7 +34,7 @@ use Rattle.levels.specs.Cleared.{copied-copies, copies-valid, copies-holds}
 use Rattle.second.specs.RowTaken.{RowTaken}
 use Rattle.second.specs.Solved.{HasTops, HoldsSecond, SecondSolved}
 use Rattle.witness.specs.Words.{stored-below, words-copied, holds-negated}
-use Rattle.witness.specs.Inserted.{HoldsStuck, HasStuck, slots-high, last-degrees}
+use Rattle.witness.specs.Inserted.{HoldsStuck, slots-high, last-degrees}
 
 -- the level L′ has the slots of L, with row h of the blocks for tails
 pub record WithRow (h : ℕ) (L L′ : Level) : Type 0 where
@@ -48,8 +48,8 @@ pub record AbsenceFound (p n : ℕ) (L : Level) (h : ℕ) (output : List ℕ) : 
       → HoldsStuck p prime n m X U L h → HoldsAbsence p prime (systemOf p prime n m X) output
 
 -- the same slots as far as anything looks at them, held by the same words
-held-slots-same : {p : ℕ} (prime : Prime p) {n : ℕ} {ω : ℕ → ℕ} {L : Level} {U U′ : Slots (Polynomial (residues p prime))} → Same n U U′
-    → HoldsSlots p prime n ω L U → HoldsSlots p prime n ω L U′
+held-slots-same : {p : ℕ} (prime : Prime p) {n : ℕ} {ω : ℕ → ℕ} {L : Level} {U U′ : Slots (Polynomial (residues p prime))}
+    → Same n U U′ → HoldsSlots p prime n ω L U → HoldsSlots p prime n ω L U′
 held-slots-same {p} prime {n} {ω} {L} {U} {U′} same holds = record {
   size = λ q h. sym (same .sizes q h) ∙ holds .size q h;
   vector = λ q h f.
@@ -58,12 +58,13 @@ held-slots-same {p} prime {n} {ω} {L} {U} {U′} same holds = record {
         block = record {
           lanes = A .block .lanes;
           lane = λ i l. subst
-              (λ x. Holds (residues p prime) (λ e. words p prime (L .slots) (256 * q) 128 (flat 8 i e)) (shift (residues p prime) (ω i) x))
+              (λ x. Holds (residues p prime) (λ e. words p prime (L .slots) (256 * q) 128 (flat 8 i e))
+              (shift (residues p prime) (ω i) x))
               (same .vectors q i h some (omega arith)) (A .block .lane i l);
           beside = A .block .beside;
         };
-        tail = subst (Holds (residues p prime) (words p prime (L .slots) (256 * q + 128) 128)) (same .vectors q n h some (omega arith))
-            (A .tail);
+        tail = subst (Holds (residues p prime) (words p prime (L .slots) (256 * q + 128) 128))
+            (same .vectors q n h some (omega arith)) (A .tail);
       };
 }
 
@@ -125,7 +126,8 @@ abbrev pub storedAbsence : (p n h : ℕ) (w rows output : List ℕ) → List ℕ
 storedAbsence p n h w rows output =
     stored (λ j. getD w (0 + j) 0) (stored (λ j. modulo p .neg (getD rows j 0 % p)) output 0 (128 * n)) (128 * h) 128
 
-module _ (p : ℕ) (prime₀ : Prime p) (n h : ℕ) (lanes : n ≤ 8) (inside : h < 8) (w rows output : List ℕ) (valid : ValidOutput p output) where
+module _ (p : ℕ) (prime₀ : Prime p) (n h : ℕ) (lanes : n ≤ 8) (inside : h < 8) (w rows output : List ℕ)
+    (valid : ValidOutput p output) where
   abbrev first : List ℕ
   first = stored (λ j. modulo p .neg (getD rows j 0 % p)) output 0 (128 * n)
 
@@ -159,10 +161,9 @@ module _ (p : ℕ) (prime₀ : Prime p) (n h : ℕ) (lanes : n ≤ 8) (inside : 
           (⊎-elim (λ lt. inl (omega arith)) (λ ge. inr (omega arith)) (below-or-not i h)) j);
     }
 
--- L9
-pub absence-found : {p n h : ℕ} {L L′ : Level} {w rows output : List ℕ} → Prime p → n ≤ 8 → h < 8 → ValidLevel p L → WithRow h L L′
+stored-found : {p n h : ℕ} {L L′ : Level} {w rows output : List ℕ} → Prime p → n ≤ 8 → h < 8 → ValidLevel p L → WithRow h L L′
     → SecondSolved p n L′ w rows → ValidOutput p output → AbsenceFound p n L h (storedAbsence p n h w rows output)
-absence-found {p} {n} {h} {L} {L′} {w} {rows} {output} prime₀ lanes inside level taken solved valid = record {
+stored-found {p} {n} {h} {L} {L′} {w} {rows} {output} prime₀ lanes inside level taken solved valid = record {
   valid = absence-valid p prime₀ n h lanes inside w rows output valid (solved .w-below);
   holds = λ prime m X U Q.
       let S = stuck-second lanes level taken prime X U Q solved in record {
@@ -179,6 +180,14 @@ absence-found {p} {n} {h} {L} {L′} {w} {rows} {output} prime₀ lanes inside l
             (λ k. polynomials (residues p prime) .neg (S .Y k)) (Q .stuck .at) (S .polynomial)
             (λ _. subst (λ k. HoldsAt p prime (storedAbsence p n h w rows output) k (S .polynomial)) (sym (Q .at))
             (holds-here p prime₀ n h lanes inside w rows output valid prime (S .holds-w)))
-            i (λ ne l. holds-other p prime₀ n h lanes inside w rows output valid prime i l (λ e. ne (e ∙ sym (Q .at))) (S .holds-Y i l)) l;
+            i (λ ne l. holds-other p prime₀ n h lanes inside w rows output valid prime i l (λ e. ne (e ∙ sym (Q .at)))
+            (S .holds-Y i l)) l;
       };
 }
+
+-- L9
+pub absence-found : {p n h : ℕ} {L L′ : Level} {w rows output output′ : List ℕ} → Prime p → n ≤ 8 → h < 8 → ValidLevel p L
+    → WithRow h L L′ → SecondSolved p n L′ w rows → ValidOutput p output → output′ ≡ storedAbsence p n h w rows output
+    → AbsenceFound p n L h output′
+absence-found {p} {n} {h} {L} prime₀ lanes inside level taken solved valid stores =
+    subst (AbsenceFound p n L h) (sym stores) (stored-found prime₀ lanes inside level taken solved valid)

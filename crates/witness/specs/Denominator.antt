@@ -8,6 +8,7 @@ use Rattle.algebra.specs.Polynomial.{Polynomial, polynomials}
 use Rattle.algebra.specs.Size.{size, sized}
 use Rattle.modular.specs.Prime.{Prime}
 use Rattle.modular.specs.Residue.{residues}
+use Rattle.vector.specs.Bound.{AtMost}
 use Rattle.vector.specs.Stored.{stored}
 use Rattle.reduction.specs.Slots.{unweighted}
 use Rattle.reduction.specs.Euclidean.{associate-size}
@@ -49,10 +50,13 @@ pub record HasDenominator (p m : ℕ) (input tail d t : List ℕ) (found : ℕ) 
 abbrev pub rightWords : List ℕ → ℕ → List ℕ → List ℕ
 rightWords input m l = stored (λ j. getD input (128 * m + j) 0) l 0 128
 
-pub right-below : {p : ℕ} → Prime p → (input : List ℕ) (m : ℕ) (l : List ℕ) → ((i : ℕ) → getD input i 0 < p) → ((i : ℕ) → getD l i 0 < p)
-    → (i : ℕ) → getD (rightWords input m l) i 0 < p
-right-below {p} prime input m l below small =
-    stored-below p (λ j. getD input (128 * m + j) 0) l 0 128 (omega (arith, prime .large)) (λ j lt. below (128 * m + j)) small
+pub right-below : {p : ℕ} → Prime p → (input : List ℕ) (m : ℕ) (l : List ℕ) {block : List ℕ} → block ≡ rightWords input m l
+    → ((i : ℕ) → getD input i 0 < p) → AtMost 0 l → (i : ℕ) → getD block i 0 < p
+right-below {p} prime input m l copied below none = subst (λ w. (i : ℕ) → getD w i 0 < p) (sym copied)
+    (stored-below p (λ j. getD input (128 * m + j) 0) l 0 128 some (λ j lt. below (128 * m + j)) (λ i. omega (arith, none i, some)))
+  where
+    some : 0 < p
+    some = omega (arith, prime .large)
 
 module _ {p : ℕ} {tail d : List ℕ} {found : ℕ} (made : MadeMonic p tail d found) where
   -- a tail has at most 121 coefficients
@@ -67,18 +71,21 @@ module _ {p : ℕ} {tail d : List ℕ} {found : ℕ} (made : MadeMonic p tail d 
           ends-most d 0 128 found 121 (made .ends) (held-zero-from p prime d 0 128 121 (made .holds prime x some A)
           (omega (arith, associate-size (sized (residues p prime)) (associate (residues p prime) x some) some)))
 
-  pub denominator-made : (input : List ℕ) (m : ℕ) (l : List ℕ) {t : List ℕ} → 128 ≤ length l → found ≤ 121
-      → BlockMultiplied p d found (rightWords input m l) 128 t → HasDenominator p m input tail d t found
-  denominator-made input m l {t} room small multiplied = record {
+  pub denominator-made : (input : List ℕ) (m : ℕ) (l : List ℕ) {block t : List ℕ} → 128 ≤ length l → block ≡ rightWords input m l
+      → found ≤ 121 → BlockMultiplied p d found block 128 t → HasDenominator p m input tail d t found
+  denominator-made input m l {block} {t} room stores small multiplied = record {
     below = made .below;
     vector-below = multiplied .below;
     ends = made .ends;
     small = small;
     holds = λ prime n x some b A B.
-        let D = made .holds prime x some A in record {
+        let D = made .holds prime x some A in
+        let unit = associate (residues p prime) x some .unit in
+        let copied : (j : ℕ) → words p prime input (128 * m) 128 j ≡ words p prime block 0 128 j =
+        λ j. words-copied p prime input l (128 * m) 0 128 (128 * m) 0 128 room (omega arith) (omega arith) (omega arith) j
+        ∙ ap (λ w. words p prime w 0 128 j) (sym stores) in record {
           denominator = D;
-          vector = multiplied .holds prime n unweighted (polynomials (residues p prime) .mul (associate (residues p prime) x some .unit) x) b
-              (held-fewer p prime d 0 128 found D (made .ends .within) (made .ends .behind))
-              (flat-same (words-copied p prime input l (128 * m) 0 128 (128 * m) 0 128 (omega arith) (omega arith) (omega arith) (omega arith)) B);
+          vector = multiplied .holds prime n unweighted (polynomials (residues p prime) .mul unit x) b
+              (held-fewer p prime d 0 128 found D (made .ends .within) (made .ends .behind)) (flat-same copied B);
         };
   }

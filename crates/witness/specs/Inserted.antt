@@ -1,8 +1,9 @@
 -- The right side of a system inserted into its last level: what memory holds where its block became zero, and where it got stuck.
-use Prim.Native.Nat.{ℕ, suc, _*_, _<_, _≤_}
+use Prim.Native.Nat.{ℕ, _*_, _<_, _≤_}
 use mathlib.Core.Path.{_≡_, refl}
 use mathlib.Core.List.{List}
 use native.Mathlib.Omega.{arith}
+use lib.ListN.{length}
 use Rattle.algebra.specs.Polynomial.{Polynomial, polynomials}
 use Rattle.algebra.specs.Size.{size, sized}
 use Rattle.modular.specs.Prime.{Prime}
@@ -15,18 +16,18 @@ use Rattle.reduction.specs.Inserting.{begin, Inserting}
 use Rattle.reduction.specs.Polynomials.{euclidean}
 use Rattle.reduction.specs.Levels as reduction
 use Rattle.reduction.specs.Solution.{solution-positive, solution-tops}
-use Rattle.reduction.specs.Absence.{absence-tops}
 use Rattle.reduction.specs.Holds.{Holds}
 use Rattle.reduction.specs.Flat.{Flat}
 use Rattle.lattice.specs.Word.{words}
-use Rattle.lattice.specs.Memory.{row, height, Level, slotSize, ValidLevel, Memory, Valid}
-use Rattle.lattice.specs.Holding.{HoldsSlots, HoldsState, Reached}
+use Rattle.lattice.specs.Memory.{row, height, ZeroFrom, Level, slotSize, ValidLevel, Sums, Memory, places}
+use Rattle.lattice.specs.Holding.{HoldsSlots, Reached}
+use Rattle.lattice.specs.Sums.{sums-fewer}
 use Rattle.lattice.specs.Reading.{holds-zero, holds-pivot}
 use Rattle.lattice.specs.Insertion.{Inserts}
 use Rattle.areas.specs.Input.{Equations, systemOf}
 use Rattle.levels.specs.Started.{Started}
 use Rattle.second.specs.Solved.{HasTops}
-use Rattle.witness.specs.Witnessed.{HoldsLast, HasLast}
+use Rattle.witness.specs.Witnessed.{HoldsLast}
 
 module _ (p : ℕ) (prime : Prime p) (n m : ℕ) where
   -- the slots after the insertion into U, and the tail that is left
@@ -76,55 +77,78 @@ last-degrees prime {n = n} {U = U} lanes last =
     let small : degrees n (U .size) ≤ rank n (U .size) * 15 = last .degrees-le in
     (omega arith, omega arith)
 
-module _ {p : ℕ} (prime : Prime p) {n m : ℕ} {X : Equations p prime n m} {U : Slots (Polynomial (residues p prime))} (lanes : n ≤ 8)
-  where
-    pub vanished-some : {input : List ℕ} {L : Level} {tail : List ℕ} (Q : HoldsVanished p prime n m X U input L tail)
-        → 0 < size (residues p prime) (Q .inserting .now .hand n)
-    vanished-some Q = solution-positive (euclidean (residues p prime)) (systemOf p prime n m X) (Q .last) (Q .inserting) (Q .vanishes)
+module _ {p : ℕ} (prime : Prime p) {n m : ℕ} {X : Equations p prime n m} {U : Slots (Polynomial (residues p prime))}
+    (lanes : n ≤ 8) where
+  pub vanished-some : {input : List ℕ} {L : Level} {tail : List ℕ} (Q : HoldsVanished p prime n m X U input L tail)
+      → 0 < size (residues p prime) (Q .inserting .now .hand n)
+  vanished-some Q =
+      solution-positive (euclidean (residues p prime)) (systemOf p prime n m X) (Q .last) (Q .inserting) (Q .vanishes)
 
-    -- there is a second system
-    pub vanished-tops : {input : List ℕ} {L : Level} {tail : List ℕ} → ValidLevel p L → HoldsVanished p prime n m X U input L tail
-        → HasTops p n L
-    vanished-tops valid Q = record {
-      prime = prime;
-      bound = degrees n (U .size);
-      small = last-degrees prime lanes (Q .last) .1;
-      slots = Q .inserting .now .slots;
-      holds = Q .slots;
-      tops = solution-tops (euclidean (residues p prime)) (systemOf p prime n m X) (Q .last) (Q .inserting) (Q .vanishes) 16
-          (slots-high prime lanes valid (Q .slots));
-    }
-
--- an insertion that starts with the right side beside the last level, and its end
-module _ {p n m : ℕ} {input : List ℕ} {L : Level} {M M′ : Memory} (started : Started p L input (128 * m) M) (done : Inserts p M M′)
-    (prime : Prime p) {X : Equations p prime n m} (H : HoldsLast p prime n m X input L) where
-  abbrev R : Reached p prime n unweighted (begin (polynomials (residues p prime)) n (H .slots) (X .right) (height (M .hand .size))) M′
-  R = done .leads prime n unweighted (begin (polynomials (residues p prime)) n (H .slots) (X .right) (height (M .hand .size)))
-      (started .holds prime n (H .slots) (X .right) (H .holds) (H .system .right))
-
-  abbrev made : Inserting (sized (residues p prime)) n unweighted (H .slots) (X .right)
-  made = record { size = height (M .hand .size); now = R .now; trace = R .trace }
-
-  pub inserted-vanished : M′ .hand .size ≡ 0 → HoldsVanished p prime n m X (H .slots) input (M′ .level) (M′ .tail)
-  inserted-vanished none = record {
-    right = H .system .right;
-    last = H .last;
-    inserting = made;
-    vanishes = holds-zero p prime (done .valid .hand) (R .holds) none;
-    slots = R .holds .slots;
-    held = R .holds .hand .tail;
+  -- there is a second system
+  pub vanished-tops : {input : List ℕ} {L : Level} {tail : List ℕ} → ValidLevel p L → HoldsVanished p prime n m X U input L tail
+      → HasTops p n L
+  vanished-tops valid Q = record {
+    prime = prime;
+    bound = degrees n (U .size);
+    small = last-degrees prime lanes (Q .last) .1;
+    slots = Q .inserting .now .slots;
+    holds = Q .slots;
+    tops = solution-tops (euclidean (residues p prime)) (systemOf p prime n m X) (Q .last) (Q .inserting) (Q .vanishes) 16
+        (slots-high prime lanes valid (Q .slots));
   }
 
-  pub inserted-stuck : 0 < M′ .hand .size → HoldsStuck p prime n m X (H .slots) L (row (M′ .hand .size))
-  inserted-stuck some =
-      let P = holds-pivot p prime (done .valid .hand) (R .holds) some in record {
-        last = H .last;
-        inserting = made;
-        stuck = record {
-          at = row (M′ .hand .size);
-          pivot = P;
-          empty = omega (arith, R .holds .slots .size _ (P .inside), done .stops some);
-        };
-        at = refl;
-        slots = H .holds;
-      }
+-- the right side inserted into a copy of L: the slots and the tail then, and how many words are left of the block
+pub record Inserted (p m : ℕ) (input : List ℕ) (L L′ : Level) (tail : List ℕ) (size : ℕ) : Type 0 where
+  pub valid : ValidLevel p L′
+  pub room : 256 ≤ length tail
+  pub small : ZeroFrom p tail 0 256 121
+  pub sums : Sums p 0 tail
+  pub vanished : (prime : Prime p) (n : ℕ) (X : Equations p prime n m) (H : HoldsLast p prime n m X input L) → size ≡ 0
+      → HoldsVanished p prime n m X (H .slots) input L′ tail
+  pub stuck : (prime : Prime p) (n : ℕ) (X : Equations p prime n m) (H : HoldsLast p prime n m X input L) → 0 < size
+      → HoldsStuck p prime n m X (H .slots) L (row size)
+
+module _ {p m : ℕ} {input : List ℕ} {L : Level} {M M′ : Memory} (started : Started p L input (128 * m) M)
+    (done : Inserts p M M′) where
+  module _ (prime : Prime p) (n : ℕ) (X : Equations p prime n m) (H : HoldsLast p prime n m X input L) where
+    abbrev R : Reached p prime n unweighted
+        (begin (polynomials (residues p prime)) n (H .slots) (X .right) (height (M .hand .size))) M′
+    R = done .leads prime n unweighted (begin (polynomials (residues p prime)) n (H .slots) (X .right) (height (M .hand .size)))
+        (started .holds prime n (H .slots) (X .right) (H .holds) (H .system .right))
+
+    abbrev made : Inserting (sized (residues p prime)) n unweighted (H .slots) (X .right)
+    made = record { size = height (M .hand .size); now = R .now; trace = R .trace }
+
+    inserted-vanished : M′ .hand .size ≡ 0 → HoldsVanished p prime n m X (H .slots) input (M′ .level) (M′ .tail)
+    inserted-vanished none = record {
+      right = H .system .right;
+      last = H .last;
+      inserting = made;
+      vanishes = holds-zero p prime (done .valid .hand) (R .holds) none;
+      slots = R .holds .slots;
+      held = R .holds .hand .tail;
+    }
+
+    inserted-stuck : 0 < M′ .hand .size → HoldsStuck p prime n m X (H .slots) L (row (M′ .hand .size))
+    inserted-stuck some =
+        let P = holds-pivot p prime (done .valid .hand) (R .holds) some in record {
+          last = H .last;
+          inserting = made;
+          stuck = record {
+            at = row (M′ .hand .size);
+            pivot = P;
+            empty = omega (arith, R .holds .slots .size _ (P .inside), done .stops some);
+          };
+          at = refl;
+          slots = H .holds;
+        }
+
+  pub right-inserted : Inserted p m input L (M′ .level) (M′ .tail) (M′ .hand .size)
+  right-inserted = record {
+    valid = done .valid .level;
+    room = done .valid .hand .tail-room;
+    small = done .tail;
+    sums = sums-fewer p (M′ .tail) (places M′) 0 (omega arith) (done .valid .hand .tail-sums);
+    vanished = inserted-vanished;
+    stuck = inserted-stuck;
+  }

@@ -1,8 +1,8 @@
--- The certificate of a solution, but for its numerators: d, w = d·w′ and Z, with w′ and Z of the second system of the slots after the
--- insertion.
+-- The certificate of a solution, but for its numerators: d, w = d·w′ and Z, with w′ and Z of the second system of the slots after
+-- the insertion.
 use Prim.Native.Nat.{ℕ, suc, _+_, _-_, _*_, _<_, _≤_}
-use mathlib.Core.Path.{_≡_, sym, _∙_}
-use mathlib.Core.Logic.{inl, inr}
+use mathlib.Core.Path.{_≡_, sym, _∙_, subst}
+use mathlib.Core.Logic.{inl}
 use mathlib.Core.List.{List}
 use native.Mathlib.Omega.{arith}
 use lib.ListN.{length, getD}
@@ -23,7 +23,7 @@ use Rattle.lattice.specs.Word.{words}
 use Rattle.lattice.specs.Memory.{Level, ValidLevel}
 use Rattle.lattice.specs.Range.{words-apart, ends-most}
 use Rattle.areas.specs.Input.{Equations, systemOf}
-use Rattle.areas.specs.Output.{ValidOutput, HoldsAt}
+use Rattle.areas.specs.Output.{ValidOutput}
 use Rattle.multiples.specs.Product.{Multiplied}
 use Rattle.second.specs.Solved.{HoldsSecond, SecondSolved}
 use Rattle.witness.specs.Witnessed.{HoldsUnfinished}
@@ -37,7 +37,9 @@ pub record SolutionFound (p n m : ℕ) (input : List ℕ) (L : Level) (tail t ou
   pub holds : (prime : Prime p) (X : Equations p prime n m) (U : Slots (Polynomial (residues p prime)))
       → HoldsVanished p prime n m X U input L tail → HoldsUnfinished p prime n m X U t output
 
-pub vanished-tail : {p n m : ℕ} {input : List ℕ} {L : Level} {tail : List ℕ} → n ≤ 8 → HasVanished p n m input L tail → HasTail p tail
+-- L2: what is left of the tail is not zero
+pub vanished-tail : {p n m : ℕ} {input : List ℕ} {L : Level} {tail : List ℕ} → n ≤ 8 → HasVanished p n m input L tail
+    → HasTail p tail
 vanished-tail {n = n} lanes has = record {
   prime = has .prime;
   polynomial = has .vanished .inserting .now .hand n;
@@ -50,7 +52,8 @@ abbrev pub storedSolution : (n m : ℕ) (d w rows output : List ℕ) → List �
 storedSolution n m d w rows output = stored (λ j. getD rows (0 + j) 0)
     (stored (λ j. getD w (0 + j) 0) (stored (λ j. getD d (0 + j) 0) output 0 128) (128 * (1 + m)) 128) (128 * (2 + m)) (128 * n)
 
-module _ (p : ℕ) (prime₀ : Prime p) (n m : ℕ) (lanes : n ≤ 8) (columns : m ≤ 8) (d w rows output : List ℕ) (valid : ValidOutput p output) where
+module _ (p : ℕ) (prime₀ : Prime p) (n m : ℕ) (lanes : n ≤ 8) (columns : m ≤ 8) (d w rows output : List ℕ)
+    (valid : ValidOutput p output) where
   abbrev first : List ℕ
   first = stored (λ j. getD d (0 + j) 0) output 0 128
 
@@ -86,16 +89,17 @@ module _ (p : ℕ) (prime₀ : Prime p) (n m : ℕ) (lanes : n ≤ 8) (columns :
     stored-w x =
         words-copied p prime w first 0 (128 * (1 + m)) 128 0 (128 * (1 + m)) 128 (omega (arith, first-length))
         (omega arith) (omega arith) (omega arith) x
-        ∙ sym (words-apart p prime (λ j. getD rows (0 + j) 0) second (128 * (2 + m)) (128 * n) (128 * (1 + m)) 128 (inl (omega arith)) x)
+        ∙ sym (words-apart p prime (λ j. getD rows (0 + j) 0) second (128 * (2 + m)) (128 * n) (128 * (1 + m)) 128
+        (inl (omega arith)) x)
 
     pub stored-Z : (i : ℕ) → i < n → (x : ℕ)
         → words p prime rows (128 * i) 128 x ≡ words p prime (storedSolution n m d w rows output) (128 * (2 + m + i)) 128 x
     stored-Z i h = words-copied p prime rows second 0 (128 * (2 + m)) (128 * n) (128 * i) (128 * (2 + m + i)) 128
         (omega (arith, second-length)) (omega arith) (omega arith) (omega arith)
 
--- L8: d and w′ have together at most 122 coefficients
-module _ {p n m : ℕ} {input : List ℕ} {L : Level} {tail d t : List ℕ} {found : ℕ} {w rows : List ℕ} (lanes : n ≤ 8) (level : ValidLevel p L)
-    (has : HasDenominator p m input tail d t found) (solved : SecondSolved p n L w rows) where
+-- the parts of the certificate
+module _ {p n m : ℕ} {input : List ℕ} {L : Level} {tail d t : List ℕ} {found : ℕ} {w rows : List ℕ} (lanes : n ≤ 8)
+    (level : ValidLevel p L) (has : HasDenominator p m input tail d t found) (solved : SecondSolved p n L w rows) where
   module _ (prime : Prime p) (X : Equations p prime n m) (U : Slots (Polynomial (residues p prime)))
       (Q : HoldsVanished p prime n m X U input L tail) where
     abbrev e : Polynomial (residues p prime)
@@ -112,13 +116,16 @@ module _ {p n m : ℕ} {input : List ℕ} {L : Level} {tail d t : List ℕ} {fou
         (solution-tops (euclidean (residues p prime)) (systemOf p prime n m X) (Q .last) (Q .inserting) (Q .vanishes) 16
         (slots-high prime lanes level (Q .slots)))
 
-    made : Unfinished (euclidean (residues p prime)) (systemOf p prime n m X) U x (polynomials (residues p prime) .mul x (S .polynomial)) (S .Y)
+    made : Unfinished (euclidean (residues p prime)) (systemOf p prime n m X) U x
+        (polynomials (residues p prime) .mul x (S .polynomial)) (S .Y)
     made = unfinished (euclidean (residues p prime)) (systemOf p prime n m X) (Q .last) (Q .inserting) (Q .vanishes)
         (associate (residues p prime) e (vanished-some prime lanes Q)) (S .polynomial) (S .Y) (S .monic) (S .dual)
 
+    -- L8: d and w′ have together at most 122 coefficients, since their product has at most 121
     together : size (residues p prime) x + size (residues p prime) (S .polynomial) ≤ 122
     together =
-        let product : size (residues p prime) (polynomials (residues p prime) .mul x (S .polynomial)) ≤ suc (rank n (U .size) * 15) =
+        let w₀ : Polynomial (residues p prime) = polynomials (residues p prime) .mul x (S .polynomial) in
+        let product : size (residues p prime) w₀ ≤ suc (rank n (U .size) * 15) =
         made .small (λ j. polynomials (residues p prime) .zero) (λ j h. omega (arith, sized (residues p prime) .size-zero))
         .certifying-denominator in
         omega (
@@ -137,17 +144,20 @@ module _ {p n m : ℕ} {input : List ℕ} {L : Level} {tail d t : List ℕ} {fou
         most = ends-most d 0 128 found (size (residues p prime) x) (has .ends)
             (held-zero-from p prime d 0 128 (size (residues p prime) x) (D .denominator) (omega arith))
 
-  pub solution-found : {product output : List ℕ} → Prime p → m ≤ 8 → Multiplied p d found w (122 - found) product → ValidOutput p output
-      → SolutionFound p n m input L tail t (storedSolution n m d product rows output)
-  solution-found {product} {output} prime₀ columns multiplied valid = record {
+  stored-found : {product output : List ℕ} → Prime p → m ≤ 8 → Multiplied p d found w (122 - found) product
+      → ValidOutput p output → SolutionFound p n m input L tail t (storedSolution n m d product rows output)
+  stored-found {product} {output} prime₀ columns multiplied valid = record {
     below = has .vector-below;
-    valid = stored-valid p prime₀ n m lanes columns d product rows output valid (has .below) (multiplied .below) (solved .rows-below);
+    valid = stored-valid p prime₀ n m lanes columns d product rows output valid
+        (has .below) (multiplied .below) (solved .rows-below);
     holds = λ prime X U Q. record {
       d = x prime X U Q;
       w = polynomials (residues p prime) .mul (x prime X U Q) (S prime X U Q .polynomial);
       Z = S prime X U Q .Y;
       unfinished = made prime X U Q;
-      holds-d = record { at = λ j. D prime X U Q .denominator .at j ∙ stored-d p prime₀ n m lanes columns d product rows output valid prime j };
+      holds-d = record {
+        at = λ j. D prime X U Q .denominator .at j ∙ stored-d p prime₀ n m lanes columns d product rows output valid prime j;
+      };
       holds-w = record {
         at = λ j.
             multiplied .holds prime (x prime X U Q) (S prime X U Q .polynomial)
@@ -161,3 +171,9 @@ module _ {p n m : ℕ} {input : List ℕ} {L : Level} {tail d t : List ℕ} {fou
       holds-vector = D prime X U Q .vector;
     };
   }
+
+  -- L7 and L8
+  pub solution-found : {product output output′ : List ℕ} → Prime p → m ≤ 8 → Multiplied p d found w (122 - found) product
+      → ValidOutput p output → output′ ≡ storedSolution n m d product rows output → SolutionFound p n m input L tail t output′
+  solution-found prime₀ columns multiplied valid stores =
+      subst (SolutionFound p n m input L tail t) (sym stores) (stored-found prime₀ columns multiplied valid)

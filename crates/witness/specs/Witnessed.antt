@@ -1,11 +1,10 @@
--- What is known when the right side was inserted into the last level and the second system was solved: all of a solution certificate
--- but its numerators, or an absence certificate.
-use Prim.Native.Nat.{ℕ, _+_, _<_, _≤_}
+-- What is known when the right side was inserted into the last level and the second system was solved: all of a solution
+-- certificate but its numerators, or an absence certificate.
+use Prim.Native.Nat.{ℕ, _+_, _<_}
 use mathlib.Core.Bool.{Bool, true, false}
 use mathlib.Core.List.{List}
 use lib.ListN.{getD}
 use Rattle.algebra.specs.Polynomial.{Polynomial, polynomials}
-use Rattle.algebra.specs.Size.{sized}
 use Rattle.modular.specs.Prime.{Prime}
 use Rattle.modular.specs.Residue.{residues}
 use Rattle.reduction.specs.Slots.{Slots, unweighted}

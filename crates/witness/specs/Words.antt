@@ -44,18 +44,19 @@ module _ (p : ℕ) (prime : Prime p) where
             (λ ge. words-zero p prime l b n k zero j ge ∙ sym (words-behind p prime l b k j ge))
             (below-or-not j k)
 
-  -- the n words from b on, of those that are copied from the place a of s to the place d of l; there they begin at c
-  pub words-copied : (s l : List ℕ) (a d m b c n : ℕ) → d + m ≤ length l → b + d ≡ a + c → d ≤ c → c + n ≤ d + m → (x : ℕ)
-      → words p prime s b n x ≡ words p prime (stored (λ j. getD s (a + j) 0) l d m) c n x
-  words-copied s l a d m b c n room places from inside x = words-same p prime s l′ b c n x (λ lt.
-      let source : b + x ≡ a + (c - d + x) = omega arith in
-      let target : c + x ≡ d + (c - d + x) = omega arith in
-      ap (λ k. getD s k 0 % p) source
-      ∙ sym (ap (λ k. getD (stored (λ j. getD s (a + j) 0) l d m) k 0 % p) target
-      ∙ ap (λ w. w % p) (stored-inside (λ j. getD s (a + j) 0) l d m (c - d + x) room (omega arith))))
-    where
-      l′ : List ℕ
-      l′ = stored (λ j. getD s (a + j) 0) l d m
+  -- m words of s from a on are copied to the place d of l: n of them, from b on, stand from c on
+  module _ (s l : List ℕ) (a d m : ℕ) where
+    abbrev copied : List ℕ
+    copied = stored (λ j. getD s (a + j) 0) l d m
+
+    pub words-copied : (b c n : ℕ) → d + m ≤ length l → b + d ≡ a + c → d ≤ c → c + n ≤ d + m → (x : ℕ)
+        → words p prime s b n x ≡ words p prime (stored (λ j. getD s (a + j) 0) l d m) c n x
+    words-copied b c n room places from inside x = words-same p prime s copied b c n x (λ lt.
+        let source : b + x ≡ a + (c - d + x) = omega arith in
+        let target : c + x ≡ d + (c - d + x) = omega arith in
+        ap (λ k. getD s k 0 % p) source
+        ∙ sym (ap (λ k. getD copied k 0 % p) target
+        ∙ ap (λ w. w % p) (stored-inside (λ j. getD s (a + j) 0) l d m (c - d + x) room (omega arith))))
 
   negated : (w : ℕ) → residue p prime (modulo p .neg (w % p)) ≡ residues p prime .ring .neg (residue p prime w)
   unfolding modulo
@@ -64,32 +65,31 @@ module _ (p : ℕ) (prime : Prime p) where
       ∙ residue-neg p prime (w % p) (mod-lt w (omega (arith, prime .large)))
       ∙ ap (residues p prime .ring .neg) (residue-mod p prime w)
 
-  -- n of the m words of s that are negated, to the same places of l
-  pub holds-negated : (s l : List ℕ) (m i n : ℕ) {x : Polynomial (residues p prime)} → m ≤ length l → i + n ≤ m
-      → Holds (residues p prime) (words p prime s i n) x
-      → Holds (residues p prime) (words p prime (stored (λ j. modulo p .neg (getD s j 0 % p)) l 0 m) i n)
-      (polynomials (residues p prime) .neg x)
-  holds-negated s l m i n {x} room inside A = record {
-    at = λ j.
-        coefficients-neg (residues p prime) x j ∙ ap (residues p prime .ring .neg) (A .at j) ∙ word j;
-  }
-    where
-      l′ : List ℕ
-      l′ = stored (λ j. modulo p .neg (getD s j 0 % p)) l 0 m
+  -- the first m words of s are negated, to the same places of l: n of them, from i on
+  module _ (s l : List ℕ) (m : ℕ) where
+    abbrev opposite : List ℕ
+    opposite = stored (λ j. modulo p .neg (getD s j 0 % p)) l 0 m
 
-      word : (j : ℕ) → residues p prime .ring .neg (words p prime s i n j)
-          ≡ words p prime (stored (λ j. modulo p .neg (getD s j 0 % p)) l 0 m) i n j
-      word j =
-          ⊎-elim
-          (λ lt.
-          let place : i + j ≡ 0 + (i + j) = omega arith in
-          ap (residues p prime .ring .neg) (words-inside p prime s i n j lt)
-          ∙ sym (words-inside p prime (stored (λ j. modulo p .neg (getD s j 0 % p)) l 0 m) i n j lt
-          ∙ ap (λ k. residue p prime (getD (stored (λ j. modulo p .neg (getD s j 0 % p)) l 0 m) k 0)) place
-          ∙ ap (residue p prime) (stored-inside (λ j. modulo p .neg (getD s j 0 % p)) l 0 m (i + j) (omega arith) (omega arith))
-          ∙ negated (getD s (i + j) 0)))
-          (λ ge.
-          ap (residues p prime .ring .neg) (words-behind p prime s i n j ge)
-          ∙ neg-zero (residues p prime .ring)
-          ∙ sym (words-behind p prime (stored (λ j. modulo p .neg (getD s j 0 % p)) l 0 m) i n j ge))
-          (below-or-not j n)
+    pub holds-negated : (i n : ℕ) {x : Polynomial (residues p prime)} → m ≤ length l → i + n ≤ m
+        → Holds (residues p prime) (words p prime s i n) x
+        → Holds (residues p prime) (words p prime (stored (λ j. modulo p .neg (getD s j 0 % p)) l 0 m) i n)
+        (polynomials (residues p prime) .neg x)
+    holds-negated i n {x} room inside A = record {
+      at = λ j. coefficients-neg (residues p prime) x j ∙ ap (residues p prime .ring .neg) (A .at j) ∙ word j;
+    }
+      where
+        word : (j : ℕ) → residues p prime .ring .neg (words p prime s i n j) ≡ words p prime opposite i n j
+        word j =
+            ⊎-elim
+            (λ lt.
+            let place : i + j ≡ 0 + (i + j) = omega arith in
+            ap (residues p prime .ring .neg) (words-inside p prime s i n j lt)
+            ∙ sym (words-inside p prime opposite i n j lt
+            ∙ ap (λ k. residue p prime (getD opposite k 0)) place
+            ∙ ap (residue p prime) (stored-inside (λ j. modulo p .neg (getD s j 0 % p)) l 0 m (i + j) (omega arith) (omega arith))
+            ∙ negated (getD s (i + j) 0)))
+            (λ ge.
+            ap (residues p prime .ring .neg) (words-behind p prime s i n j ge)
+            ∙ neg-zero (residues p prime .ring)
+            ∙ sym (words-behind p prime opposite i n j ge))
+            (below-or-not j n)

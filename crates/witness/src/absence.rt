@@ -47,7 +47,8 @@ pub fn store_absence(
 )
     requires { ⌜ ValidModulus modulus × (n ≤ 8) × (h < 8) × (length (now output) ≡ 2304) ⌝ }
     requires parts { ⌜ (length (now w) ≡ 128) × (length (now rows) ≡ 1024) × AtMost (modulus .p) (now rows) ⌝ }
-    ensures { λ _. ⌜ now (output .exit) ≡ storedAbsence (modulus .p) n h (now (w .entry)) (now (rows .entry)) (now (output .entry)) ⌝ }
+    ensures { λ _. ⌜ now (output .exit)
+        ≡ storedAbsence (modulus .p) n h (now (w .entry)) (now (rows .entry)) (now (output .entry)) ⌝ }
 {
     store_negated(output, 0, rows, 128 * n, modulus);
     copy(output, 128 * h, w, 0, 128);
@@ -63,7 +64,8 @@ pub fn find_absence(
     output: &mut [u64],
     modulus: Modulus,
 )
-    requires { ⌜ ValidModulus modulus × (n ≤ 8) × (h < 8) × ValidLevel (modulus .p) (level (now slots) (now sizes) (now inverses)) ⌝ }
+    requires { ⌜ ValidModulus modulus × (n ≤ 8) × (h < 8)
+        × ValidLevel (modulus .p) (level (now slots) (now sizes) (now inverses)) ⌝ }
     requires stuck { ⌜ HasStuck (modulus .p) n (level (now slots) (now sizes) (now inverses)) h ⌝ }
     requires area { ⌜ ValidOutput (modulus .p) (now output) ⌝ }
     ensures { λ _. ⌜ AbsenceFound (modulus .p) n (level (now (slots .entry)) (now (sizes .entry)) (now (inverses .entry))) h

@@ -1,11 +1,11 @@
 // The right side of a system inserted into its last level, and the second system: what makes a certificate right.
 pub mod absence;
+pub mod insertion;
 pub mod solution;
 
 use crate::absence::find_absence;
+use crate::insertion::insert_right;
 use crate::solution::find_solution;
-use lattice::insert;
-use levels::next::start_column;
 use residue::modulus::Modulus;
 use vector::clear;
 ghost use mathlib.Core.Path.{_≡_};
@@ -40,31 +40,20 @@ pub fn find_witness(
     let mut next = [0u64; 2048];
     let mut heights = [0usize; 16];
     let mut reciprocals = [0u64; 8];
-    let mut block = [0u64; 1088];
     let mut tail = [0u64; 256];
-    let start = start_column(
+    let size = insert_right(
         slots,
         sizes,
         inverses,
         input,
-        128 * m,
+        m,
         &mut next,
         &mut heights,
         &mut reciprocals,
-        &mut block,
         &mut tail,
         modulus,
     );
-    let hand = insert(
-        &mut next,
-        &mut heights,
-        &mut reciprocals,
-        &mut block,
-        &mut tail,
-        start,
-        modulus,
-    );
-    if hand.size == 0 {
+    if size == 0 {
         find_solution(
             input,
             n,
@@ -79,15 +68,8 @@ pub fn find_witness(
         );
         return true;
     }
-    find_absence(
-        slots,
-        sizes,
-        inverses,
-        n,
-        7 - (hand.size - 1) % 8,
-        output,
-        modulus,
-    );
+    let h = 7 - (size - 1) % 8;
+    find_absence(slots, sizes, inverses, n, h, output, modulus);
     clear(t, 0, 1088);
     false
 }

@@ -42,7 +42,8 @@ pub fn find_denominator(
 pub fn store_solution(output: &mut [u64], n: usize, m: usize, d: &[u64], w: &[u64], rows: &[u64])
     requires { ⌜ (n ≤ 8) × (m ≤ 8) × (length (now output) ≡ 2304) ⌝ }
     requires parts { ⌜ (length (now d) ≡ 128) × (length (now w) ≡ 128) × (length (now rows) ≡ 1024) ⌝ }
-    ensures { λ _. ⌜ now (output .exit) ≡ storedSolution n m (now (d .entry)) (now (w .entry)) (now (rows .entry)) (now (output .entry)) ⌝ }
+    ensures { λ _. ⌜ now (output .exit)
+        ≡ storedSolution n m (now (d .entry)) (now (w .entry)) (now (rows .entry)) (now (output .entry)) ⌝ }
 {
     copy(output, 0, d, 0, 128);
     copy(output, 128 * (1 + m), w, 0, 128);
@@ -69,7 +70,8 @@ pub fn find_solution(
     requires vanished { ⌜ HasVanished (modulus .p) n m (now input) (level (now slots) (now sizes) (now inverses)) (now tail) ⌝ }
     requires areas { ⌜ (length (now t) ≡ 1088) × ValidOutput (modulus .p) (now output) ⌝ }
     ensures { λ _. ⌜ SolutionFound (modulus .p) n m (now (input .entry))
-        (level (now (slots .entry)) (now (sizes .entry)) (now (inverses .entry))) (now (tail .entry)) (now (t .exit)) (now (output .exit)) ⌝ }
+        (level (now (slots .entry)) (now (sizes .entry)) (now (inverses .entry))) (now (tail .entry))
+        (now (t .exit)) (now (output .exit)) ⌝ }
 {
     let mut d = [0u64; 128];
     let mut w = [0u64; 128];

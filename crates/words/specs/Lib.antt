@@ -24,3 +24,4 @@ pub mod WidthLaws
 pub mod BytesLaws
 pub mod ForwardLaws
 pub mod PlaceLaws
+pub mod FaultLaws

@@ -1,18 +1,12 @@
 -- `lay_hand` meets its contract: three calls and a store.
-use mathlib.Core.Path.{refl, _∙_, ap}
+use mathlib.Core.Path.{_∙_, ap}
 use mathlib.Core.List.{List}
 use Prim.Native.Nat.{ℕ, _+_}
-use native.Mathlib.Omega.{arith}
 use lib.ListN.{getD, set}
 use borrow.Author.Needs.{needs}
 use Rattle.vector.specs.Stored.{stored}
 use Rattle.levels.proofs.beginning.lay_hand.Statement.{statement}
 use Rattle.levels.proofs.beginning.lay_hand.Tie as tie
-use Rattle.levels.proofs.beginning.lay_hand.Reads as reads
-use Rattle.levels.proofs.beginning.lay_hand.Lts as lts
-use Rattle.levels.proofs.beginning.last_place.Reads as last-place-reads
-use Rattle.vector.proofs.clear.Reads as clear-reads
-use Rattle.vector.proofs.copy.Reads as copy-reads
 
 clear-requires : tie.Need-clear-requires
 clear-requires c κs = search needs

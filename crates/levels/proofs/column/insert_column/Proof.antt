@@ -3,10 +3,6 @@ use borrow.Author.Needs.{needs}
 use Rattle.levels.specs.Linked.{inserts-stopped, after-column}
 use Rattle.levels.proofs.column.insert_column.Statement.{statement}
 use Rattle.levels.proofs.column.insert_column.Tie as tie
-use Rattle.levels.proofs.column.insert_column.Reads as reads
-use Rattle.levels.proofs.column.insert_column.Lts as lts
-use Rattle.lattice.proofs.insert.Reads as insert-reads
-use Rattle.levels.proofs.settling.settle.Reads as settle-reads
 
 -- src/column.rt:31:9
 insert-requires : tie.Need-insert-requires

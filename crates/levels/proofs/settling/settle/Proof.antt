@@ -1,5 +1,5 @@
 -- `settle` meets its contract: the two cases are laws of `Settled`.
-use Prim.Native.Nat.{ℕ, _+_, _-_, _*_, _%_, _≤_, _<_}
+use Prim.Native.Nat.{_-_}
 use native.Mathlib.Omega.{arith}
 use borrow.Author.Needs.{needs}
 use Rattle.residue.specs.Modulus.{ValidModulus}
@@ -7,12 +7,6 @@ use Rattle.lattice.specs.Sums.{sums-room}
 use Rattle.levels.specs.Settled.{stopped-room, settled-stuck, settled-vanished}
 use Rattle.levels.proofs.settling.settle.Statement.{statement}
 use Rattle.levels.proofs.settling.settle.Tie as tie
-use Rattle.levels.proofs.settling.settle.Reads as reads
-use Rattle.levels.proofs.settling.settle.Lts as lts
-use Rattle.lattice.proofs.moves.swap_with_slot.Reads as swap-with-slot-reads
-use Rattle.vector.proofs.find_leading.Reads as find-leading-reads
-use Rattle.vector.proofs.clear.Reads as clear-reads
-use Rattle.vector.proofs.exchange.Reads as exchange-reads
 
 -- src/settling.rt:34:13
 find-leading-requires : tie.Need-find-leading-requires

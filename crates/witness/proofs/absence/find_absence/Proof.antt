@@ -1,31 +1,21 @@
 -- `find_absence` meets its contract: the law is `absence-found`.
-use mathlib.Core.Path.{refl, sym, subst}
+use mathlib.Core.Path.{refl}
 use native.Mathlib.Omega.{arith}
-use Rattle.lattice.specs.Memory.{level}
 use Rattle.multiples.specs.Negated.{zeros}
-use Rattle.witness.specs.Absence.{AbsenceFound, stuck-tops, absence-found}
+use Rattle.witness.specs.Absence.{stuck-tops, absence-found}
 use borrow.Author.Needs.{needs}
 use Rattle.witness.proofs.absence.find_absence.Statement.{statement}
 use Rattle.witness.proofs.absence.find_absence.Tie as tie
-use Rattle.witness.proofs.absence.find_absence.Reads as reads
-use Rattle.witness.proofs.absence.find_absence.Lts as lts
-use Rattle.second.proofs.solve.solve_second.Reads as solve-second-reads
-use Rattle.witness.proofs.absence.copy_with_row.Reads as copy-with-row-reads
-use Rattle.witness.proofs.absence.store_absence.Reads as store-absence-reads
 
--- src/absence.rt:70:46
 slice-aggregate-copy-with-row : tie.Need-slice-aggregate-copy-with-row
 slice-aggregate-copy-with-row c = search needs
 
--- src/absence.rt:70:57
 slice-aggregate-copy-with-row-2 : tie.Need-slice-aggregate-copy-with-row-2
 slice-aggregate-copy-with-row-2 c = search needs
 
--- src/absence.rt:70:71
 slice-aggregate-copy-with-row-3 : tie.Need-slice-aggregate-copy-with-row-3
 slice-aggregate-copy-with-row-3 c = search needs
 
--- src/absence.rt:70:5
 copy-with-row-requires : tie.Need-copy-with-row-requires
 copy-with-row-requires c κs =
     let S = c .before .before .before .before .before .before .before in
@@ -34,27 +24,21 @@ copy-with-row-requires c κs =
       ((λ q l. valid .slot q l .block .within), ((refl, refl, refl), (zeros 2048, zeros 16))),
     )
 
--- src/absence.rt:71:18
 slice-aggregate-solve-second : tie.Need-slice-aggregate-solve-second
 slice-aggregate-solve-second c = search needs
 
--- src/absence.rt:71:25
 slice-aggregate-solve-second-2 : tie.Need-slice-aggregate-solve-second-2
 slice-aggregate-solve-second-2 c = search needs
 
--- src/absence.rt:71:35
 slice-aggregate-solve-second-3 : tie.Need-slice-aggregate-solve-second-3
 slice-aggregate-solve-second-3 c = search needs
 
--- src/absence.rt:71:52
 slice-aggregate-solve-second-4 : tie.Need-slice-aggregate-solve-second-4
 slice-aggregate-solve-second-4 c = search needs
 
--- src/absence.rt:71:60
 slice-aggregate-solve-second-5 : tie.Need-slice-aggregate-solve-second-5
 slice-aggregate-solve-second-5 c = search needs
 
--- src/absence.rt:71:5
 solve-second-requires : tie.Need-solve-second-requires
 solve-second-requires c κs =
     let copied = c .before .before .before .before .before .before .before .before in
@@ -65,19 +49,17 @@ solve-second-requires c κs =
       (stuck-tops (S .pre .0 .1) (S .pre .0 .3) taken (has .prime) (has .equations) (has .slots) (has .stuck), (refl, refl)),
     )
 
--- src/absence.rt:72:33
 slice-aggregate-store-absence : tie.Need-slice-aggregate-store-absence
 slice-aggregate-store-absence c = search needs
 
--- src/absence.rt:72:37
 slice-aggregate-store-absence-2 : tie.Need-slice-aggregate-store-absence-2
 slice-aggregate-store-absence-2 c = search needs
 
--- src/absence.rt:72:5
 store-absence-requires : tie.Need-store-absence-requires
 store-absence-requires c κs =
     let solved = c .before .before .before .before .before in
-    let S = solved .before .before .before .before .before .before .before .before .before .before .before .before .before .before .before .before .before in (
+    let copied = solved .before .before .before .before .before .before .before .before .before in
+    let S = copied .before .before .before .before .before .before .before .before in (
       (S .pre .0 .0, S .pre .0 .1, S .pre .0 .2, S .pre .1 .1 .room),
       (
         omega (arith, solved .solve-second .kept),
@@ -86,19 +68,17 @@ store-absence-requires c κs =
       ),
     )
 
--- src/absence.rt:50:1
 same-length : tie.Need-same-length
 same-length c = search needs
 
--- src/absence.rt:50:1
 returns : tie.Need-returns
 returns c =
     let solved = c .before .before .before .before .before .before .before .before in
     let copied = solved .before .before .before .before .before .before .before .before .before in
     let S = copied .before .before .before .before .before .before .before .before in
-    subst (AbsenceFound (S .args .modulus .p) (S .args .n) (level (S .args .slots .now) (S .args .sizes .now) (S .args .inverses .now)) (S .args .h))
-    (sym (c .before .before .store-absence .ensures))
-    (absence-found (S .pre .0 .0 .prime) (S .pre .0 .1) (S .pre .0 .2) (S .pre .0 .3) (copied .copy-with-row .ensures) (solved .solve-second .ensures) (S .pre .1 .1))
+    let given = S .pre .0 in
+    absence-found (given .0 .prime) (given .1) (given .2) (given .3) (copied .copy-with-row .ensures)
+    (solved .solve-second .ensures) (S .pre .1 .1) (c .before .before .store-absence .ensures)
 
 pub find-absence-spec : {M : Type 1} → statement M
 find-absence-spec =

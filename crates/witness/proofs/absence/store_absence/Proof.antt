@@ -9,40 +9,32 @@ use Rattle.vector.specs.Stored.{stored}
 use borrow.Author.Needs.{needs}
 use Rattle.witness.proofs.absence.store_absence.Statement.{statement}
 use Rattle.witness.proofs.absence.store_absence.Tie as tie
-use Rattle.witness.proofs.absence.store_absence.Reads as reads
-use Rattle.witness.proofs.absence.store_absence.Lts as lts
-use Rattle.descent.proofs.coordinate.store_negated.Reads as store-negated-reads
-use Rattle.vector.proofs.copy.Reads as copy-reads
 
--- src/absence.rt:42:36
 mul-store-negated : tie.Need-mul-store-negated
 mul-store-negated c = search needs
 
--- src/absence.rt:42:5
 store-negated-requires : tie.Need-store-negated-requires
 store-negated-requires c κs =
     let S = c .before .before .before .before in
     let m : ValidModulus (S .args .modulus) = S .pre .0 .0 in
     ((m, omega arith, omega arith), λ j lt. omega (arith, S .pre .1 .2 j, m .prime .large))
 
--- src/absence.rt:43:18
 mul-copy : tie.Need-mul-copy
 mul-copy c = search needs
 
--- src/absence.rt:43:5
 copy-requires : tie.Need-copy-requires
 copy-requires c κs = search needs
 
--- src/absence.rt:37:1
 same-length : tie.Need-same-length
 same-length c = search needs
 
--- src/absence.rt:37:1
 returns : tie.Need-returns
 returns c =
-    let S = c .before .before .before .before .before .before .before .before .before .before .before in
+    let negated = c .before .before .before .before .before .before in
+    let S = negated .before .before .before .before .before in
     c .before .before .copy .ensures
-    ∙ ap (λ (l : List ℕ). stored (λ j. getD (S .args .w .now) (0 + j) 0) l (128 * S .args .h) 128) (c .before .before .before .before .before .before .store-negated .ensures)
+    ∙ ap (λ (l : List ℕ). stored (λ j. getD (S .args .w .now) (0 + j) 0) l (128 * S .args .h) 128)
+    (negated .store-negated .ensures)
 
 pub store-absence-spec : {M : Type 1} → statement M
 store-absence-spec =

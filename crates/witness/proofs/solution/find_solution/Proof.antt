@@ -1,63 +1,48 @@
 -- `find_solution` meets its contract: the law is `solution-found`.
-use mathlib.Core.Path.{refl, sym, subst}
+use mathlib.Core.Path.{refl}
 use native.Mathlib.Omega.{arith}
-use Rattle.lattice.specs.Memory.{level}
 use Rattle.witness.specs.Inserted.{vanished-tops}
-use Rattle.witness.specs.Solution.{SolutionFound, vanished-tail, solution-found}
+use Rattle.witness.specs.Solution.{vanished-tail, solution-found}
 use borrow.Author.Needs.{needs}
 use Rattle.witness.proofs.solution.find_solution.Statement.{statement}
 use Rattle.witness.proofs.solution.find_solution.Tie as tie
-use Rattle.witness.proofs.solution.find_solution.Reads as reads
-use Rattle.witness.proofs.solution.find_solution.Lts as lts
-use Rattle.multiples.proofs.product.multiply.Reads as multiply-reads
-use Rattle.second.proofs.solve.solve_second.Reads as solve-second-reads
-use Rattle.witness.proofs.solution.find_denominator.Reads as find-denominator-reads
-use Rattle.witness.proofs.solution.store_solution.Reads as store-solution-reads
 
--- src/solution.rt:71:49
 slice-aggregate-find-denominator : tie.Need-slice-aggregate-find-denominator
 slice-aggregate-find-denominator c = search needs
 
--- src/solution.rt:71:9
 find-denominator-requires : tie.Need-find-denominator-requires
 find-denominator-requires c κs =
     let S = c .before .before .before .before .before .before .before .before .before in
     let given = S .pre .0 in
-    ((given .0, given .2, given .3), (S .pre .1 .1 .0, (vanished-tail (given .1) (S .pre .1 .1 .1 .0), (refl, S .pre .1 .1 .1 .1 .0))))
+    let tail = vanished-tail (given .1) (S .pre .1 .1 .1 .0) in
+    ((given .0, given .2, given .3), (S .pre .1 .1 .0, (tail, (refl, S .pre .1 .1 .1 .1 .0))))
 
--- src/solution.rt:72:45
 slice-aggregate-solve-second : tie.Need-slice-aggregate-solve-second
 slice-aggregate-solve-second c = search needs
 
--- src/solution.rt:72:53
 slice-aggregate-solve-second-2 : tie.Need-slice-aggregate-solve-second-2
 slice-aggregate-solve-second-2 c = search needs
 
--- src/solution.rt:72:5
 solve-second-requires : tie.Need-solve-second-requires
 solve-second-requires c κs =
-    let S = c .before .before .before .before .before .before .before .before .before .before .before .before .before .before .before in
+    let found = c .before .before .before .before .before in
+    let S = found .before .before .before .before .before .before .before .before .before .before in
     let given = S .pre .0 in
     let has = S .pre .1 .1 .1 .0 in
     ((given .0, given .1, S .pre .1 .0), (vanished-tops (has .prime) (given .1) (S .pre .1 .0) (has .vanished), (refl, refl)))
 
--- src/solution.rt:73:14
 slice-aggregate-multiply : tie.Need-slice-aggregate-multiply
 slice-aggregate-multiply c = search needs
 
--- src/solution.rt:73:24
 slice-aggregate-multiply-2 : tie.Need-slice-aggregate-multiply-2
 slice-aggregate-multiply-2 c = search needs
 
--- src/solution.rt:73:28
 sub-multiply : tie.Need-sub-multiply
 sub-multiply c = search needs
 
--- src/solution.rt:73:40
 slice-aggregate-multiply-3 : tie.Need-slice-aggregate-multiply-3
 slice-aggregate-multiply-3 c = search needs
 
--- src/solution.rt:73:5
 multiply-requires : tie.Need-multiply-requires
 multiply-requires c κs =
     let solved = c .before .before .before .before .before in
@@ -75,19 +60,15 @@ multiply-requires c κs =
       (D .below, solved .solve-second .ensures .w-below),
     )
 
--- src/solution.rt:74:34
 slice-aggregate-store-solution : tie.Need-slice-aggregate-store-solution
 slice-aggregate-store-solution c = search needs
 
--- src/solution.rt:74:38
 slice-aggregate-store-solution-2 : tie.Need-slice-aggregate-store-solution-2
 slice-aggregate-store-solution-2 c = search needs
 
--- src/solution.rt:74:48
 slice-aggregate-store-solution-3 : tie.Need-slice-aggregate-store-solution-3
 slice-aggregate-store-solution-3 c = search needs
 
--- src/solution.rt:74:5
 store-solution-requires : tie.Need-store-solution-requires
 store-solution-requires c κs =
     let multiplied = c .before .before .before .before .before in
@@ -102,24 +83,21 @@ store-solution-requires c κs =
       ),
     )
 
--- src/solution.rt:47:1
 same-length : tie.Need-same-length
 same-length c = search needs
 
--- src/solution.rt:47:1
 same-length-2 : tie.Need-same-length-2
 same-length-2 c = search needs
 
--- src/solution.rt:47:1
 returns : tie.Need-returns
 returns c =
     let multiplied = c .before .before .before .before .before .before .before .before in
     let solved = multiplied .before .before .before .before .before .before in
     let found = solved .before .before .before .before .before .before in
     let S = found .before .before .before .before .before .before .before .before .before .before in
-    subst (SolutionFound (S .args .modulus .p) (S .args .n) (S .args .m) (S .args .input .now) (level (S .args .slots .now) (S .args .sizes .now) (S .args .inverses .now)) (S .args .tail .now) (found .find-denominator .last .1 .1 .1 .1 .0))
-    (sym (c .before .before .store-solution .ensures))
-    (solution-found (S .pre .0 .1) (S .pre .1 .0) (found .find-denominator .ensures) (solved .solve-second .ensures) (S .pre .0 .0 .prime) (S .pre .0 .2) (multiplied .multiply .ensures) (S .pre .1 .1 .1 .1 .1))
+    let given = S .pre .0 in
+    solution-found (given .1) (S .pre .1 .0) (found .find-denominator .ensures) (solved .solve-second .ensures) (given .0 .prime)
+    (given .2) (multiplied .multiply .ensures) (S .pre .1 .1 .1 .1 .1) (c .before .before .store-solution .ensures)
 
 pub find-solution-spec : {M : Type 1} → statement M
 find-solution-spec =

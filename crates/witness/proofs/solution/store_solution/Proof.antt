@@ -7,54 +7,43 @@ use Rattle.vector.specs.Stored.{stored}
 use borrow.Author.Needs.{needs}
 use Rattle.witness.proofs.solution.store_solution.Statement.{statement}
 use Rattle.witness.proofs.solution.store_solution.Tie as tie
-use Rattle.witness.proofs.solution.store_solution.Reads as reads
-use Rattle.witness.proofs.solution.store_solution.Lts as lts
-use Rattle.vector.proofs.copy.Reads as copy-reads
 
--- src/solution.rt:36:5
 copy-requires : tie.Need-copy-requires
 copy-requires c κs = search needs
 
--- src/solution.rt:37:25
 add-copy : tie.Need-add-copy
 add-copy c = search needs
 
--- src/solution.rt:37:18
 mul-copy : tie.Need-mul-copy
 mul-copy c = search needs
 
--- src/solution.rt:37:5
 copy-requires-2 : tie.Need-copy-requires-2
 copy-requires-2 c κs = search needs
 
--- src/solution.rt:38:25
 add-copy-2 : tie.Need-add-copy-2
 add-copy-2 c = search needs
 
--- src/solution.rt:38:18
 mul-copy-2 : tie.Need-mul-copy-2
 mul-copy-2 c = search needs
 
--- src/solution.rt:38:42
 mul-copy-3 : tie.Need-mul-copy-3
 mul-copy-3 c = search needs
 
--- src/solution.rt:38:5
 copy-requires-3 : tie.Need-copy-requires-3
 copy-requires-3 c κs = search needs
 
--- src/solution.rt:31:1
 same-length : tie.Need-same-length
 same-length c = search needs
 
--- src/solution.rt:31:1
 returns : tie.Need-returns
 returns c =
-    let S = c .before .before .before .before .before .before .before .before .before .before .before .before .before .before .before .before in
+    let second = c .before .before .before .before .before .before in
+    let first = second .before .before .before .before in
+    let S = first .before .before .before .before .before .before in
     c .before .before .copy3 .ensures
     ∙ ap (λ (l : List ℕ). stored (λ j. getD (S .args .rows .now) (0 + j) 0) l (128 * (2 + S .args .m)) (128 * S .args .n))
-    (c .before .before .before .before .before .before .copy2 .ensures
-    ∙ ap (λ (l : List ℕ). stored (λ j. getD (S .args .w .now) (0 + j) 0) l (128 * (1 + S .args .m)) 128) (c .before .before .before .before .before .before .before .before .before .before .copy .ensures))
+    (second .copy2 .ensures
+    ∙ ap (λ (l : List ℕ). stored (λ j. getD (S .args .w .now) (0 + j) 0) l (128 * (1 + S .args .m)) 128) (first .copy .ensures))
 
 pub store-solution-spec : {M : Type 1} → statement M
 store-solution-spec =

@@ -1,0 +1,197 @@
+-- The proof of the cycle of calls of `ascend`; its measure is the number of columns that are left.
+use Prim.Native.Nat.{ℕ, _-_, _<_}
+use mathlib.Core.Path.{refl, _∙_}
+use native.Mathlib.Omega.{arith}
+use borrow.Author.Needs.{needs}
+use borrow.Fn.Kinds.{In}
+use borrow.Fn.PlainCycle.{Measures, is, falls, and}
+use Rattle.levels.proofs.next.next_level.Reads as next-level-reads
+use Rattle.witness.proofs.find_witness.Reads as find-witness-reads
+use Rattle.ascent.specs.Rising.{has-raised}
+use Rattle.ascent.specs.Top.{has-last, witnessed}
+use Rattle.ascent.specs.Falling.{ascended-turn, ascended-none}
+use Rattle.ascent.specs.Empty.{zeros-at-most}
+use Rattle.ascent.proofs.ascending.ascend.Reads as ascend
+use Rattle.ascent.proofs.ascending.ascend.Kinds as ascend-kinds
+use Rattle.ascent.proofs.ascending.+ascend.Lts-ascend as ascend-lts
+use Rattle.ascent.proofs.descending.descend.Reads as descend-reads
+use Rattle.ascent.proofs.ascending.+ascend.{statement}
+use Rattle.ascent.proofs.ascending.+ascend.Tie.{close}
+
+abbrev μ-ascend : Measures 6 ascend-kinds.ps ℕ
+μ-ascend κs a = a .1 .1 .0 - a .1 .1 .1 .0
+
+abbrev ascend-at : ℕ → In 6 ascend-kinds.ps
+ascend-at t = and 6 ascend-kinds.ps (is 6 ascend-kinds.ps μ-ascend t) ascend.Pre
+
+abbrev ascend-below : ℕ → In 6 ascend-kinds.ps
+ascend-below t = and 6 ascend-kinds.ps (falls 6 ascend-kinds.ps _<_ μ-ascend t) ascend.Pre
+
+-- what its callees ask and ensure
+abbrev claims : ℕ → ascend-lts.Claims
+claims t = (
+  find-witness-reads.Asked,
+  find-witness-reads.Learnt,
+  next-level-reads.Asked,
+  next-level-reads.Learnt,
+  ascend-below t,
+  ascend.Post,
+  descend-reads.Asked,
+  descend-reads.Learnt,
+)
+
+-- the next level is made only where a column is left
+left : (t : ℕ) (c : ascend-lts.After-next-level (claims t) (ascend-at t) ascend.Post)
+    → c .before .before .before .before .before .before .before .before .before .before .before .before .args .j < c .before .before .before .before .before .before .before .before .before .before .before .before .args .m
+left t c = omega (arith, c .before .before .before .before .before .before .before .before .before .before .before .before .pre .1 .0 .3, c .before .before .before .before .before .if1 .left)
+
+find-witness-requires : (t : ℕ) → ascend-lts.Need-find-witness-requires (claims t) (ascend-at t) ascend.Post
+find-witness-requires t c κs =
+    let given = c .before .before .before .before .before .before .before .before .before .pre .1 in
+    let have = given .0 in
+    ((have .0, have .1, have .2, have .4), (given .1 .0, (has-last (omega arith) (given .1 .1 .0), given .1 .1 .1)))
+
+same-length : (t : ℕ) → ascend-lts.Need-same-length (claims t) (ascend-at t) ascend.Post
+same-length t c = search needs
+
+same-length-2 : (t : ℕ) → ascend-lts.Need-same-length-2 (claims t) (ascend-at t) ascend.Post
+same-length-2 t c = search needs
+
+returns : (t : ℕ) → ascend-lts.Need-returns (claims t) (ascend-at t) ascend.Post
+returns t c = witnessed (omega arith) (c .before .before .before .before .find-witness .ensures)
+
+mul-next-level : (t : ℕ) → ascend-lts.Need-mul-next-level (claims t) (ascend-at t) ascend.Post
+mul-next-level t c = search needs
+
+slice-aggregate-next-level : (t : ℕ) → ascend-lts.Need-slice-aggregate-next-level (claims t) (ascend-at t) ascend.Post
+slice-aggregate-next-level t c = search needs
+
+slice-aggregate-next-level-2 : (t : ℕ) → ascend-lts.Need-slice-aggregate-next-level-2 (claims t) (ascend-at t) ascend.Post
+slice-aggregate-next-level-2 t c = search needs
+
+slice-aggregate-next-level-3 : (t : ℕ) → ascend-lts.Need-slice-aggregate-next-level-3 (claims t) (ascend-at t) ascend.Post
+slice-aggregate-next-level-3 t c = search needs
+
+slice-aggregate-next-level-4 : (t : ℕ) → ascend-lts.Need-slice-aggregate-next-level-4 (claims t) (ascend-at t) ascend.Post
+slice-aggregate-next-level-4 t c = search needs
+
+next-level-requires : (t : ℕ) → ascend-lts.Need-next-level-requires (claims t) (ascend-at t) ascend.Post
+next-level-requires t c κs =
+    let given = c .before .before .before .before .before .before .before .before .before .before .before .pre .1 in
+    let input = given .0 .4 in (
+      (given .0 .0, given .1 .0),
+      (
+        (omega (arith, input .room), input .below),
+        ((refl, refl, refl, refl), (zeros-at-most 2048, zeros-at-most 16)),
+      ),
+    )
+
+add-ascend : (t : ℕ) → ascend-lts.Need-add-ascend (claims t) (ascend-at t) ascend.Post
+add-ascend t c = search needs
+
+slice-aggregate-ascend : (t : ℕ) → ascend-lts.Need-slice-aggregate-ascend (claims t) (ascend-at t) ascend.Post
+slice-aggregate-ascend t c = search needs
+
+slice-aggregate-ascend-2 : (t : ℕ) → ascend-lts.Need-slice-aggregate-ascend-2 (claims t) (ascend-at t) ascend.Post
+slice-aggregate-ascend-2 t c = search needs
+
+slice-aggregate-ascend-3 : (t : ℕ) → ascend-lts.Need-slice-aggregate-ascend-3 (claims t) (ascend-at t) ascend.Post
+slice-aggregate-ascend-3 t c = search needs
+
+ascend-requires : (t : ℕ) → ascend-lts.Need-ascend-requires (claims t) (ascend-at t) ascend.Post
+ascend-requires t c κs =
+    let N = c .before .before .before .before .before .before .before .before .before in
+    let S = N .before .before .before .before .before .before .before .before .before .before .before .before in
+    let given = S .pre .1 in
+    let have = given .0 in (
+      omega (arith, S .pre .0, left t N),
+      (
+        (have .0, have .1, have .2, omega (arith, left t N), have .4),
+        (N .next-level .ensures .valid, (has-raised (left t N) (N .next-level .ensures) (given .1 .1 .0), given .1 .1 .1)),
+      ),
+    )
+
+slice-aggregate-descend : (t : ℕ) → ascend-lts.Need-slice-aggregate-descend (claims t) (ascend-at t) ascend.Post
+slice-aggregate-descend t c = search needs
+
+slice-aggregate-descend-2 : (t : ℕ) → ascend-lts.Need-slice-aggregate-descend-2 (claims t) (ascend-at t) ascend.Post
+slice-aggregate-descend-2 t c = search needs
+
+slice-aggregate-descend-3 : (t : ℕ) → ascend-lts.Need-slice-aggregate-descend-3 (claims t) (ascend-at t) ascend.Post
+slice-aggregate-descend-3 t c = search needs
+
+slice-aggregate-descend-4 : (t : ℕ) → ascend-lts.Need-slice-aggregate-descend-4 (claims t) (ascend-at t) ascend.Post
+slice-aggregate-descend-4 t c = search needs
+
+descend-requires : (t : ℕ) → ascend-lts.Need-descend-requires (claims t) (ascend-at t) ascend.Post
+descend-requires t c κs =
+    let A = c .before .before .before .before .before .before .before .before .before .before .before in
+    let N = A .before .before .before .before .before .before .before .before .before .before in
+    let given = N .before .before .before .before .before .before .before .before .before .before .before .before .pre .1 in
+    let have = given .0 in
+    let next = N .next-level .ensures in
+    let rest = A .ascend .ensures in (
+      (have .0, have .1, omega (arith, have .2, left t N), have .4),
+      (
+        next .valid,
+        (
+          record { room = omega (arith, N .next-level .kept .1 .1 .1 .1 .1 .1 .1 .1 .0); ends = next .ends; below = next .below },
+          ((A .ascend .kept .1 .1 .1 .1 .1 .1 .1 .0 ∙ given .1 .1 .1 .0, rest .below), rest .valid),
+        ),
+      ),
+    )
+
+same-length-3 : (t : ℕ) → ascend-lts.Need-same-length-3 (claims t) (ascend-at t) ascend.Post
+same-length-3 t c = search needs
+
+same-length-4 : (t : ℕ) → ascend-lts.Need-same-length-4 (claims t) (ascend-at t) ascend.Post
+same-length-4 t c = search needs
+
+returns-2 : (t : ℕ) → ascend-lts.Need-returns-2 (claims t) (ascend-at t) ascend.Post
+returns-2 t c =
+    let A = c .before .before .before .before .before .before .before .before .before .before .before .before .before .before .before .before in
+    let N = A .before .before .before .before .before .before .before .before .before .before in
+    let rest = A .ascend .ensures in
+    ascended-turn (left t N) (N .next-level .ensures) rest (N .before .before .before .before .before .before .before .before .before .before .before .before .pre .1 .0 .1)
+    (c .before .before .before .before .before .before .before .before .before .before .before .if2 .taken) (rest .valid) (c .before .before .before .before .descend .ensures)
+
+same-length-5 : (t : ℕ) → ascend-lts.Need-same-length-5 (claims t) (ascend-at t) ascend.Post
+same-length-5 t c = search needs
+
+same-length-6 : (t : ℕ) → ascend-lts.Need-same-length-6 (claims t) (ascend-at t) ascend.Post
+same-length-6 t c = search needs
+
+returns-3 : (t : ℕ) → ascend-lts.Need-returns-3 (claims t) (ascend-at t) ascend.Post
+returns-3 t c =
+    let A = c .before .before .before .before .before in
+    let N = A .before .before .before .before .before .before .before .before .before .before in
+    ascended-none (left t N) (N .next-level .ensures) (A .ascend .ensures) (c .if2 .left)
+
+pub +ascend-spec : {M : Type 1} → statement M
++ascend-spec = close μ-ascend λ t. ascend-lts.spec (claims t) (ascend-at t) ascend.Post
+    (find-witness-requires t)
+    (same-length t)
+    (same-length-2 t)
+    (returns t)
+    (mul-next-level t)
+    (slice-aggregate-next-level t)
+    (slice-aggregate-next-level-2 t)
+    (slice-aggregate-next-level-3 t)
+    (slice-aggregate-next-level-4 t)
+    (next-level-requires t)
+    (add-ascend t)
+    (slice-aggregate-ascend t)
+    (slice-aggregate-ascend-2 t)
+    (slice-aggregate-ascend-3 t)
+    (ascend-requires t)
+    (slice-aggregate-descend t)
+    (slice-aggregate-descend-2 t)
+    (slice-aggregate-descend-3 t)
+    (slice-aggregate-descend-4 t)
+    (descend-requires t)
+    (same-length-3 t)
+    (same-length-4 t)
+    (returns-2 t)
+    (same-length-5 t)
+    (same-length-6 t)
+    (returns-3 t)

@@ -1,0 +1,4 @@
+mod Reading
+mod CertifiedWords
+mod Writing
+mod FileWriting

@@ -1,0 +1,66 @@
+-- The reader's refusals, then 11; else what `solve_read` gives (`Reading`).
+use mathlib.Core.Path.{refl, ap}
+use native.Mathlib.Omega.{arith}
+use Rattle.words.specs.Certificate.{certificateWords}
+use Rattle.reader.specs.Answer.{systemOutcome}
+use Rattle.solver.proofs.Reading.{was-read, was-refused, solves-refused, solves-short, solves-given}
+use borrow.Author.Needs.{needs}
+use Rattle.solver.proofs.solve.Statement.{statement}
+use Rattle.solver.proofs.solve.Tie as tie
+
+limits-requires : tie.Need-limits-requires
+limits-requires c κs = search needs
+
+read-system-requires : tie.Need-read-system-requires
+read-system-requires c κs = search needs
+
+enum-known-read : tie.Need-enum-known-read
+enum-known-read c = search needs
+
+returns : tie.Need-returns
+returns c =
+    let read = c .before .before in
+    let told = read .before .before in
+    let lent = told .before .before .before .before .args .words .now in
+    let R = was-read _ _ (told .before .limits .ensures) (told .read-system .ensures) (ap systemOutcome (read .read .given .1)) in
+    solves-short 2198 certificateWords lent lent _ _ (R .read) (c .if1 .taken) refl refl
+
+solve-read-requires : tie.Need-solve-read-requires
+solve-read-requires c κs =
+    let read = c .before .before .before in
+    let told = read .before .before in
+    (was-read _ _ (told .before .limits .ensures) (told .read-system .ensures) (ap systemOutcome (read .read .given .1)), search needs)
+
+enum-known-read-2 : tie.Need-enum-known-read-2
+enum-known-read-2 c = search needs
+
+same-length : tie.Need-same-length
+same-length c = search needs
+
+returns-2 : tie.Need-returns-2
+returns-2 c =
+    let read = c .before .before .before .before .before .before in
+    let told = read .before .before in
+    let R = was-read _ _ (told .before .limits .ensures) (told .read-system .ensures) (ap systemOutcome (read .read .given .1)) in
+    solves-given 2198 certificateWords _ _ _ _ (R .read) (search needs) _ refl (c .before .before .solve-read .ensures (R .system) (R .read))
+
+returns-3 : tie.Need-returns-3
+returns-3 c =
+    let told = c .before .before .before in
+    let lent = told .before .before .before .before .args .words .now in
+    solves-refused 2198 certificateWords lent lent _ _ (was-refused _ _ (told .before .limits .ensures) (told .read-system .ensures) (ap systemOutcome (c .before .read2 .given .1)))
+    refl refl
+
+pub solve-spec : {M : Type 1} → statement M
+solve-spec =
+    tie.close
+    (tie.spec
+    limits-requires
+    read-system-requires
+    enum-known-read
+    returns
+    solve-read-requires
+    enum-known-read-2
+    same-length
+    returns-2
+    returns-3)

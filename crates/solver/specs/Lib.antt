@@ -1,0 +1,4 @@
+pub mod Solving
+pub mod Certified
+pub mod Answer
+pub mod SolvingLaws

@@ -1,0 +1,63 @@
+-- What the solver gives, for every list of words and whatever words are lent (document 01, "Turned back" and "Four questions").
+use Prim.Native.Nat.{ℕ, _*_}
+use mathlib.Core.Path.{_≡_}
+use mathlib.Core.List.{List}
+use lib.ListN.{length}
+use lib.Dec.{ltb}
+use Rattle.words.specs.Limits.{Limits, longestCertificate}
+use Rattle.words.specs.Outcome.{Outcome, refuse, followedBy}
+use Rattle.words.specs.Outcome.Outcome.{accepted, refused}
+use Rattle.words.specs.System.{System, shape, readSystem}
+use Rattle.words.specs.Bytes.{bytesOf, readSystemFile}
+use Rattle.words.specs.Certificate.{Certificate, CertificateWithin, certificateWords}
+use Rattle.truth.specs.Solution.{Answers}
+use Rattle.truth.specs.Right.{Right}
+use Rattle.writer.specs.Writing.{overwritten}
+use Rattle.meaning.specs.Answers.{answerOf}
+
+-- what was read is the system to solve, if there is room for the longest certificate: "The solver reads the sheet, then looks at 11."
+abbrev pub withRoom : (longest lent : ℕ) → Outcome System → Outcome System
+withRoom longest lent read =
+    followedBy read (λ s.
+    refuse (ltb lent longest) 11 0  -- 11: fewer words lent than the longest card has
+    (accepted s))
+
+abbrev pub systemToSolve : Limits → ℕ → List ℕ → Outcome System
+systemToSolve limits lent ws = withRoom (longestCertificate limits) lent (readSystem limits ws)
+
+-- Free is which N, w, Z or q: "they keep the degree bound, the check's conditions hold of the card, its words are its written form,
+-- and the returned count is theirs. Kind and d are not free". "Lent words behind the card keep their values." A certificate is written
+-- as words, or as bytes of a file.
+pub record Gives (limits : Limits) (write : Certificate → List ℕ) (s : System) (entry exit : List ℕ) (count : ℕ) : Type 0 where
+  pub certificate : Certificate
+  pub within : CertificateWithin limits (shape s) certificate
+  pub right : Right s certificate
+  pub answers : Answers s (answerOf certificate)
+  pub words : exit ≡ overwritten (write certificate) entry
+  pub same-count : count ≡ length (write certificate)
+
+-- "A refusal gives a number and a place, and no lent word changes."
+unfoldable pub SolvesOr : Limits → (Certificate → List ℕ) → Outcome System → (entry exit : List ℕ) → Outcome ℕ → Type 0
+SolvesOr limits write (refused number place) entry exit answer = (answer ≡ refused number place) × (exit ≡ entry)
+SolvesOr limits write (accepted s) entry exit answer =
+    (count : ℕ) × (answer ≡ accepted count) × Gives limits write s entry exit count
+
+-- the answer to the words of a system, and the lent words before and after
+abbrev pub Solves : Limits → List ℕ → (entry exit : List ℕ) → Outcome ℕ → Type 0
+Solves limits ws entry exit answer =
+    SolvesOr limits certificateWords (systemToSolve limits (length entry) ws) entry exit answer
+
+-- ---- files
+
+-- with 10 before all others; 11 where fewer bytes are lent than the longest certificate's file has
+abbrev pub fileToSolve : Limits → ℕ → List ℕ → Outcome System
+fileToSolve limits lent file = withRoom (4 * longestCertificate limits) lent (readSystemFile limits file)
+
+unfoldable pub certificateBytes : Certificate → List ℕ
+unfolding bytesOf certificateWords
+certificateBytes c = bytesOf (certificateWords c)
+
+-- the answer to the bytes of a system's file, and the lent bytes before and after
+abbrev pub SolvesFile : Limits → List ℕ → (entry exit : List ℕ) → Outcome ℕ → Type 0
+SolvesFile limits file entry exit answer =
+    SolvesOr limits certificateBytes (fileToSolve limits (length entry) file) entry exit answer
