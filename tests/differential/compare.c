@@ -1,0 +1,156 @@
+// The three exported calls on guarded memory, and all that must hold of what they give back and leave behind.
+#include "compare.h"
+#include <signal.h>
+#include <stdarg.h>
+#include <stdio.h>
+#include <stdlib.h>
+#include <string.h>
+#include <unistd.h>
+#include "lent.h"
+#include "product.h"
+
+enum { SECONDS = 60 }; // the longest that a call may take
+
+struct trial trial;
+static struct area lent_system, lent_certificate, lent_result;
+
+static void print_words(const char *name, const struct file *f)
+{
+    fprintf(stderr, "%s (%zu bytes):", name, f->count);
+    for (size_t i = 0; i < f->count / 4; i++)
+        fprintf(stderr, " %08X", word_at(f, i));
+    for (size_t i = f->count / 4 * 4; i < f->count; i++)
+        fprintf(stderr, " .%02X", f->byte[i]);
+    fputc('\n', stderr);
+}
+
+static _Noreturn void differ(const char *form, ...)
+{
+    va_list values;
+    va_start(values, form);
+    fprintf(stderr, "difference in %s, case %lu, seed %lu: ", trial.part, (unsigned long)trial.number, (unsigned long)trial.seed);
+    vfprintf(stderr, form, values);
+    fputc('\n', stderr);
+    va_end(values);
+    print_words("system", trial.system);
+    if (trial.certificate != NULL)
+        print_words("certificate", trial.certificate);
+    fflush(NULL);
+    _exit(1);
+}
+
+static void on_signal(int number)
+{
+    differ(number == SIGALRM ? "no answer in time" : "signal %d", number);
+}
+
+void open_comparison(void)
+{
+    static const int signals[] = {SIGSEGV, SIGBUS, SIGILL, SIGFPE, SIGTRAP, SIGABRT, SIGALRM};
+    struct sigaction action = {.sa_handler = on_signal};
+    for (size_t i = 0; i < sizeof signals / sizeof signals[0]; i++)
+        sigaction(signals[i], &action, NULL);
+    open_area(&lent_system);
+    open_area(&lent_certificate);
+    open_area(&lent_result);
+}
+
+static void lend_file(struct draws *g, struct area *a, const struct file *f)
+{
+    lend(a, f->count, chance(g, 75), (uint8_t)draw(g));
+    memcpy(a->bytes, f->byte, f->count);
+}
+
+// what was lent to be read is as it was
+static void expect_unchanged(const char *call, const struct area *a, const struct file *f)
+{
+    if (memcmp(a->bytes, f->byte, f->count) != 0 || !untouched(a, f->count))
+        differ("%s has changed what it reads, or bytes around it", call);
+}
+
+static void expect_result(const char *call, uint64_t result, struct refusal r)
+{
+    if (result != ((uint64_t)r.number << 32 | r.place))
+        differ("%s: %u at %u expected, %lu at %lu found", call, r.number, r.place, (unsigned long)(result >> 32),
+               (unsigned long)(result & 0xFFFFFFFF));
+}
+
+// the solver's certificate is a right one, of the kind and with the denominator that are due
+static void expect_right(const struct answer *a, const struct file *certificate)
+{
+    static struct system s;
+    static struct certificate c;
+    read_system(&s, trial.system);
+    struct refusal r = read_certificate(&c, &s, certificate);
+    if (word_at(certificate, certificate->count / 4 - 1) != ((uint32_t)END << 28 | certificate->count / 4))
+        differ("solve: the end word is not that of the count");
+    if (r.number != 0)
+        differ("solve: its certificate is refused by the reference's reader, %u at %u", r.number, r.place);
+    if (c.kind != a->kind)
+        differ("solve: kind %u expected, %u found", a->kind, c.kind);
+    if (c.kind == SOLUTION && !equal(&c.d, &a->d))
+        differ("solve: the denominator is not the least, which has degree %u", a->d.size - 1);
+    r = verdict(&s, &c);
+    if (r.number != 0)
+        differ("solve: its certificate is refused by the reference's check, %u at %u", r.number, r.place);
+}
+
+struct refusal compare_solve(struct draws *g, const struct answer *a, size_t lent, struct file *certificate)
+{
+    lend_file(g, &lent_system, trial.system);
+    lend(&lent_result, lent, chance(g, 75), (uint8_t)draw(g));
+    alarm(SECONDS);
+    uint64_t result = yezsdolak_solve(lent_system.bytes, trial.system->count, lent_result.bytes, lent);
+    alarm(0);
+    expect_unchanged("solve", &lent_system, trial.system);
+    struct refusal r = a->refusal;
+    if (r.number == 0 && lent < 4 * LONGEST_CERTIFICATE)
+        r = (struct refusal){11, 0};
+    if (r.number != 0 || result >> 32 != 0) {
+        expect_result("solve", result, r);
+        if (!untouched(&lent_result, 0))
+            differ("solve has written in spite of its refusal");
+        return r;
+    }
+    if (result == 0 || result % 4 != 0 || result > 4 * LONGEST_CERTIFICATE)
+        differ("solve: no count of a certificate's bytes: %lu", (unsigned long)result);
+    certificate->count = (size_t)result;
+    memcpy(certificate->byte, lent_result.bytes, certificate->count);
+    trial.certificate = certificate;
+    if (!untouched(&lent_result, certificate->count))
+        differ("solve has written behind the certificate or around the lent bytes");
+    expect_right(a, certificate);
+    return r;
+}
+
+struct refusal compare_check(struct draws *g)
+{
+    lend_file(g, &lent_system, trial.system);
+    lend_file(g, &lent_certificate, trial.certificate);
+    alarm(SECONDS);
+    uint64_t result = yezsdolak_check(lent_system.bytes, trial.system->count, lent_certificate.bytes, trial.certificate->count);
+    alarm(0);
+    expect_unchanged("check", &lent_system, trial.system);
+    expect_unchanged("check", &lent_certificate, trial.certificate);
+    struct refusal r = check_files(trial.system, trial.certificate);
+    expect_result("check", result, r);
+    return r;
+}
+
+void compare_report(struct draws *g, const struct answer *a, size_t lent)
+{
+    char text[REPORT_ROOM];
+    size_t count = lent < REPORT_ROOM ? 0 : report_text(text, a);
+    lend_file(g, &lent_system, trial.system);
+    lend(&lent_result, lent, chance(g, 75), (uint8_t)draw(g));
+    alarm(SECONDS);
+    uint64_t result = yezsdolak_report(lent_system.bytes, trial.system->count, lent_result.bytes, lent);
+    alarm(0);
+    expect_unchanged("report", &lent_system, trial.system);
+    if (result != count)
+        differ("report: %zu bytes expected, %lu found", count, (unsigned long)result);
+    if (memcmp(lent_result.bytes, text, count) != 0)
+        differ("report: \"%.*s\" expected, \"%.*s\" found", (int)count, text, (int)count, (const char *)lent_result.bytes);
+    if (!untouched(&lent_result, count == 0 ? 0 : lent))
+        differ("report has written outside of its text's lent bytes");
+}

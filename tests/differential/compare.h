@@ -1,0 +1,22 @@
+// One call of the product and the reference's opinion of it. A difference ends the program with the words at hand.
+#ifndef COMPARE_H
+#define COMPARE_H
+#include "draws.h"
+#include "reference/reference.h"
+
+// the case that is being tried, for the message; certificate may be NULL
+struct trial {
+    const char *part;
+    uint64_t number, seed;
+    const struct file *system, *certificate;
+};
+
+extern struct trial trial;
+
+void open_comparison(void);
+
+// Each call is made on memory lent anew, placed and filled by draws. The certificate is the one that was solved, if any.
+struct refusal compare_solve(struct draws *g, const struct answer *a, size_t lent, struct file *certificate);
+struct refusal compare_check(struct draws *g);
+void compare_report(struct draws *g, const struct answer *a, size_t lent);
+#endif

@@ -1,0 +1,40 @@
+// Document 01 once more: what the product is compared with.
+#ifndef REFERENCE_H
+#define REFERENCE_H
+#include "words.h"
+
+// The number that the exported check gives for a certificate's file that holds no words; document 01 has none.
+enum { NOT_CERTIFICATE = 255 };
+
+// reading.c: numbers 10, 1 to 9; for a certificate 21, 24 to 29
+bool is_prime(uint32_t p);
+struct refusal read_system(struct system *s, const struct file *f);
+bool holds_words(const struct file *f); // whole ones, and at most one more than the longest certificate has
+struct refusal read_certificate(struct certificate *c, const struct system *s, const struct file *f);
+
+// writing.c: the written form of values, whether or not they keep the bounds
+void write_system(struct file *f, const struct system *s);
+void write_certificate(struct file *f, const struct system *s, const struct certificate *c);
+
+// verdict.c: numbers 31 to 36; then all numbers of two files
+struct refusal verdict(const struct system *s, const struct certificate *c);
+struct refusal check_files(const struct file *system, const struct file *certificate);
+
+// hermite.c: kind, and the least denominator of a solvable system
+enum kind least_denominator(const struct system *s, struct polynomial *d);
+
+// hermite.c: the first so many v, as the result says, are vectors of m polynomials with A·v = 0
+uint32_t kernel(const struct system *s, struct polynomial v[MOST][MOST]);
+
+// answer.c: what is to be said of a system's file, and the report's text on it
+struct answer {
+    struct refusal refusal;
+    enum kind kind;      // if nothing is refused
+    struct polynomial d; // of a solution
+};
+
+enum { REPORT_ROOM = 1024 };
+
+void answer_to(struct answer *a, const struct file *system);
+size_t report_text(char text[REPORT_ROOM], const struct answer *a);
+#endif

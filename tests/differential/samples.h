@@ -1,0 +1,11 @@
+// Random systems: all shapes, degrees and primes, most of them small and special.
+#ifndef SAMPLES_H
+#define SAMPLES_H
+#include "draws.h"
+#include "reference/words.h"
+
+enum form { DENSE, SPARSE, POWER, FACTORS, HIGHEST, FORMS };
+
+void draw_polynomial(struct draws *g, uint32_t p, struct polynomial *f, uint32_t degree, enum form form); // or of less degree
+void draw_system(struct draws *g, struct system *s);
+#endif

@@ -1,0 +1,152 @@
+// The reference against the stored sets of tests/data: selftest FOLDER. The form of the sets is in tests/reference/README.md.
+#include <stdio.h>
+#include <stdlib.h>
+#include <string.h>
+#include "reference/reference.h"
+
+enum { LINE = 2048 };
+
+struct set {
+    const char *name;
+    FILE *input, *output;
+    uint32_t cases;
+};
+
+static _Noreturn void fail(const struct set *set, const char *why)
+{
+    fprintf(stderr, "self-test: %s, case %u: %s\n", set->name, set->cases, why);
+    exit(1);
+}
+
+static FILE *open_part(const char *folder, const char *name, const char *part)
+{
+    char path[LINE];
+    snprintf(path, sizeof path, "%s/%s.%s", folder, name, part);
+    FILE *file = fopen(path, "rb");
+    if (file == NULL) {
+        fprintf(stderr, "self-test: no %s\n", path);
+        exit(2);
+    }
+    return file;
+}
+
+// the next list of bytes; false at the end of the set
+static bool next_list(struct set *set, struct file *list)
+{
+    list->count = fread(list->byte, 1, 4, set->input);
+    if (list->count == 0)
+        return false;
+    list->count = word_at(list, 0);
+    if (list->count > FILE_ROOM || fread(list->byte, 1, list->count, set->input) != list->count)
+        fail(set, "the set is broken");
+    return true;
+}
+
+// a line of text, its own line ends as "; ", is the next stored one
+static void expect(struct set *set, const char *text)
+{
+    char stored[LINE], said[LINE];
+    size_t count = 0;
+    for (; *text != '\0'; text++) {
+        said[count++] = *text == '\n' && text[1] != '\0' ? ';' : *text;
+        if (*text == '\n' && text[1] != '\0')
+            said[count++] = ' ';
+    }
+    said[count] = '\0';
+    if (fgets(stored, sizeof stored, set->output) == NULL || strcmp(stored, said) != 0)
+        fail(set, said);
+}
+
+static void expect_refusal(struct set *set, struct refusal r, const char *otherwise)
+{
+    char text[LINE];
+    if (r.number == 0)
+        snprintf(text, sizeof text, "%s\n", otherwise);
+    else
+        snprintf(text, sizeof text, "refused %u at %u\n", r.number, r.place);
+    expect(set, text);
+}
+
+// A·v = 0 for all vectors that are to be a kernel
+static void expect_kernel(struct set *set, const struct system *s)
+{
+    static struct polynomial v[MOST][MOST], f;
+    uint32_t count = kernel(s, v);
+    for (uint32_t k = 0; k < count; k++)
+        for (uint32_t i = 0; i < s->n; i++) {
+            f.size = 0;
+            for (uint32_t j = 0; j < s->m; j++)
+                add_product(s->p, &f, &s->a[i][j], &v[k][j]);
+            if (f.size != 0)
+                fail(set, "no vector of the kernel");
+        }
+}
+
+static void try_solution(struct set *set, const struct file *system)
+{
+    static struct answer a;
+    static struct system s;
+    char text[REPORT_ROOM];
+    answer_to(&a, system);
+    report_text(text, &a);
+    expect(set, text);
+    if (read_system(&s, system).number == 0)
+        expect_kernel(set, &s);
+}
+
+static void try_system(struct set *set, const struct file *system)
+{
+    static struct system s;
+    char text[64];
+    struct refusal r = read_system(&s, system);
+    snprintf(text, sizeof text, "read %u %u %u", s.p, s.n, s.m);
+    expect_refusal(set, r, text);
+}
+
+// what is read of a valid system and certificate is written back to the same bytes
+static void expect_written(struct set *set, const struct file *system, const struct file *certificate)
+{
+    static struct system s;
+    static struct certificate c;
+    static struct file written;
+    if (read_system(&s, system).number != 0 || read_certificate(&c, &s, certificate).number != 0)
+        return;
+    write_system(&written, &s);
+    if (written.count != system->count || memcmp(written.byte, system->byte, system->count) != 0)
+        fail(set, "the system is written in another way");
+    write_certificate(&written, &s, &c);
+    if (written.count != certificate->count || memcmp(written.byte, certificate->byte, certificate->count) != 0)
+        fail(set, "the certificate is written in another way");
+}
+
+static void try_verdict(struct set *set, const struct file *system)
+{
+    static struct file certificate;
+    if (!next_list(set, &certificate))
+        fail(set, "the set is broken");
+    expect_refusal(set, check_files(system, &certificate), "accepted");
+    expect_written(set, system, &certificate);
+}
+
+static uint32_t try_set(const char *folder, const char *name, void try(struct set *, const struct file *))
+{
+    static struct file list;
+    struct set set = {name, open_part(folder, name, "stdin"), open_part(folder, name, "stdout"), 0};
+    for (; next_list(&set, &list); set.cases++)
+        try(&set, &list);
+    if (fgetc(set.output) != EOF)
+        fail(&set, "lines are left over");
+    fclose(set.input);
+    fclose(set.output);
+    return set.cases;
+}
+
+int main(int count, char **argument)
+{
+    const char *folder = count == 2 ? argument[1] : "tests/data";
+    uint32_t solutions = try_set(folder, "solutions", try_solution);
+    uint32_t systems = try_set(folder, "systems", try_system);
+    uint32_t verdicts = try_set(folder, "verdicts", try_verdict);
+    printf("self-test: %u solutions, %u systems, %u verdicts as stored\n", solutions, systems, verdicts);
+    return 0;
+}
