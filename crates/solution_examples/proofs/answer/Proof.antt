@@ -1,4 +1,5 @@
 -- The report is among the bytes lent for it.
+use lib.ListN.{replicate}
 use Rattle.words.specs.Limits.{office}
 use Rattle.reporting.specs.ReportingLaws.{reports-most}
 use borrow.Author.Needs.{needs}
@@ -21,7 +22,9 @@ part-show-start : tie.Need-part-show-start
 part-show-start c = search needs
 
 part-show-end : tie.Need-part-show-end
-part-show-end c = reports-most _ _ office _ (c .before .before .before .before .write-report .ensures)
+part-show-end c =
+    let report = c .before .before .before .before .write-report in
+    reports-most (replicate 1024 0) (report .last .1 .0) office _ (report .ensures)
 
 show-requires : tie.Need-show-requires
 show-requires c κs = search needs

@@ -1,36 +1,13 @@
 -- The certificate is among the words lent for it.
-use mathlib.Core.Path.{_≡_, sym, ap, _∙_}
-use mathlib.Core.List.{List}
-use Prim.Native.Nat.{ℕ, _≤_}
-use native.Mathlib.Omega.{arith}
-use lib.ListN.{length, drop, replicate, length-append}
+use mathlib.Core.Path.{ap}
+use lib.ListN.{replicate}
 use Rattle.words.specs.Limits.{office}
-use Rattle.words.specs.Outcome.{Outcome}
-use Rattle.words.specs.Outcome.Outcome.{accepted, refused}
-use Rattle.words.specs.OutcomeLaws.{refused-accepted}
-use Rattle.words.specs.System.{System}
 use Rattle.words.specs.Certificate.{certificateWords}
-use Rattle.solver.specs.Solving.{systemToSolve, SolvesOr, Solves}
 use Rattle.solver.specs.Answer.{solvedOutcome}
+use Rattle.solver.specs.SolvingLaws.{solves-fits}
 use borrow.Author.Needs.{needs}
 use Rattle.solution_examples.proofs.is_certified.Statement.{statement}
 use Rattle.solution_examples.proofs.is_certified.Tie as tie
-
-accepted-same : {A : Type 0} {a b : A} → accepted a ≡ accepted b → a ≡ b
-accepted-same e = cc
-
-module _ (entry exit : List ℕ) {answer : Outcome ℕ} {count : ℕ} (is : answer ≡ accepted count) where
-  by-system : (o : Outcome System) → SolvesOr office certificateWords o entry exit answer → count ≤ length exit
-  unfolding SolvesOr
-  by-system (refused number place) h = absurd (refused-accepted (sym (h .0) ∙ is))
-  by-system (accepted s) h =
-      let G = h .2 in
-      let words = certificateWords (G .certificate) in
-      let whole = length-append words (drop (length words) entry) in
-      omega (arith, accepted-same (sym (h .1) ∙ is), G .same-count, ap length (G .words), whole)
-
-  solves-most : (ws : List ℕ) → Solves office ws entry exit answer → count ≤ length exit
-  solves-most ws = by-system (systemToSolve office (length entry) ws)
 
 slice-aggregate-solve : tie.Need-slice-aggregate-solve
 slice-aggregate-solve c = search needs
@@ -51,9 +28,8 @@ part-check-end : tie.Need-part-check-end
 part-check-end c =
     let read = c .before .before in
     let solves = read .before .before .before in
-    let S = solves .before .before .before in
-    solves-most (replicate 2198 0) (solves .solve .last .1 .0) (ap solvedOutcome (read .solved .given .1)) (S .args .system .now)
-    (solves .solve .ensures)
+    let solved = solves .solve in
+    solves-fits office certificateWords _ (replicate 2198 0) (solved .last .1 .0) _ (solved .ensures) _ (ap solvedOutcome (read .solved .given .1))
 
 check-requires : tie.Need-check-requires
 check-requires c κs = search needs
