@@ -25,9 +25,9 @@ ghost use Rattle.solver.specs.Answer.{solvedOutcome};
 
 // What the solver answers.
 pub enum Solved {
-    // The first so many of the lent words are a certificate for the system; those behind it stand as before.
+    // The first so many of the lent words, or bytes for a file, are a certificate for the system; those behind it stand as before.
     Count(usize),
-    // The number of the refusal, and its place. All lent words stand as before.
+    // The number of the refusal, and its place. All that was lent stands as before.
     Refused(u8, usize),
 }
 

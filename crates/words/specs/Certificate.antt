@@ -58,7 +58,7 @@ certificateWords c = framedWords (formWord (certificateForm c)) (certificateEntr
 
 -- ---- reading
 
--- of a payload of 1 or 2: whether it is 1
+-- whether it is a solution: in a head, of a payload of 1 or 2, whether it is 1
 unfoldable pub formOf : Bool → Form
 formOf true = solving
 formOf false = absent

@@ -1,5 +1,6 @@
 -- The solver's promise is kept, and the check's refusal does not occur (`Accepting`).
 use mathlib.Core.Path.{sym, ap, _∙_}
+use native.Mathlib.Omega.{arith}
 use lib.Seq.{length-take-le}
 use Rattle.conditions.specs.Answer.{verdictOutcome}
 use Rattle.solver.specs.Answer.{solvedOutcome}
@@ -18,13 +19,13 @@ slice-reshare-prefix-check : tie.Need-slice-reshare-prefix-check
 slice-reshare-prefix-check c =
     let solved = c .before .before .before .before .before .solve in
     let lent = c .before .before .before .before .before .before .before .before .before .args .words .now in
-    count-fits _ lent (solved .last .1 .0) _ (solved .ensures) (ap solvedOutcome (c .before .solved .given .1))
+    omega (arith, count-fits _ lent (solved .last .1 .0) _ (solved .ensures) (ap solvedOutcome (c .before .solved .given .1)))
 
 slice-aggregate-check : tie.Need-slice-aggregate-check
 slice-aggregate-check c =
     let solved = c .before .before .before .before .before .before .solve in
     let lent = c .before .before .before .before .before .before .before .before .before .before .args .words .now in
-    sym (length-take-le _ _ (count-fits _ lent (solved .last .1 .0) _ (solved .ensures) (ap solvedOutcome (c .before .before .solved .given .1))))
+    sym (length-take-le _ _ (omega (arith, count-fits _ lent (solved .last .1 .0) _ (solved .ensures) (ap solvedOutcome (c .before .before .solved .given .1)))))
 
 check-requires : tie.Need-check-requires
 check-requires c κs = search needs

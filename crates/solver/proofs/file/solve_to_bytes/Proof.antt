@@ -47,14 +47,14 @@ array-share-prefix-words c =
     let read = c .before .before .before .before .before in
     let told = read .before .before in
     let R = was-read _ _ (told .before .limits .ensures) (told .read-system .ensures) (ap systemOutcome (read .read .given .1)) in
-    gives-fits (c .before .solve-read .ensures (R .system) (R .read))
+    omega (arith, gives-fits (c .before .solve-read .ensures (R .system) (R .read)))
 
 slice-aggregate-write-bytes : tie.Need-slice-aggregate-write-bytes
 slice-aggregate-write-bytes c =
     let read = c .before .before .before .before .before .before in
     let told = read .before .before in
     let R = was-read _ _ (told .before .limits .ensures) (told .read-system .ensures) (ap systemOutcome (read .read .given .1)) in
-    sym (length-take-le _ _ (gives-fits (c .before .before .solve-read .ensures (R .system) (R .read))))
+    sym (length-take-le _ _ (omega (arith, gives-fits (c .before .before .solve-read .ensures (R .system) (R .read)))))
 
 write-bytes-requires : tie.Need-write-bytes-requires
 write-bytes-requires c κs =
