@@ -48,7 +48,8 @@ all-listed p limit (suc n) f h =
 
 -- polynomials of bounded size as lists
 module _ (p : ℕ) (prime : Prime p) where
-  list-within : {limit : ℕ} (x : Polynomial (residues p prime)) → size (residues p prime) x ≤ limit → Within p limit (listOf p prime x)
+  list-within : {limit : ℕ} (x : Polynomial (residues p prime)) → size (residues p prime) x ≤ limit
+      → Within p limit (listOf p prime x)
   list-within x h = record { canonical = list-canonical p prime x; size = omega (arith, list-length p prime x) }
 
   abbrev lists : ℕ → (ℕ → Polynomial (residues p prime)) → List (List ℕ)
@@ -87,7 +88,8 @@ module _ (s : System) (h : SystemWithin office s) where
   unfolding CertificateWithin Right
   solved C = record {
     certificate =
-        solution (listOf p prime (C .d)) (lists p prime (s .columns) (C .N)) (listOf p prime (C .w)) (lists p prime (s .rows) (C .Z));
+        solution (listOf p prime (C .d)) (lists p prime (s .columns) (C .N))
+        (listOf p prime (C .w)) (lists p prime (s .rows) (C .Z));
     within = record {
       denominator = list-within p prime (C .d) (C .small .denominator);
       numerators = lists-within p prime (s .columns) (C .N) (C .small .numerators);
