@@ -80,8 +80,8 @@ module _ (limits : Limits) (fit : LimitsFit limits) (ws entry exit : List ℕ) (
   pub solved-accepted : Solves limits ws entry exit answer → (count : ℕ) → answer ≡ accepted count
       → verdict limits ws (take count exit) ≡ accepted tt
   solved-accepted h count a =
-      let given = solved-gives limits certificateWords (longestCertificate limits) (length entry) (readSystem limits ws) entry exit answer
-      h count a in
+      let given = solved-gives limits certificateWords (longestCertificate limits) (length entry) (readSystem limits ws)
+      entry exit answer h count a in
       gives-accepted (given .1) (given .2)
 
 -- for every system within the limits there is an answer
