@@ -39,8 +39,8 @@ bytes-are c = refl
 
 module _ (limits : Limits) (fit : LimitsFit limits) (file entry exit : List ℕ) where
   -- the system's file is not at fault, the certificate's is one, and the check accepts their words
-  gives-accepted : {s : System} {count : ℕ} → readSystemFile limits file ≡ accepted s → Gives limits certificateBytes s entry exit count
-      → fileVerdict limits file (take count exit) ≡ told (accepted tt)
+  gives-accepted : {s : System} {count : ℕ} → readSystemFile limits file ≡ accepted s
+      → Gives limits certificateBytes s entry exit count → fileVerdict limits file (take count exit) ≡ told (accepted tt)
   unfolding readSystemFile fileVerdict
   gives-accepted {s} {count} e G =
       let ten = refuse-passed (broken file || tooLong limits file) 10 0 (readSystem limits (wordsOf file)) e in
@@ -48,8 +48,9 @@ module _ (limits : Limits) (fit : LimitsFit limits) (file entry exit : List ℕ)
       let ws = certificateWords (G .certificate) in
       let bytes : take count exit ≡ bytesOf ws = gives-words G ∙ bytes-are (G .certificate) in
       let most = certificateWords-most limits (shape s) fit (read .1 .shape) (G .certificate) (G .within) in
-      ap (λ b. firstOf b (certificateFile? limits (take count exit)) (verdict limits (wordsOf file) (wordsOf (take count exit)))) (ten .0)
-      ∙ ap (λ b. firstOf false b (verdict limits (wordsOf file) (wordsOf (take count exit))))
+      let told-of = verdict limits (wordsOf file) (wordsOf (take count exit)) in
+      ap (λ b. firstOf b (certificateFile? limits (take count exit)) told-of) (ten .0)
+      ∙ ap (λ b. firstOf false b told-of)
       (ap (certificateFile? limits) bytes ∙ words-file limits ws most)
       ∙ ap told (accepted-of-words limits fit (wordsOf file) (wordsOf (take count exit)) (record {
         system = s;
