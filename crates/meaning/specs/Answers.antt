@@ -13,7 +13,7 @@ unfoldable pub answerOf : Certificate → Answer
 answerOf (solution d N w Z) = least d
 answerOf (absence q) = none
 
-true-answers : (s : System) (c : Certificate) → True s c → Answers s (answerOf c)
+pub true-answers : (s : System) (c : Certificate) → True s c → Answers s (answerOf c)
 unfolding True Answers answerOf
 true-answers s (solution d N w Z) t = t .least
 true-answers s (absence q) t = t

@@ -7,3 +7,4 @@ pub mod TakenLaws
 pub mod RightLists
 pub mod TakenRight
 pub mod Answers
+pub mod Existence

@@ -2,7 +2,7 @@
 -- and the check accepts it".
 use Prim.Native.Nat.{ℕ, _≤_}
 use mathlib.Core.Path.{_≡_, refl, sym, ap, _∙_, subst}
-use mathlib.Core.Bool.{Bool, false}
+use mathlib.Core.Bool.{Bool, true, false}
 use mathlib.Core.List.{List}
 use native.Mathlib.Omega.{arith}
 use lib.ListN.{length, take, drop, length-append}
@@ -13,7 +13,7 @@ use Rattle.words.specs.Limits.{Limits, longestCertificate}
 use Rattle.words.specs.LimitsLaws.{LimitsFit}
 use Rattle.words.specs.Outcome.{Outcome, refuse}
 use Rattle.words.specs.Outcome.Outcome.{accepted, refused}
-use Rattle.words.specs.OutcomeLaws.{refused-accepted, followedBy-accepted, refuse-passed}
+use Rattle.words.specs.OutcomeLaws.{refused-accepted}
 use Rattle.words.specs.System.{System, SystemWithin, systemWords, readSystem}
 use Rattle.words.specs.SystemLaws.{system-read-of-written, system-written-of-read}
 use Rattle.words.specs.Certificate.{Certificate, certificateWords}
@@ -39,13 +39,27 @@ solves-fits limits write (refused number place) entry exit answer h count a = ab
 solves-fits limits write (accepted s) entry exit answer h count a =
     subst (λ n. n ≤ length exit) (accepted-same (sym (h .1) ∙ a)) (gives-fits (h .2))
 
--- the certificate's words are the first of the lent ones
-pub gives-words : {limits : Limits} {s : System} {entry exit : List ℕ} {count : ℕ}
-    → (G : Gives limits certificateWords s entry exit count) → take count exit ≡ certificateWords (G .certificate)
-gives-words {limits} {s} {entry} {exit} {count} G =
+-- the certificate's words, or bytes, are the first of the lent ones
+pub gives-words : {limits : Limits} {write : Certificate → List ℕ} {s : System} {entry exit : List ℕ} {count : ℕ}
+    → (G : Gives limits write s entry exit count) → take count exit ≡ write (G .certificate)
+gives-words {write = write} {entry = entry} {exit = exit} {count = count} G =
     ap (λ l. take count l) (G .words)
-    ∙ ap (λ n. take n (overwritten (certificateWords (G .certificate)) entry)) (G .same-count)
-    ∙ take-append-seam (certificateWords (G .certificate)) _
+    ∙ ap (λ n. take n (overwritten (write (G .certificate)) entry)) (G .same-count)
+    ∙ take-append-seam (write (G .certificate)) _
+
+-- a count is given only for a system that was read
+pub solved-gives : (limits : Limits) (write : Certificate → List ℕ) (longest lent : ℕ) (read : Outcome System) (entry exit : List ℕ)
+    (answer : Outcome ℕ) → SolvesOr limits write (withRoom longest lent read) entry exit answer
+    → (count : ℕ) → answer ≡ accepted count → (s : System) × (read ≡ accepted s) × Gives limits write s entry exit count
+unfolding SolvesOr
+solved-gives limits write longest lent (refused number place) entry exit answer h count a =
+    absurd (refused-accepted (sym (h .0) ∙ a))
+solved-gives limits write longest lent (accepted s) entry exit answer h count a = go (ltb lent longest) h
+  where
+    go : (short : Bool) → SolvesOr limits write (refuse short 11 0 (accepted s)) entry exit answer
+        → (t : System) × (accepted s ≡ accepted t) × Gives limits write t entry exit count
+    go true h = absurd (refused-accepted (sym (h .0) ∙ a))
+    go false h = (s, refl, subst (Gives limits write s entry exit) (accepted-same (sym (h .1) ∙ a)) (h .2))
 
 module _ (limits : Limits) (fit : LimitsFit limits) (ws entry exit : List ℕ) (answer : Outcome ℕ) where
   -- the check accepts what the solver gives
@@ -63,20 +77,12 @@ module _ (limits : Limits) (fit : LimitsFit limits) (ws entry exit : List ℕ) (
         right = G .right;
       })
 
-  by-system : (count : ℕ) → answer ≡ accepted count → (o : Outcome System) → systemToSolve limits (length entry) ws ≡ o
-      → SolvesOr limits certificateWords o entry exit answer → verdict limits ws (take count exit) ≡ accepted tt
-  unfolding SolvesOr
-  by-system count a (refused number place) e h = absurd (refused-accepted (sym (h .0) ∙ a))
-  by-system count a (accepted s) e h =
-      let found = followedBy-accepted (readSystem limits ws) _ e in
-      let passed = refuse-passed (ltb (length entry) (longestCertificate limits)) 11 0 (accepted (found .0)) (found .2) in
-      let same : found .0 ≡ s = accepted-same (passed .1) in
-      subst (λ n. verdict limits ws (take n exit) ≡ accepted tt) (accepted-same (sym (h .1) ∙ a))
-      (gives-accepted (found .1 ∙ ap accepted same) (h .2))
-
   pub solved-accepted : Solves limits ws entry exit answer → (count : ℕ) → answer ≡ accepted count
       → verdict limits ws (take count exit) ≡ accepted tt
-  solved-accepted h count a = by-system count a (systemToSolve limits (length entry) ws) refl h
+  solved-accepted h count a =
+      let given = solved-gives limits certificateWords (longestCertificate limits) (length entry) (readSystem limits ws)
+      entry exit answer h count a in
+      gives-accepted (given .1) (given .2)
 
 -- for every system within the limits there is an answer
 module _ (limits : Limits) (fit : LimitsFit limits) (s : System) (within : SystemWithin limits s) (entry exit : List ℕ)
