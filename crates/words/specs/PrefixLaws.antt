@@ -17,9 +17,9 @@ use Rattle.words.specs.Reading.{Reading, turnBack, andThen, renumber, ou
 use Rattle.words.specs.Reading.Reading.{read, fault}
 use Rattle.words.specs.Polynomial.{polynomialWords, polynomialsWords, coefficientsFrom, polynomialFrom, polynomialsFrom}
 use Rattle.words.specs.PolynomialLaws.{polynomial-read, polynomials-read, length-polynomialWords, length-polynomialsWords}
-use Rattle.words.specs.Frame.{Due, Framed, endFrom, bodyFrom, framedFrom}
+use Rattle.words.specs.Frame.{Due, endFrom, bodyFrom, framedFrom}
 use Rattle.words.specs.System.{Shape, ShapeWithin}
-use Rattle.words.specs.Certificate.{Form, formWord, certificateHeadFrom, certificateDue, certificateOf, certificateFrom, readCertificate}
+use Rattle.words.specs.Certificate.{certificateHeadFrom, certificateDue, certificateFrom, readCertificate}
 use Rattle.words.specs.CertificateLaws.{form-read, entryCount-most, certificateFrom-shown}
 
 module _ (more : List ℕ) where
