@@ -5,11 +5,13 @@ mod file;
 use cases::output::refused;
 use cases::output::text;
 use file::read_file;
+use limits::Office;
 use verifier::file::FileVerdict;
 use verifier::file::check_files;
 
-// A byte more than the longest file that is looked at: what fills it is too long for a sheet or a card.
-const SPACE: usize = 8797;
+// Two words more than the longest card has. A file that fills it is cut to one word more, on which the verdict is that on all, and as
+// many bytes as are behind its last whole word.
+const SPACE: usize = 4 * (Office::CERTIFICATE_WORDS + 2);
 
 // A line about a file.
 fn say(what: &[u8], name: &[u8]) {

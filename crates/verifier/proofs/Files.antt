@@ -1,39 +1,75 @@
--- What is decided of the bytes of files before their words are looked at.
+-- What is decided of the bytes of files before their words are looked at, and that the words that there is room for decide.
 use mathlib.Core.Path.{_≡_, refl, sym, ap, _∙_}
-use mathlib.Core.Bool.{Bool, true, false, not, _&&_, _||_}
-use mathlib.Core.List.{List}
-use Prim.Native.Nat.{ℕ, _%_, _≤_, _<_}
+use mathlib.Core.Bool.{Bool, true, false, not, _||_}
+use mathlib.Core.List.{List, _++_}
+use Prim.Native.Nat.{ℕ, _%_, _*_, _≤_, _<_, min}
+use native.Mathlib.Nat.{min-le-left, min-eq-left, min-eq-right}
 use native.Mathlib.Omega.{arith}
-use lib.ListN.{length}
+use lib.ListN.{length, take, drop}
+use lib.Seq.{length-take-le, take-at, take-length}
 use lib.Dec.{leb}
-use borrow.Author.Tests.{eq-eqb, ne-eqb, lt-ltb, le-ltb, leb-true}
-use Rattle.words.specs.Limits.{office}
-use Rattle.words.specs.Outcome.{Outcome}
-use Rattle.words.specs.Outcome.Outcome.{refused}
+use borrow.Author.Tests.{eq-eqb, ne-eqb, lt-ltb, le-ltb, leb-true, leb-false}
+use Rattle.words.specs.Limits.{Limits, office, longestCertificate}
+use Rattle.words.specs.LimitsLaws.{LimitsFit, office-fits}
+use Rattle.words.specs.Outcome.{Outcome, followedBy}
+use Rattle.words.specs.Outcome.Outcome.{accepted, refused}
 use Rattle.words.specs.Bytes.{wordsOf, broken, tooLong}
-use Rattle.truth.specs.Verdict.{verdict}
-use Rattle.verifier.specs.File.{certificateFile?, firstOf, fileVerdict}
+use Rattle.words.specs.System.{System, shape, readSystem}
+use Rattle.words.specs.SystemLaws.{system-written-of-read}
+use Rattle.words.specs.Certificate.{readCertificate}
+use Rattle.words.specs.PrefixLaws.{certificate-prefix}
+use Rattle.reader.specs.Unpacking.{Unpacked}
+use Rattle.truth.specs.Verdict.{verdict, certificateVerdict}
+use Rattle.verifier.specs.File.{firstOf, fileVerdict}
 use Rattle.verifier.specs.File.FileOutcome.{told, notCertificate}
 
--- the certificate's file
-module _ (cs : List ℕ) where
-  pub certificate-broken : (length cs % 4 ≡ 0 → ⊥) → false ≡ certificateFile? office cs
-  unfolding certificateFile?
-  certificate-broken h = simp (ne-eqb (length cs % 4) 0 h)
+-- ---- a certificate's words, cut behind more than any certificate has
 
-  pub certificate-whole : length cs % 4 ≡ 0 → leb (length cs) 8796 ≡ certificateFile? office cs
-  unfolding certificateFile?
-  certificate-whole e = simp (eq-eqb (length cs % 4) 0 e)
-
-  pub certificate-room : certificateFile? office cs ≡ true → length cs ≤ 8796
-  unfolding certificateFile?
-  certificate-room e = go (broken cs) e
+module _ (limits : Limits) (fit : LimitsFit limits) (ws cs : List ℕ) (count : ℕ) (long : longestCertificate limits < count) where
+  verdict-prefix : count ≤ length cs → verdict limits ws (take count cs) ≡ verdict limits ws cs
+  unfolding verdict
+  verdict-prefix more = go (readSystem limits ws) refl
     where
-      go : (b : Bool) → not b && leb (length cs) 8796 ≡ true → length cs ≤ 8796
-      go true e = absurd (let z : _≡_ {A = ℕ} 0 1 = cc in omega arith)
-      go false e = leb-true (length cs) 8796 e
+      on : List ℕ → System → Outcome (Unit {0})
+      on vs s = followedBy (readCertificate limits (shape s) vs) (certificateVerdict s)
 
--- the system's file, then the certificate's, then the words
+      go : (o : Outcome System) → readSystem limits ws ≡ o → followedBy o (on (take count cs)) ≡ followedBy o (on cs)
+      go (accepted s) e =
+          let within = system-written-of-read limits fit ws s e .1 .shape in
+          ap (λ o. followedBy o (certificateVerdict s)) (certificate-prefix limits fit (shape s) within count long cs more)
+      go (refused number place) e = refl
+
+  verdict-room : verdict limits ws (take (min (length cs) count) cs) ≡ verdict limits ws cs
+  verdict-room = go (leb (length cs) count) refl
+    where
+      go : (b : Bool) → leb (length cs) count ≡ b → verdict limits ws (take (min (length cs) count) cs) ≡ verdict limits ws cs
+      go true e =
+          ap (λ (n : ℕ). verdict limits ws (take n cs)) (min-eq-left (leb-true (length cs) count e))
+          ∙ ap (verdict limits ws) (take-length cs)
+      go false e =
+          let more : count ≤ length cs = omega (arith, leb-false (length cs) count e) in
+          ap (λ (n : ℕ). verdict limits ws (take n cs)) (min-eq-right more) ∙ verdict-prefix more
+
+module _ (bytes before after : List ℕ) (count : ℕ) (h : Unpacked bytes before after count) where
+  known : count ≤ length (wordsOf bytes)
+  known = let n = h .number in omega (arith, min-le-left (length (wordsOf bytes)) (length before))
+
+  unpacked-prefix : take count after ≡ take count (wordsOf bytes)
+  unpacked-prefix =
+      ap (take count) (h .words)
+      ∙ take-at (take count (wordsOf bytes)) (drop count before) count (length-take-le count (wordsOf bytes) known)
+
+  pub unpacked-length : count ≡ length (take count after)
+  unpacked-length = sym (ap length unpacked-prefix ∙ length-take-le count (wordsOf bytes) known)
+
+  -- the words of a certificate's file for which there was room tell what all tell
+  pub unpacked-verdict : longestCertificate office < length before → (ws : List ℕ)
+      → verdict office ws (take count after) ≡ verdict office ws (wordsOf bytes)
+  unpacked-verdict room ws =
+      ap (verdict office ws) (unpacked-prefix ∙ ap (λ (n : ℕ). take n (wordsOf bytes)) (h .number))
+      ∙ verdict-room office office-fits ws (wordsOf bytes) (length before) room
+
+-- ---- the system's file, then the certificate's, then the words
 module _ (bs cs : List ℕ) where
   words : Outcome (Unit {0})
   words = verdict office (wordsOf bs) (wordsOf cs)
@@ -41,27 +77,30 @@ module _ (bs cs : List ℕ) where
   fault : Bool
   fault = broken bs || tooLong office bs
 
-  first : (a b : Bool) → fault ≡ a → certificateFile? office cs ≡ b → firstOf a b words ≡ fileVerdict office bs cs
+  first : (a b : Bool) → fault ≡ a → broken cs ≡ b → firstOf a b words ≡ fileVerdict office bs cs
   unfolding fileVerdict fault words
   first a b ea eb = simp (sym ea, sym eb)
 
   pub system-broken : (length bs % 4 ≡ 0 → ⊥) → told (refused 10 0) ≡ fileVerdict office bs cs
   unfolding fault
-  system-broken h = first true (certificateFile? office cs) (simp (ne-eqb (length bs % 4) 0 h)) refl
+  system-broken h = first true (broken cs) (simp (ne-eqb (length bs % 4) 0 h)) refl
 
   pub system-long : length bs % 4 ≡ 0 → 4904 < length bs → told (refused 10 0) ≡ fileVerdict office bs cs
   unfolding fault
-  system-long e h = first true (certificateFile? office cs) (simp (eq-eqb (length bs % 4) 0 e, lt-ltb 4904 (length bs) h)) refl
+  system-long e h = first true (broken cs) (simp (eq-eqb (length bs % 4) 0 e, lt-ltb 4904 (length bs) h)) refl
 
   module _ (e : length bs % 4 ≡ 0) (h : length bs ≤ 4904) where
     whole : fault ≡ false
     unfolding fault
     whole = simp (eq-eqb (length bs % 4) 0 e, le-ltb 4904 (length bs) h)
 
-    pub certificate-none : certificateFile? office cs ≡ false → notCertificate ≡ fileVerdict office bs cs
-    certificate-none n = first false false whole n
+    pub certificate-none : (length cs % 4 ≡ 0 → ⊥) → notCertificate ≡ fileVerdict office bs cs
+    certificate-none n = first false true whole (simp (ne-eqb (length cs % 4) 0 n))
 
-    pub both-whole : certificateFile? office cs ≡ true → {tells : Outcome (Unit {0})} → tells ≡ verdict office (wordsOf bs) (wordsOf cs)
-        → told tells ≡ fileVerdict office bs cs
+    -- what is told of words that were unpacked
+    pub both-whole : length cs % 4 ≡ 0 → {tells : Outcome (Unit {0})} (vs us : List ℕ) → tells ≡ verdict office vs us
+        → vs ≡ wordsOf bs → verdict office vs us ≡ verdict office vs (wordsOf cs) → told tells ≡ fileVerdict office bs cs
     unfolding words
-    both-whole n is = ap told is ∙ first false true whole n
+    both-whole n vs us is same enough =
+        ap told (is ∙ enough ∙ ap (λ ws. verdict office ws (wordsOf cs)) same)
+        ∙ first false false whole (simp (eq-eqb (length cs % 4) 0 n))

@@ -5,7 +5,7 @@ use limits::Office;
 use reader::file::unpack;
 ghost use mathlib.Core.Path.{_≡_};
 ghost use Rattle.words.specs.Limits.{office};
-ghost use Rattle.verifier.specs.File.{certificateFile?, fileVerdict, fileOutcome};
+ghost use Rattle.verifier.specs.File.{fileVerdict, fileOutcome};
 
 // What is said of a system's file and a certificate's.
 pub enum FileVerdict {
@@ -13,23 +13,14 @@ pub enum FileVerdict {
     Accepted,
     // The number of the refusal, and its place.
     Refused(u8, usize),
-    // The second file is not whole words, or has too many for any certificate.
+    // The second file is not whole words.
     NotCertificate,
 }
 
-// One word more than the longest certificate has.
+// One word more than the longest certificate has: among so many is the first word at fault of whatever is longer.
 const CERTIFICATE_SPACE: usize = Office::CERTIFICATE_WORDS + 1;
 
-fn is_certificate_file(bytes: &[u8]) -> bool
-    ensures { λ r. ⌜ r ≡ certificateFile? office (now (bytes .entry)) ⌝ }
-{
-    if bytes.len() % 4 != 0 {
-        return false;
-    }
-    bytes.len() <= 4 * CERTIFICATE_SPACE
-}
-
-// Number 10 for the system's file, then whether the other can be a certificate's, then the verdict on the words.
+// Number 10 for the system's file, then whether the other is whole words, then the verdict on the words.
 pub fn check_files(system: &[u8], certificate: &[u8]) -> FileVerdict
     ensures { λ r. ⌜ fileOutcome r ≡ fileVerdict office (now (system .entry)) (now (certificate .entry)) ⌝ }
 {
@@ -39,7 +30,7 @@ pub fn check_files(system: &[u8], certificate: &[u8]) -> FileVerdict
     if Office::FILE_BYTES < system.len() {
         return FileVerdict::Refused(10, 0);
     }
-    if !is_certificate_file(certificate) {
+    if certificate.len() % 4 != 0 {
         return FileVerdict::NotCertificate;
     }
     let mut system_words = [0u32; Office::SYSTEM_WORDS];

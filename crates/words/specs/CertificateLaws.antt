@@ -151,7 +151,7 @@ module _ (limits : Limits) (h : Shape) where
   certificate-written-of-read ws c e = format.written-of-read certificateFormat certificate-laws ws c e
 
   module _ (fit : LimitsFit limits) (shape : ShapeWithin limits h) where
-    entryCount-most : (form : Form) → entryCount h form ≤ solutionCount (limits .rows) (limits .columns)
+    pub entryCount-most : (form : Form) → entryCount h form ≤ solutionCount (limits .rows) (limits .columns)
     unfolding entryCount
     entryCount-most solving = let r = shape .rows in let c = shape .columns in omega arith
     entryCount-most absent = let r = shape .rows in omega arith

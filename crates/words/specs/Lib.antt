@@ -24,4 +24,5 @@ pub mod WidthLaws
 pub mod BytesLaws
 pub mod ForwardLaws
 pub mod PlaceLaws
+pub mod PrefixLaws
 pub mod FaultLaws

@@ -1,12 +1,10 @@
--- Number 10, or no certificate, or the verdict on the words of the bytes.
-use mathlib.Core.Path.{sym, ap, ap₂, _∙_}
+-- Number 10, or no certificate, or the verdict on the words for which there is room, which is that on all.
+use mathlib.Core.Path.{sym, ap, _∙_}
 use native.Mathlib.Omega.{arith}
-use borrow.Author.Tests.{not-false, not-true}
-use Rattle.words.specs.Limits.{office}
 use Rattle.reader.proofs.UnpackTurns.{unpacked-all}
-use Rattle.truth.specs.Verdict.{verdict}
 use Rattle.conditions.specs.Answer.{verdictOutcome}
-use Rattle.verifier.proofs.Files.{system-broken, system-long, certificate-none, both-whole, certificate-room}
+use Rattle.verifier.proofs.Files.{system-broken, system-long, certificate-none, both-whole}
+use Rattle.verifier.proofs.Files.{unpacked-length, unpacked-verdict}
 use borrow.Author.Needs.{needs}
 use Rattle.verifier.proofs.file.check_files.Statement.{statement}
 use Rattle.verifier.proofs.file.check_files.Tie as tie
@@ -17,13 +15,8 @@ returns c = system-broken _ _ (c .if1 .taken)
 returns-2 : tie.Need-returns-2
 returns-2 c = system-long _ _ (c .before .if1 .left) (c .if2 .taken)
 
-is-certificate-file-requires : tie.Need-is-certificate-file-requires
-is-certificate-file-requires c κs = search needs
-
 returns-3 : tie.Need-returns-3
-returns-3 c =
-    let whole = c .before .before in
-    certificate-none _ _ (whole .before .if1 .left) (whole .if2 .left) (sym (c .before .is-certificate-file .ensures) ∙ not-true _ (c .if3 .taken))
+returns-3 c = certificate-none _ _ (c .before .before .if1 .left) (c .before .if2 .left) (c .if3 .taken)
 
 slice-aggregate-unpack : tie.Need-slice-aggregate-unpack
 slice-aggregate-unpack c = search needs
@@ -47,10 +40,7 @@ array-share-prefix-certificate-words : tie.Need-array-share-prefix-certificate-w
 array-share-prefix-certificate-words c = search needs
 
 slice-aggregate-check-2 : tie.Need-slice-aggregate-check-2
-slice-aggregate-check-2 c =
-    let file-test = c .before .before .before .before .before .before .before .before in
-    let is = sym (file-test .before .is-certificate-file .ensures) ∙ not-false _ (file-test .if3 .left) in
-    unpacked-all _ _ _ _ (c .before .before .before .unpack2 .ensures) (omega (arith, certificate-room _ is)) .0
+slice-aggregate-check-2 c = unpacked-length _ _ _ _ (c .before .before .before .unpack2 .ensures)
 
 check-requires : tie.Need-check-requires
 check-requires c κs = search needs
@@ -63,21 +53,23 @@ enum-known-verdict c = search needs
 
 returns-4 : tie.Need-returns-4
 returns-4 c =
-    let file-test = c .before .before .before .before .before .before .before .before .before .before .before in
-    let is = sym (file-test .before .is-certificate-file .ensures) ∙ not-false _ (file-test .if3 .left) in
-    let system-part = unpacked-all _ _ _ _ (c .before .before .before .before .before .before .before .before .before .unpack .ensures) (omega arith) in
-    let certificate-part = unpacked-all _ _ _ _ (c .before .before .before .before .before .before .unpack2 .ensures) (omega (arith, certificate-room _ is)) in
-    both-whole _ _ (file-test .before .before .before .if1 .left) (file-test .before .before .if2 .left) is
-    (sym (ap verdictOutcome (c .enum-told .given .1)) ∙ c .before .before .check .ensures ∙ ap₂ (verdict office) (system-part .1) (certificate-part .1))
+    let checked = c .before .before in
+    let filled = checked .before .before .before .before in
+    let tests = filled .before .before .before .before .before in
+    both-whole _ _ (tests .before .before .if1 .left) (tests .before .if2 .left) (tests .if3 .left) _ _
+    (sym (ap verdictOutcome (c .enum-told .given .1)) ∙ checked .check .ensures)
+    (unpacked-all _ _ _ _ (filled .before .before .before .unpack .ensures) (omega arith) .1)
+    (unpacked-verdict _ _ _ _ (filled .unpack2 .ensures) (omega arith) _)
 
 returns-5 : tie.Need-returns-5
 returns-5 c =
-    let file-test = c .before .before .before .before .before .before .before .before .before .before .before .before in
-    let is = sym (file-test .before .is-certificate-file .ensures) ∙ not-false _ (file-test .if3 .left) in
-    let system-part = unpacked-all _ _ _ _ (c .before .before .before .before .before .before .before .before .before .before .unpack .ensures) (omega arith) in
-    let certificate-part = unpacked-all _ _ _ _ (c .before .before .before .before .before .before .before .unpack2 .ensures) (omega (arith, certificate-room _ is)) in
-    both-whole _ _ (file-test .before .before .before .if1 .left) (file-test .before .before .if2 .left) is
-    (sym (ap verdictOutcome (c .before .verdict .given .1)) ∙ c .before .before .before .check .ensures ∙ ap₂ (verdict office) (system-part .1) (certificate-part .1))
+    let checked = c .before .before .before in
+    let filled = checked .before .before .before .before in
+    let tests = filled .before .before .before .before .before in
+    both-whole _ _ (tests .before .before .if1 .left) (tests .before .if2 .left) (tests .if3 .left) _ _
+    (sym (ap verdictOutcome (c .before .verdict .given .1)) ∙ checked .check .ensures)
+    (unpacked-all _ _ _ _ (filled .before .before .before .unpack .ensures) (omega arith) .1)
+    (unpacked-verdict _ _ _ _ (filled .unpack2 .ensures) (omega arith) _)
 
 pub check-files-spec : {M : Type 1} → statement M
 check-files-spec =
@@ -85,7 +77,6 @@ check-files-spec =
     (tie.spec
     returns
     returns-2
-    is-certificate-file-requires
     returns-3
     slice-aggregate-unpack
     unpack-requires
