@@ -2,3 +2,4 @@ pub mod Solving
 pub mod Certified
 pub mod Answer
 pub mod SolvingLaws
+pub mod FileLaws
