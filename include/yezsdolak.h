@@ -7,8 +7,8 @@
 // all bytes, damaged ones included (crates/link): there is no input that it does not answer.
 //
 // - No pointer may be NULL, also where its count is 0, and the bytes that a call writes must not overlap those that it reads.
-// - A call keeps nothing, allocates nothing and prints nothing. It needs YEZSDOLAK_STACK bytes of stack at most. Any number of
-//   threads may call at the same time.
+// - A call keeps nothing, allocates nothing and prints nothing. Any number of threads may call at the same time. On the stack it
+//   takes up to 340,000 bytes, yezsdolak_check 80,000.
 #ifndef YEZSDOLAK_H
 #define YEZSDOLAK_H
 #include <stddef.h>
@@ -22,8 +22,7 @@ enum {
     YEZSDOLAK_SYSTEM_BYTES = 4904,      // no system's file is longer
     YEZSDOLAK_CERTIFICATE_BYTES = 8792, // no certificate's file is longer: to be lent to yezsdolak_solve
     YEZSDOLAK_REPORT_BYTES = 1024,      // no report is longer: to be lent to yezsdolak_report
-    YEZSDOLAK_STACK = 0,
-    YEZSDOLAK_NOT_CERTIFICATE = 63,
+    YEZSDOLAK_NOT_CERTIFICATE = 63,     // the last row of the table below
 };
 
 // A refusal is 64 × place + number; a number is 1 to 63. Places count words from 0, unless the table says otherwise.
@@ -33,11 +32,11 @@ enum {
 //    2  p is not a prime from 2 to 65,521; place 0
 //    3  there are not 1 to 8 rows and 1 to 8 columns; place 0
 //    4  the file stops before its end word; place is the number of its words
-//    5  another kind of word should stand here
+//    5  a start of a polynomial, a coefficient or an end should stand here, another word does
 //    6  the polynomial has more than 16 coefficients
 //    7  the coefficient is not below p
 //    8  the last coefficient of the polynomial is 0
-//    9  the end word does not say how many words there are, or the first word behind it
+//    9  the end word does not say how many words there are; or words follow it, place the first of them
 //   10  the file is not whole words, or has more than 4,904 bytes; place 0; comes before all others
 // What is lent, by yezsdolak_solve:
 //   11  fewer than YEZSDOLAK_CERTIFICATE_BYTES; place 0
@@ -45,11 +44,11 @@ enum {
 // The certificate's file, by yezsdolak_check:
 //   21  the first word is not the head of a certificate; place 0
 //   24  the file stops before its end word; place is the number of its words
-//   25  another kind of word should stand here
+//   25  a start of a polynomial, a coefficient or an end should stand here, another word does
 //   26  the polynomial has more than 121 coefficients
 //   27  the coefficient is not below p
 //   28  the last coefficient of the polynomial is 0
-//   29  the end word does not say how many words there are, or the first word behind it
+//   29  the end word does not say how many words there are; or words follow it, place the first of them
 // What the certificate says, by yezsdolak_check:
 //   31  d (place 0) or w (place 1) is not monic
 //   32  A·N is not d·b; place is the first such row
