@@ -77,8 +77,8 @@ uint64_t yezsdolak_solve(const uint8_t *system, size_t system_bytes, uint8_t *ce
 uint64_t yezsdolak_check(const uint8_t *system, size_t system_bytes, const uint8_t *certificate, size_t certificate_bytes);
 
 // Writes the report of the system's file, lines of text without a zero at the end, over the first of the lent bytes, and gives the
-// count of its bytes; those behind keep their values. A refusal of the system is such a text too. 0, and no lent byte changed, where
-// fewer than YEZSDOLAK_REPORT_BYTES are lent.
+// count of its bytes; those behind keep their values. A refusal of the system is such a text too. 0, and no lent byte changed,
+// where fewer than YEZSDOLAK_REPORT_BYTES are lent.
 uint64_t yezsdolak_report(const uint8_t *system, size_t system_bytes, uint8_t *text, size_t lent_bytes);
 
 #ifdef __cplusplus

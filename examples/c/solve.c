@@ -1,5 +1,5 @@
-// Solves the system in a file, checks the certificate, prints the report: solve SHEET [CARD]. With a second name the certificate is
-// written there. Status 1: the system is refused; 2: a file or the command is at fault.
+// Solves the system in a file, checks the certificate, prints the report: solve SHEET [CARD]. With a second name the certificate
+// is written there. Status 1: the system is refused; 2: a file or the command is at fault.
 #include <stdio.h>
 #include <stdlib.h>
 #include "yezsdolak.h"

@@ -1,5 +1,5 @@
-//! Solves the system in a file, checks the certificate, prints the report: solve SHEET [CARD]. With a second name the certificate is
-//! written there. Status 1: the system is refused; 2: a file or the command is at fault.
+//! Solves the system in a file, checks the certificate, prints the report: solve SHEET [CARD]. With a second name the certificate
+//! is written there. Status 1: the system is refused; 2: a file or the command is at fault.
 
 use std::env;
 use std::fs;
@@ -13,7 +13,7 @@ mod yezsdolak {
     mod c {
         extern "C" {
             pub fn yezsdolak_solve(system: *const u8, system_bytes: usize, certificate: *mut u8, lent_bytes: usize) -> u64;
-            pub fn yezsdolak_check(system: *const u8, system_bytes: usize, certificate: *const u8, certificate_bytes: usize) -> u64;
+            pub fn yezsdolak_check(system: *const u8, system_bytes: usize, certificate: *const u8, bytes: usize) -> u64;
             pub fn yezsdolak_report(system: *const u8, system_bytes: usize, text: *mut u8, lent_bytes: usize) -> u64;
         }
     }

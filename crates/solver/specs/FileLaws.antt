@@ -51,8 +51,8 @@ module _ (limits : Limits) (fit : LimitsFit limits) (file entry exit : List ℕ)
       let words = certificateWords-most limits (shape s) fit (read-within s e .shape) c (G .within) in
       omega (arith, G .same-count, length-bytesOf (certificateWords c), words)
 
-  by-system : (o : Outcome System) → fileToSolve limits (length entry) file ≡ o → SolvesOr limits certificateBytes o entry exit answer
-      → AnswerMost (4 * longestCertificate limits) (longestSystem limits) answer
+  by-system : (o : Outcome System) → fileToSolve limits (length entry) file ≡ o
+      → SolvesOr limits certificateBytes o entry exit answer → AnswerMost (4 * longestCertificate limits) (longestSystem limits) answer
   unfolding SolvesOr
   by-system (refused number place) e h =
       let most = room-place (longestSystem limits) (4 * longestCertificate limits) (length entry) (readSystemFile limits file)
@@ -76,5 +76,6 @@ module _ (limits : Limits) (fit : LimitsFit limits) (file entry exit : List ℕ)
         places = λ number n a. absurd (refused-accepted (sym a ∙ h .1));
       }
 
-  pub solves-file-most : SolvesFile limits file entry exit answer → AnswerMost (4 * longestCertificate limits) (longestSystem limits) answer
+  pub solves-file-most : SolvesFile limits file entry exit answer
+      → AnswerMost (4 * longestCertificate limits) (longestSystem limits) answer
   solves-file-most = by-system (fileToSolve limits (length entry) file) refl

@@ -32,8 +32,9 @@ certificate-short : (b : Bool) (most n : ℕ) → not b && leb n (4 * most) ≡ 
 certificate-short true most n h = absurd (let z : _≡_ {A = ℕ} 0 1 = cc in omega arith)
 certificate-short false most n h = omega (arith, leb-true n (4 * most) h)
 
-module _ (limits : Limits) (fit : LimitsFit limits) (system certificate : List ℕ) (b : ℕ) (longest-system : longestSystem limits ≤ b)
-    (longest-certificate : longestCertificate limits + 1 ≤ b) (rows : limits .rows ≤ b) (columns : limits .columns ≤ b) where
+module _ (limits : Limits) (fit : LimitsFit limits) (system certificate : List ℕ) (b : ℕ)
+    (longest-system : longestSystem limits ≤ b) (longest-certificate : longestCertificate limits + 1 ≤ b)
+    (rows : limits .rows ≤ b) (columns : limits .columns ≤ b) where
   by-tests : (x y : Bool) {number place : ℕ} → broken system || tooLong limits system ≡ x → certificateFile? limits certificate ≡ y
       → firstOf x y (verdict limits (wordsOf system) (wordsOf certificate)) ≡ told (refused number place) → place ≤ b
   unfolding certificateFile?
