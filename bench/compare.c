@@ -18,18 +18,12 @@ solve_function flint_solve;
 #else
 #define flint_solve NULL
 #endif
-#ifndef OURS_CHECK
-#define OURS_CHECK NULL
-#endif
-#ifndef OURS_SOLVE
-#define OURS_SOLVE NULL
-#endif
 
 enum { OURS, C_O2, C_O3, SHARED, BY_FLINT, CONTESTANTS };
 
 static const char *const labels[CONTESTANTS] = {"ours", "C -O2", "C -O3", "shared", "FLINT"};
-static check_function *const checks[CONTESTANTS] = {OURS_CHECK, check_O2, check_O3, NULL, NULL};
-static solve_function *const solvers[CONTESTANTS] = {OURS_SOLVE, solve_O2, solve_O3, solve_shared, flint_solve};
+static check_function *const checks[CONTESTANTS] = {yezsdolak_check, check_O2, check_O3, NULL, NULL};
+static solve_function *const solvers[CONTESTANTS] = {solve_ours, solve_O2, solve_O3, solve_shared, flint_solve};
 
 // the systems of one row of the table, with certificates where these are what is checked
 struct batch {

@@ -1,12 +1,10 @@
-// THE PLACE FOR THE PRODUCT: its check and its solver, exported on byte slices by a crate that bench/run builds with
-// `rt staticlib`. A slice is passed as a pointer and a count of bytes; results are packed as in rivals/rivals.h. When an export
-// exists, bench/run defines OURS_CHECK or OURS_SOLVE as its name and links the archive; without them the rivals run alone.
+// The product among the rivals: the library that other programs link, called as rivals/rivals.h has it.
+#include "../include/yezsdolak.h"
 #include "rivals/rivals.h"
 
-#ifdef OURS_CHECK
-uint64_t OURS_CHECK(const uint8_t *system, size_t system_bytes, const uint8_t *certificate, size_t certificate_bytes);
-#endif
-
-#ifdef OURS_SOLVE
-uint64_t OURS_SOLVE(const uint8_t *system, size_t system_bytes, uint8_t *certificate, size_t lent_bytes);
-#endif
+// the library counts a certificate's bytes, the rivals its words
+static uint64_t solve_ours(const uint8_t *system, size_t system_bytes, uint8_t *certificate, size_t lent_bytes)
+{
+    uint64_t result = yezsdolak_solve(system, system_bytes, certificate, lent_bytes);
+    return yezsdolak_number(result) == 0 ? result / 4 : result;
+}

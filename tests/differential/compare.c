@@ -7,7 +7,7 @@
 #include <string.h>
 #include <unistd.h>
 #include "lent.h"
-#include "product.h"
+#include "yezsdolak.h"
 
 enum { SECONDS = 60 }; // the longest that a call may take
 
@@ -70,9 +70,9 @@ static void expect_unchanged(const char *call, const struct area *a, const struc
 
 static void expect_result(const char *call, uint64_t result, struct refusal r)
 {
-    if (result != ((uint64_t)r.number << 32 | r.place))
-        differ("%s: %u at %u expected, %lu at %lu found", call, r.number, r.place, (unsigned long)(result >> 32),
-               (unsigned long)(result & 0xFFFFFFFF));
+    if (result != (uint64_t)r.place * 64 + r.number)
+        differ("%s: %u at %u expected, %u at %lu found", call, r.number, r.place, yezsdolak_number(result),
+               (unsigned long)yezsdolak_place(result));
 }
 
 // the solver's certificate is a right one, of the kind and with the denominator that are due
@@ -106,15 +106,16 @@ struct refusal compare_solve(struct draws *g, const struct answer *a, size_t len
     struct refusal r = a->refusal;
     if (r.number == 0 && lent < 4 * LONGEST_CERTIFICATE)
         r = (struct refusal){11, 0};
-    if (r.number != 0 || result >> 32 != 0) {
+    if (r.number != 0 || yezsdolak_number(result) != 0) {
         expect_result("solve", result, r);
         if (!untouched(&lent_result, 0))
             differ("solve has written in spite of its refusal");
         return r;
     }
-    if (result == 0 || result % 4 != 0 || result > 4 * LONGEST_CERTIFICATE)
-        differ("solve: no count of a certificate's bytes: %lu", (unsigned long)result);
-    certificate->count = (size_t)result;
+    uint64_t count = result / 64;
+    if (count == 0 || count % 4 != 0 || count > 4 * LONGEST_CERTIFICATE)
+        differ("solve: no count of a certificate's bytes: %lu", (unsigned long)count);
+    certificate->count = (size_t)count;
     memcpy(certificate->byte, lent_result.bytes, certificate->count);
     trial.certificate = certificate;
     if (!untouched(&lent_result, certificate->count))
@@ -151,6 +152,6 @@ void compare_report(struct draws *g, const struct answer *a, size_t lent)
         differ("report: %zu bytes expected, %lu found", count, (unsigned long)result);
     if (memcmp(lent_result.bytes, text, count) != 0)
         differ("report: \"%.*s\" expected, \"%.*s\" found", (int)count, text, (int)count, (const char *)lent_result.bytes);
-    if (!untouched(&lent_result, count == 0 ? 0 : lent))
-        differ("report has written outside of its text's lent bytes");
+    if (!untouched(&lent_result, count))
+        differ("report has written behind its text or around the lent bytes");
 }

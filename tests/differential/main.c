@@ -9,7 +9,7 @@
 
 enum part { SYSTEMS = 1, DAMAGED };
 
-enum { NUMBERS = 256 };
+enum { NUMBERS = 64 };
 
 struct tally {
     uint64_t solutions, fractions, none;     // fractions: solutions whose least denominator is not 1

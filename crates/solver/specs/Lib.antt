@@ -3,3 +3,4 @@ pub mod Certified
 pub mod Answer
 pub mod SolvingLaws
 pub mod Examples
+pub mod FileLaws

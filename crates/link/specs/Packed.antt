@@ -1,0 +1,28 @@
+-- Answers as one number, for programs in other languages (document 02, item 4, packs so): a refusal is 64 times its place plus its
+-- number. No number is 64 or more, and none is 0.
+use Prim.Native.Nat.{ℕ, _+_, _*_}
+use mathlib.Core.Path.{_≡_}
+use mathlib.Core.List.{List}
+use Rattle.words.specs.Limits.{Limits}
+use Rattle.words.specs.Outcome.{Outcome}
+use Rattle.words.specs.Outcome.Outcome.{accepted, refused}
+use Rattle.solver.specs.Solving.{SolvesFile}
+use Rattle.verifier.specs.File.{FileOutcome}
+use Rattle.verifier.specs.File.FileOutcome.{told, notCertificate}
+
+-- a count stands where a refusal has its place, with number 0
+abbrev pub packed : Outcome ℕ → ℕ
+packed (accepted count) = 64 * count
+packed (refused number place) = 64 * place + number
+
+-- 0 is accepted; document 01 has no number for a file that is no certificate's: 63, at 0
+abbrev pub packedVerdict : FileOutcome → ℕ
+packedVerdict (told (accepted _)) = 0
+packedVerdict (told (refused number place)) = 64 * place + number
+packedVerdict notCertificate = 63
+
+-- some answer of the solver, packed: which certificate it is, is free as in `SolvesFile`
+pub record SolvesPacked (limits : Limits) (file entry exit : List ℕ) (r : ℕ) : Type 0 where
+  pub answer : Outcome ℕ
+  pub solves : SolvesFile limits file entry exit answer
+  pub packs : r ≡ packed answer

@@ -1,0 +1,81 @@
+-- Counts and places of the answers to files are small: a certificate's file has at most the bytes of the longest certificate, and a
+-- refusal's place is at most the number of words of the longest system.
+use Prim.Native.Nat.{ℕ, _*_, _≤_}
+use mathlib.Core.Path.{_≡_, refl, sym, ap, _∙_, subst}
+use mathlib.Core.Bool.{Bool, true, false, _||_}
+use mathlib.Core.List.{List}
+use native.Mathlib.Omega.{arith}
+use lib.ListN.{length}
+use lib.Dec.{ltb}
+use Rattle.words.specs.Limits.{Limits, longestSystem, longestCertificate}
+use Rattle.words.specs.LimitsLaws.{LimitsFit}
+use Rattle.words.specs.Outcome.{Outcome, refuse}
+use Rattle.words.specs.Outcome.Outcome.{accepted, refused}
+use Rattle.words.specs.OutcomeLaws.{refused-accepted, followedBy-accepted, refuse-passed}
+use Rattle.words.specs.FaultLaws.{file-place}
+use Rattle.words.specs.System.{System, SystemWithin, shape}
+use Rattle.words.specs.SystemLaws.{system-written-of-read}
+use Rattle.words.specs.Bytes.{wordsOf, broken, tooLong, readSystemFile}
+use Rattle.words.specs.BytesLaws.{length-bytesOf}
+use Rattle.words.specs.Certificate.{certificateWords}
+use Rattle.words.specs.CertificateLaws.{certificateWords-most}
+use Rattle.solver.specs.Solving.{withRoom, fileToSolve, certificateBytes, Gives, SolvesOr, SolvesFile}
+
+-- what an answer's numbers are at most
+pub record AnswerMost (count place : ℕ) (answer : Outcome ℕ) : Type 0 where
+  pub counts : (n : ℕ) → answer ≡ accepted n → n ≤ count
+  pub places : (number n : ℕ) → answer ≡ refused number n → n ≤ place
+
+-- 11 is at 0
+room-place : (most longest lent : ℕ) (o : Outcome System)
+    → ((number place : ℕ) → o ≡ refused number place → place ≤ most)
+    → (number place : ℕ) → withRoom longest lent o ≡ refused number place → place ≤ most
+room-place most longest lent (refused n p) h number place e = h number place e
+room-place most longest lent (accepted s) h number place e = by-room (ltb lent longest) e
+  where
+    by-room : (t : Bool) → refuse t 11 0 (accepted s) ≡ refused number place → place ≤ most
+    by-room true e = let same : place ≡ 0 = cc in omega arith
+    by-room false e = absurd (refused-accepted (sym e))
+
+module _ (limits : Limits) (fit : LimitsFit limits) (file entry exit : List ℕ) (answer : Outcome ℕ) where
+  read-within : (s : System) → readSystemFile limits file ≡ accepted s → SystemWithin limits s
+  unfolding readSystemFile
+  read-within s e =
+      system-written-of-read limits fit (wordsOf file) s (refuse-passed (broken file || tooLong limits file) 10 0 _ e .1) .1
+
+  gives-most : {s : System} {count : ℕ} → readSystemFile limits file ≡ accepted s → Gives limits certificateBytes s entry exit count
+      → count ≤ 4 * longestCertificate limits
+  unfolding certificateBytes
+  gives-most {s} e G =
+      let c = G .certificate in
+      let words = certificateWords-most limits (shape s) fit (read-within s e .shape) c (G .within) in
+      omega (arith, G .same-count, length-bytesOf (certificateWords c), words)
+
+  by-system : (o : Outcome System) → fileToSolve limits (length entry) file ≡ o
+      → SolvesOr limits certificateBytes o entry exit answer → AnswerMost (4 * longestCertificate limits) (longestSystem limits) answer
+  unfolding SolvesOr
+  by-system (refused number place) e h =
+      let most = room-place (longestSystem limits) (4 * longestCertificate limits) (length entry) (readSystemFile limits file)
+      (λ _ _ r. file-place limits file r) number place e in
+      record {
+        counts = λ n a. absurd (refused-accepted (sym (h .0) ∙ a));
+        places = λ number′ n a.
+            let told = sym (h .0) ∙ a in
+            let same : place ≡ n = cc in
+            subst (λ k. k ≤ longestSystem limits) same most;
+      }
+  by-system (accepted s) e h =
+      let found = followedBy-accepted (readSystemFile limits file) _ e in
+      let passed = refuse-passed (ltb (length entry) (4 * longestCertificate limits)) 11 0 (accepted (found .0)) (found .2) in
+      let most = gives-most (found .1 ∙ passed .1) (h .2) in
+      record {
+        counts = λ n a.
+            let told = sym (h .1) ∙ a in
+            let same : h .0 ≡ n = cc in
+            subst (λ k. k ≤ 4 * longestCertificate limits) same most;
+        places = λ number n a. absurd (refused-accepted (sym a ∙ h .1));
+      }
+
+  pub solves-file-most : SolvesFile limits file entry exit answer
+      → AnswerMost (4 * longestCertificate limits) (longestSystem limits) answer
+  solves-file-most = by-system (fileToSolve limits (length entry) file) refl

@@ -1,0 +1,83 @@
+//! Solves the system in a file, checks the certificate, prints the report: solve SHEET [CARD]. With a second name the certificate
+//! is written there. Status 1: the system is refused; 2: a file or the command is at fault.
+
+use std::env;
+use std::fs;
+use std::process::exit;
+
+/// The calls of include/yezsdolak.h, on slices.
+mod yezsdolak {
+    pub const CERTIFICATE_BYTES: usize = 8792;
+    pub const REPORT_BYTES: usize = 1024;
+
+    mod c {
+        extern "C" {
+            pub fn yezsdolak_solve(system: *const u8, system_bytes: usize, certificate: *mut u8, lent_bytes: usize) -> u64;
+            pub fn yezsdolak_check(system: *const u8, system_bytes: usize, certificate: *const u8, bytes: usize) -> u64;
+            pub fn yezsdolak_report(system: *const u8, system_bytes: usize, text: *mut u8, lent_bytes: usize) -> u64;
+        }
+    }
+
+    /// A number of document 01's table, and its place.
+    pub struct Refusal {
+        pub number: u64,
+        pub place: u64,
+    }
+
+    fn parts(result: u64) -> Result<usize, Refusal> {
+        match result % 64 {
+            0 => Ok((result / 64) as usize),
+            number => Err(Refusal { number, place: result / 64 }),
+        }
+    }
+
+    /// The certificate's bytes, written over the first of those lent.
+    pub fn solve<'a>(system: &[u8], lent: &'a mut [u8]) -> Result<&'a [u8], Refusal> {
+        // SAFETY: the pointers and counts are those of slices, and a slice that is lent to be written overlaps no other.
+        let result = unsafe { c::yezsdolak_solve(system.as_ptr(), system.len(), lent.as_mut_ptr(), lent.len()) };
+        parts(result).map(|count| &lent[..count])
+    }
+
+    /// Whether the certificate is right for the system.
+    pub fn check(system: &[u8], certificate: &[u8]) -> Result<(), Refusal> {
+        // SAFETY: as in `solve`; nothing is written.
+        let result = unsafe { c::yezsdolak_check(system.as_ptr(), system.len(), certificate.as_ptr(), certificate.len()) };
+        parts(result).map(|_| ())
+    }
+
+    /// The report, written over the first of the lent bytes.
+    pub fn report<'a>(system: &[u8], lent: &'a mut [u8; REPORT_BYTES]) -> &'a [u8] {
+        // SAFETY: as in `solve`.
+        let count = unsafe { c::yezsdolak_report(system.as_ptr(), system.len(), lent.as_mut_ptr(), lent.len()) };
+        &lent[..count as usize]
+    }
+}
+
+fn fail(status: i32, message: String) -> ! {
+    eprintln!("{message}");
+    exit(status)
+}
+
+fn refused(what: &str, refusal: yezsdolak::Refusal) -> ! {
+    fail(1, format!("{what}: refused {} at {}", refusal.number, refusal.place))
+}
+
+fn main() {
+    let names: Vec<String> = env::args().skip(1).collect();
+    if names.is_empty() || names.len() > 2 {
+        fail(2, "usage: solve SHEET [CARD]".to_string());
+    }
+    let system = fs::read(&names[0]).unwrap_or_else(|error| fail(2, format!("{}: {error}", names[0])));
+
+    let mut lent = [0; yezsdolak::CERTIFICATE_BYTES];
+    let certificate = yezsdolak::solve(&system, &mut lent).unwrap_or_else(|refusal| refused(&names[0], refusal));
+
+    // It is proved that this accepts; a program that was given a certificate by others would ask the same.
+    yezsdolak::check(&system, certificate).unwrap_or_else(|refusal| refused("certificate", refusal));
+
+    let mut text = [0; yezsdolak::REPORT_BYTES];
+    print!("{}", String::from_utf8_lossy(yezsdolak::report(&system, &mut text)));
+    if let Some(name) = names.get(1) {
+        fs::write(name, certificate).unwrap_or_else(|error| fail(2, format!("{name}: {error}")));
+    }
+}
