@@ -6,7 +6,7 @@ use mathlib.Core.List.{List, [], _∷_}
 use native.Mathlib.Nat.{mod-lt, mod-eq-of-lt, zero-add}
 use native.Mathlib.Omega.{arith}
 use native.Mathlib.Decide.{decLt}
-use lib.ListN.{length, getD, List·getD-eq-default}
+use lib.ListN.{length, getD}
 use Rattle.ring.specs.Ring.{one-mul, neg-zero}
 use Rattle.ring.specs.Identity.{quotes, identity}
 use Rattle.algebra.specs.Field.{Field}
@@ -27,6 +27,7 @@ use Rattle.lattice.specs.Word.{zero-residue, words, words-inside, words-behind,
 use Rattle.lattice.specs.Range.{words-same, words-zero}
 use Rattle.lattice.specs.Reading.{flat-same}
 use Rattle.lattice.specs.Found.{found-ends}
+use Rattle.descent.specs.Read.{read-zeros}
 use Rattle.descent.specs.Product.{strided, less, TakesProduct}
 use Rattle.descent.specs.Column.{TakesColumn}
 
@@ -125,6 +126,16 @@ module _ {p : ℕ} (prime₀ : Prime p) where
           go j (no ge) = read-beyond (residues p prime) 121 (strided p prime h′ a 1) j (omega arith) ∙ sym
               (coefficient-none j (omega arith))
 
+      -- the coefficients from `size` on are 0
+      pub coordinate-short : (size terms : ℕ) → size ≡ length (polynomial p y 0 128) → terms ≡ size - (size - 121)
+          → read (residues p prime) terms (strided p prime h′ a 1) ≡ x
+      coordinate-short size terms found few =
+          sym (read-zeros (residues p prime) terms 121 (strided p prime h′ a 1) (omega arith) (λ j ge lt.
+          let place : a + j * 1 ≡ a + j = omega arith in
+          residue-zero p prime _ (ap (λ i. getD h′ i 0 % p) place
+          ∙ stored-ends size found .behind j (omega arith) (omega arith))))
+          ∙ coordinate-read
+
 -- x^k times x by a product
 shift-product : {K : Type 0} (F : Field K) (k : ℕ) (x : Polynomial F) → shift F k x ≡ polynomials F .mul
     (shift F k (polynomials F .one)) x
@@ -142,9 +153,10 @@ shift-less p prime k v x u =
 
 -- the product taken off every lane of a block
 module _ {p : ℕ} {t h : List ℕ} {a : ℕ} {columns : List ℕ} {at : ℕ} {t′ : List ℕ}
-    (T : TakesProduct p 8 t h a 1 121 columns at 128 t′) (room : 1088 ≤ length t) (prime : Prime p) (n : ℕ) (ω : ℕ → ℕ)
+    {terms : ℕ} (T : TakesProduct p 8 t h a 1 terms columns at 128 t′) (few : terms ≤ 121) (room : 1088 ≤ length t)
+    (prime : Prime p) (n : ℕ) (ω : ℕ → ℕ)
     (v u : ℕ → Polynomial (residues p prime)) (x : Polynomial (residues p prime))
-    (is : read (residues p prime) 121 (strided p prime h a 1) ≡ x)
+    (is : read (residues p prime) terms (strided p prime h a 1) ≡ x)
     (A : Flat (residues p prime) n 8 ω (words p prime t 0 1088) v)
     (B : Flat (residues p prime) n 8 ω (words p prime columns at 128) u) where
   lane-after : (i : ℕ) → i < 8 → (y z : Polynomial (residues p prime))
@@ -178,40 +190,53 @@ module _ {p : ℕ} {t h : List ℕ} {a : ℕ} {columns : List ℕ} {at : ℕ} {t
         ∙ coefficients-zero (residues p prime) e;
   }
 
--- a block reduced
-module _ (p : ℕ) (t t′ : List ℕ) (stores : t′ ≡ stored (λ j. getD t j 0 % p) t 0 1088) (length-is : length t ≡ 1088) where
+-- a block of which n words are reduced, and the others below p already
+module _ (p : ℕ) (t t′ : List ℕ) (n : ℕ) (stores : t′ ≡ stored (λ j. getD t j 0 % p) t 0 n) (inside : n ≤ length t) where
   pub reduced-length : length t′ ≡ length t
-  reduced-length = ap length stores ∙ length-stored _ t 0 1088
+  reduced-length = ap length stores ∙ length-stored _ t 0 n
 
-  word-reduced : (j : ℕ) → j < 1088 → getD t′ (0 + j) 0 ≡ getD t j 0 % p
-  word-reduced j lt = ap (λ l. getD l (0 + j) 0) stores ∙ stored-inside (λ i. getD t i 0 % p) t 0 1088 j (omega arith) lt
+  word-reduced : (j : ℕ) → j < n → getD t′ j 0 ≡ getD t j 0 % p
+  word-reduced j lt =
+      ap (λ i. getD t′ i 0) (sym (zero-add j))
+      ∙ ap (λ l. getD l (0 + j) 0) stores
+      ∙ stored-inside (λ i. getD t i 0 % p) t 0 n j (omega arith) lt
 
-  pub reduced-below : 0 < p → (i : ℕ) → getD t′ i 0 < p
-  reduced-below some i =
+  word-kept : (j : ℕ) → n ≤ j → getD t′ j 0 ≡ getD t j 0
+  word-kept j ge = ap (λ l. getD l j 0) stores ∙ stored-outside (λ i. getD t i 0 % p) t 0 n j (inr (omega arith))
+
+  pub reduced-below : 0 < p → ((i : ℕ) → n ≤ i → getD t i 0 < p) → (i : ℕ) → getD t′ i 0 < p
+  reduced-below some others i =
       ⊎-elim
-      (λ lt. subst (λ w. w < p) (sym (ap (λ j. getD t′ j 0) (sym (zero-add i)) ∙ word-reduced i lt)) (mod-lt (getD t i 0) some))
-      (λ ge. subst (λ w. w < p) (sym (List·getD-eq-default t′ 0 (omega (arith, reduced-length)))) some)
-      (below-or-not i 1088)
+      (λ lt. subst (λ w. w < p) (sym (word-reduced i lt)) (mod-lt (getD t i 0) some))
+      (λ ge. subst (λ w. w < p) (sym (word-kept i ge)) (others i ge))
+      (below-or-not i n)
+
+  same-residue : 0 < p → (j : ℕ) → getD t j 0 % p ≡ getD t′ j 0 % p
+  same-residue some j =
+      ⊎-elim
+      (λ lt. sym (ap (λ w. w % p) (word-reduced j lt) ∙ mod-eq-of-lt (mod-lt (getD t j 0) some)))
+      (λ ge. sym (ap (λ w. w % p) (word-kept j ge)))
+      (below-or-not j n)
 
   pub reduced-words : (prime : Prime p) (j : ℕ) → words p prime t 0 1088 j ≡ words p prime t′ 0 1088 j
-  reduced-words prime j = words-same p prime t t′ 0 0 1088 j (λ lt.
-      ap (λ i. getD t i 0 % p) (zero-add j)
-      ∙ sym (ap (λ w. w % p) (word-reduced j lt) ∙ mod-eq-of-lt (mod-lt (getD t j 0) (omega (arith, prime .large)))))
+  reduced-words prime j = words-same p prime t t′ 0 0 1088 j (λ lt. same-residue (omega (arith, prime .large)) (0 + j))
 
 -- all steps of `take_column` together
-pub column-taken : {p : ℕ} → Prime p → (t h : List ℕ) (a : ℕ) (y columns : List ℕ) (at : ℕ) (t₁ t′ h′ : List ℕ) (size : ℕ)
-    → length t ≡ 1088 → a + 128 ≤ length h → h′ ≡ stored (λ j. modulo p .neg (getD y j 0 % p)) h a 128
-    → TakesProduct p 8 t h′ a 1 121 columns at 128 t₁ → t′ ≡ stored (λ j. getD t₁ j 0 % p) t₁ 0 1088
-    → size ≡ length (polynomial p y 0 128) → TakesColumn p t h a y columns at t′ h′ size
-column-taken {p} prime₀ t h a y columns at t₁ t′ h′ size length-is room stores T reduces found =
-    let whole : length t₁ ≡ 1088 = T .same-length ∙ length-is in record {
-      same-length = reduced-length p t₁ t′ reduces whole ∙ T .same-length;
-      below = reduced-below p t₁ t′ reduces whole (omega (arith, prime₀ .large));
+pub column-taken : {p : ℕ} → Prime p → (t h : List ℕ) (a : ℕ) (y columns : List ℕ) (at : ℕ) (t₁ t′ h′ : List ℕ) (size terms : ℕ)
+    → length t ≡ 1088 → ((i : ℕ) → getD t i 0 < p) → a + 128 ≤ length h
+    → h′ ≡ stored (λ j. modulo p .neg (getD y j 0 % p)) h a 128 → size ≡ length (polynomial p y 0 128)
+    → terms ≡ size - (size - 121) → TakesProduct p 8 t h′ a 1 terms columns at 128 t₁
+    → t′ ≡ stored (λ j. getD t₁ j 0 % p) t₁ 0 (8 * terms + 120) → TakesColumn p t h a y columns at t′ h′ size
+column-taken {p} prime₀ t h a y columns at t₁ t′ h′ size terms length-is below room stores found few T reduces =
+    let inside : 8 * terms + 120 ≤ length t₁ = omega (arith, T .same-length) in record {
+      same-length = reduced-length p t₁ t′ (8 * terms + 120) reduces inside ∙ T .same-length;
+      below = reduced-below p t₁ t′ (8 * terms + 120) reduces inside (omega (arith, prime₀ .large))
+          (λ i far. omega (arith, T .behind i (omega arith), below i));
       stores = stores;
       ends = stored-ends prime₀ h h′ a y stores room size found;
       holds = λ zero prime n ω v u x A B C. record {
         coordinate = coordinate-held prime₀ h h′ a y stores room zero prime x C;
-        rest = flat-same (reduced-words p t₁ t′ reduces whole prime) (block-after T (omega arith) prime n ω v u x
-            (coordinate-read prime₀ h h′ a y stores room zero prime x C) A B);
+        rest = flat-same (reduced-words p t₁ t′ (8 * terms + 120) reduces inside prime) (block-after T (omega arith) (omega arith)
+            prime n ω v u x (coordinate-short prime₀ h h′ a y stores room zero prime x C size terms found few) A B);
       };
     }

@@ -3,7 +3,7 @@ use Prim.Native.Nat.{ℕ, zero, _+_, _-_, _*_, _%_, _<_, _≤_}
 use mathlib.Core.Path.{_≡_, refl, sym, _∙_, ap, ap₂, subst}
 use mathlib.Core.Logic.{inr, ⊎-elim}
 use mathlib.Core.List.{List, [], _∷_}
-use native.Mathlib.Nat.{mul-le-mul-right, add-mul}
+use native.Mathlib.Nat.{mul-le-mul-right, add-mul, zero-mod}
 use native.Mathlib.Omega.{arith}
 use lib.ListN.{length, getD}
 use Rattle.ring.specs.Ring.{Ring}
@@ -20,7 +20,8 @@ use Rattle.vector.specs.Stored.{stored, length-stored, stored-outside, below-or
 use Rattle.vector.specs.Multiple.{sumAt}
 use Rattle.reduction.specs.Holds.{Holds, monomial, holds-step}
 use Rattle.lattice.specs.Memory.{ZeroFrom}
-use Rattle.lattice.specs.Word.{residue, residue-mod, residue-mul, residue-inverse, zero-residue, words, words-first, words-inside}
+use Rattle.lattice.specs.Word.{residue, residue-mod, residue-mul, residue-inverse, residue-zero, zero-residue}
+use Rattle.lattice.specs.Word.{words, words-first, words-inside}
 use Rattle.lattice.specs.Range.{words-upper, words-lower, zero-word}
 use Rattle.descent.specs.Product.{less}
 use Rattle.descent.specs.Kernel.{ValidKernel, Lessened, TakesKernel}
@@ -37,6 +38,11 @@ pub record Reducing (p : ℕ) (y₀ kernel : List ℕ) (at k : ℕ) (y : List �
 -- h - (h·i)·u is zero for u·i = 1
 cancelled : {K : Type 0} (R : Ring K) (h u i : K) → R .mul u i ≡ R .one → R .add h (R .neg (R .mul (R .mul h i) u)) ≡ R .zero
 cancelled R h u i e = combination R (R .add h (R .neg (R .mul (R .mul h i) u))) (R .zero) (given (R .neg h) e ∷ [])
+    (identity R (h ∷ u ∷ i ∷ []) (λ ρ qh qu qi. search quotes depth 16) refl)
+
+-- h is zero if h·i is, for u·i = 1
+vanishing : {K : Type 0} (R : Ring K) (h u i : K) → R .mul u i ≡ R .one → R .mul h i ≡ R .zero → h ≡ R .zero
+vanishing R h u i e z = combination R h (R .zero) (given (R .neg h) e ∷ given u z ∷ [])
     (identity R (h ∷ u ∷ i ∷ []) (λ ρ qh qu qi. search quotes depth 16) refl)
 
 none-taken : {p : ℕ} (prime : Prime p) (y : List ℕ) (x u : Polynomial (residues p prime))
@@ -101,6 +107,49 @@ module _ {p : ℕ} {y₀ kernel : List ℕ} {at : ℕ} where
           let positive : 0 < p = omega (arith, prime₀ .large) in
           omega (arith, kernel-room positive limit small (d + j), product j)
 
+      abbrev last : ℕ
+      last = getD kernel (at + (size - 1)) 0
+
+      -- the factor is the word times the inverse of the kernel's last
+      module _ (prime : Prime p) where
+        last-nonzero : ¬ (residue p prime last ≡ residues p prime .ring .zero)
+        last-nonzero e = omega (arith, valid .ends .last some, zero-residue p prime last e)
+
+        factor : residue p prime a ≡ residues p prime .ring .mul (words p prime y 0 256 (k - 1))
+            (residues p prime .inverse (residue p prime last))
+        unfolding modulo
+        factor =
+            ap (residue p prime) by
+            ∙ residue-mod p prime (getD y (k - 1) 0 % p * modulo p .inverse last)
+            ∙ residue-mul p prime (getD y (k - 1) 0 % p) (modulo p .inverse last)
+            ∙ ap₂ (residues p prime .ring .mul)
+            (residue-mod p prime (getD y (k - 1) 0) ∙ sym (words-first p prime y 256 (k - 1) (omega (arith, so-far .most))))
+            (residue-inverse p prime last (valid .below (at + (size - 1))))
+
+      more : 256 - (k - 1) ≡ 256 - k + 1
+      more = omega (arith, so-far .most)
+
+      -- a factor 0 says that the word was 0 already
+      pub kernel-skip : a ≡ 0 → Reducing p y₀ kernel at (k - 1) y
+      kernel-skip none = record {
+        most = omega (arith, so-far .most);
+        same-length = so-far .same-length;
+        bound = λ b small i. rw more (omega (arith, so-far .bound b small i, add-mul (256 - k) 1 (p * p)));
+        behind = λ j h lt. ⊎-elim
+            (λ less.
+            let here : j ≡ k - 1 = omega arith in
+            zero-word p prime₀ y 0 256 j lt (ap (words p prime₀ y 0 256) here ∙ gone))
+            (λ above. so-far .behind j above lt)
+            (below-or-not j k);
+        holds = so-far .holds;
+      }
+        where
+          gone : words p prime₀ y 0 256 (k - 1) ≡ residues p prime₀ .ring .zero
+          gone = vanishing (residues p prime₀ .ring) _ (residue p prime₀ last)
+              (residues p prime₀ .inverse (residue p prime₀ last))
+              (residues p prime₀ .mul-inverse (residue p prime₀ last) (last-nonzero prime₀))
+              (sym (factor prime₀) ∙ residue-zero p prime₀ a (ap (λ z. z % p) none ∙ zero-mod p))
+
       module _ (y′ : List ℕ) (stores : y′ ≡ stored (sumAt y ((k - 1) - (size - 1)) kernel at (p - a)) y
           ((k - 1) - (size - 1)) size)
           (room : 256 ≤ length y₀) where
@@ -112,7 +161,6 @@ module _ {p : ℕ} {y₀ kernel : List ℕ} {at : ℕ} where
 
         bound-after : (b : ℕ) → AtMost b y₀ → AtMost (b + (256 - (k - 1)) * (p * p)) y′
         bound-after b small i =
-            let more : 256 - (k - 1) ≡ 256 - k + 1 = omega (arith, so-far .most) in
             let grown = at-most-sum (b + (256 - k) * (p * p)) (p * p) y d kernel at size (p - a) (so-far .bound b small)
             (λ j lt. product j) i in
             rw (stores, more) (omega (arith, grown, add-mul (256 - k) 1 (p * p)))
@@ -130,22 +178,6 @@ module _ {p : ℕ} {y₀ kernel : List ℕ} {at : ℕ} where
           lower = words-lower p prime y y′ kernel d at size 128 256 a stores factor-below inside room′ (valid .ends .behind)
               (valid .ends .within)
 
-          abbrev last : ℕ
-          last = getD kernel (at + (size - 1)) 0
-
-          last-nonzero : ¬ (residue p prime last ≡ F .ring .zero)
-          last-nonzero e = omega (arith, valid .ends .last some, zero-residue p prime last e)
-
-          factor : residue p prime a ≡ F .ring .mul (words p prime y 0 256 (k - 1)) (F .inverse (residue p prime last))
-          unfolding modulo
-          factor =
-              ap (residue p prime) by
-              ∙ residue-mod p prime (getD y (k - 1) 0 % p * modulo p .inverse last)
-              ∙ residue-mul p prime (getD y (k - 1) 0 % p) (modulo p .inverse last)
-              ∙ ap₂ (F .ring .mul)
-              (residue-mod p prime (getD y (k - 1) 0) ∙ sym (words-first p prime y 256 (k - 1) (omega (arith, so-far .most))))
-              (residue-inverse p prime last (valid .below (at + (size - 1))))
-
           leading-gone : words p prime y′ 0 256 (k - 1) ≡ F .ring .zero
           leading-gone =
               let place : d + (size - 1) ≡ k - 1 = omega arith in
@@ -153,9 +185,9 @@ module _ {p : ℕ} {y₀ kernel : List ℕ} {at : ℕ} where
               (F .ring .neg (F .ring .mul (residue p prime a) (words p prime kernel at 128 (size - 1)))))
               place (upper (size - 1))
               ∙ ap₂ (λ x z. F .ring .add (words p prime y 0 256 (k - 1)) (F .ring .neg (F .ring .mul x z)))
-              factor (words-inside p prime kernel at 128 (size - 1) (omega (arith, valid .ends .within)))
+              (factor prime) (words-inside p prime kernel at 128 (size - 1) (omega (arith, valid .ends .within)))
               ∙ cancelled (F .ring) (words p prime y 0 256 (k - 1)) (residue p prime last) (F .inverse (residue p prime last))
-              (F .mul-inverse (residue p prime last) last-nonzero)
+              (F .mul-inverse (residue p prime last) (last-nonzero prime))
 
           module _ (x u : Polynomial (residues p prime)) (A : Holds (residues p prime) (words p prime y₀ 0 256) x)
               (B : Holds (residues p prime) (words p prime kernel at 128) u) where

@@ -1,8 +1,9 @@
 -- The invariant of `subtract_product` is what it ensures, as far as it has come.
-use Prim.Native.Nat.{ℕ, _+_, _-_, _*_, _<_, _≤_}
+use Prim.Native.Nat.{ℕ, _+_, _-_, _*_, _%_, _<_, _≤_}
 use mathlib.Core.Path.{_≡_, refl, sym, _∙_, ap, subst}
+use mathlib.Core.Logic.{inr}
 use mathlib.Core.List.{List, [], _∷_}
-use native.Mathlib.Nat.{mul-le-mul-right, mul-le-mul, add-mul}
+use native.Mathlib.Nat.{mul-le-mul-right, mul-le-mul, add-mul, zero-mod}
 use native.Mathlib.Numerals.{add-one}
 use native.Mathlib.Omega.{arith}
 use lib.ListN.{length, getD}
@@ -11,14 +12,14 @@ use Rattle.algebra.specs.Polynomial.{Polynomial, polynomials}
 use Rattle.modular.specs.Prime.{Prime}
 use Rattle.modular.specs.Residue.{Residue, residues}
 use Rattle.vector.specs.Bound.{AtMost, at-most-sum}
-use Rattle.vector.specs.Stored.{stored, length-stored}
+use Rattle.vector.specs.Stored.{stored, length-stored, stored-outside}
 use Rattle.vector.specs.Multiple.{sumAt}
 use Rattle.reduction.specs.Holds.{Holds, monomial, read, holds-step}
 use Rattle.reduction.specs.Flat.{flat}
 use Rattle.lattice.specs.Memory.{ZeroFrom}
-use Rattle.lattice.specs.Word.{words}
+use Rattle.lattice.specs.Word.{residue-zero, words}
 use Rattle.lattice.specs.Range.{words-upper, words-lower}
-use Rattle.descent.specs.Read.{read-suc}
+use Rattle.descent.specs.Read.{read-suc, read-zeros}
 use Rattle.descent.specs.Product.{strided, less, TakesProduct}
 
 -- a product of a number below p and one of at most p
@@ -35,8 +36,24 @@ module _ {p w : ℕ} {h₀ f : List ℕ} {b v : ℕ} {s : List ℕ} {a m : ℕ} 
   product-start = record {
     same-length = refl;
     bound = λ c small i. omega (arith, small i);
+    behind = λ i far. refl;
     holds = λ N inside room prime i lane x u A B. subst (Holds (residues p prime) _)
         (identity (polynomials (residues p prime)) (x ∷ u ∷ []) (λ ρ qx qu. search quotes depth 16) refl) A;
+  }
+
+  -- a factor 0 takes nothing off
+  pub product-skip : {k : ℕ} {h : List ℕ} → TakesProduct p w h₀ f b v k s a m h → getD f (b + k * v) 0 ≡ 0
+      → TakesProduct p w h₀ f b v (k + 1) s a m h
+  product-skip {k} {h} so-far none = record {
+    same-length = so-far .same-length;
+    bound = λ d most i. omega (arith, so-far .bound d most i, add-mul k 1 (p * p));
+    behind = λ i far. so-far .behind i (omega (arith, add-mul k 1 w));
+    holds = λ N inside room prime i lane x u A B.
+        subst (λ y. Holds (residues p prime) (λ e. words p prime h 0 N (flat w i e)) (less p prime x y u))
+        (sym (read-zeros (residues p prime) k (k + 1) (strided p prime f b v) (omega arith) (λ j ge lt.
+        let here : j ≡ k = omega arith in
+        ap (strided p prime f b v) here ∙ residue-zero p prime _ (ap (λ z. z % p) none ∙ zero-mod p))))
+        (so-far .holds N (omega (arith, add-mul k 1 w)) room prime i lane x u A B);
   }
 
   module _ {k : ℕ} {h : List ℕ} (so-far : TakesProduct p w h₀ f b v k s a m h)
@@ -66,6 +83,12 @@ module _ {p w : ℕ} {h₀ f : List ℕ} {b v : ℕ} {s : List ℕ} {a m : ℕ} 
           let grown = at-most-sum (d + k * (p * p)) (p * p) h (k * w) s a m c (so-far .bound d most)
           (λ j lt. product-most p c (getD s (a + j) 0) (omega arith) (small (a + j))) i in
           rw stores (omega (arith, grown, add-mul k 1 (p * p)))
+
+      behind-after : (i : ℕ) → (k + 1) * w + m ≤ i + w → getD h′ i 0 ≡ getD h₀ i 0
+      behind-after i far =
+          ap (λ l. getD l i 0) stores
+          ∙ stored-outside (sumAt h (k * w) s a c) h (k * w) m i (inr (omega (arith, add-mul k 1 w)))
+          ∙ so-far .behind i (omega (arith, add-mul k 1 w))
 
       module _ (N : ℕ) (inside : (k + 1) * w + m ≤ N + w) (room : N ≤ length h₀) (prime : Prime p) (i : ℕ) (lane : i < w)
           (x u : Polynomial (residues p prime)) (A : Holds (residues p prime) (λ e. words p prime h₀ 0 N (flat w i e)) x)
@@ -117,4 +140,4 @@ module _ {p w : ℕ} {h₀ f : List ℕ} {b v : ℕ} {s : List ℕ} {a m : ℕ} 
             (holds-step (residues p prime) factor k before B upper lower)
 
       pub product-turn : TakesProduct p w h₀ f b v (k + 1) s a m h′
-      product-turn = record { same-length = length-after; bound = bound-after; holds = holds-after }
+      product-turn = record { same-length = length-after; bound = bound-after; behind = behind-after; holds = holds-after }

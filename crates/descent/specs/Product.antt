@@ -22,10 +22,11 @@ module _ (p : ℕ) (prime : Prime p) where
   less x y u = polynomials (residues p prime) .add x
       (polynomials (residues p prime) .neg (polynomials (residues p prime) .mul y u))
 
--- lane i of w lanes, in the first N words of h, in m words of s from a on
+-- lane i of w lanes, in the first N words of h, in m words of s from a on; what lies behind the last multiple stays
 pub record TakesProduct (p w : ℕ) (h f : List ℕ) (b v n : ℕ) (s : List ℕ) (a m : ℕ) (h′ : List ℕ) : Type 0 where
   pub same-length : length h′ ≡ length h
   pub bound : (c : ℕ) → AtMost c h → AtMost (c + n * (p * p)) h′
+  pub behind : (i : ℕ) → n * w + m ≤ i + w → getD h′ i 0 ≡ getD h i 0
   pub holds : (N : ℕ) → n * w + m ≤ N + w → N ≤ length h → (prime : Prime p) (i : ℕ) → i < w
       → (x u : Polynomial (residues p prime)) → Holds (residues p prime) (λ e. words p prime h 0 N (flat w i e)) x
       → Holds (residues p prime) (λ e. words p prime s a m (flat w i e)) u

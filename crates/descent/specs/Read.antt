@@ -1,5 +1,5 @@
--- A polynomial read from an array, one coefficient more.
-use Prim.Native.Nat.{ℕ, suc, _<_}
+-- A polynomial read from an array, one coefficient more, or zeros more.
+use Prim.Native.Nat.{ℕ, suc, _<_, _≤_}
 use mathlib.Core.Path.{_≡_, sym, _∙_, ap, ap₂}
 use native.Mathlib.Omega.{arith}
 use native.Mathlib.Decide.{ℕ-discrete, decLt}
@@ -35,3 +35,11 @@ module _ {K : Type 0} (F : Field K) where
           read-beyond F (suc k) f j (omega arith)
           ∙ sym (add-zero 𝟎)
           ∙ sym (ap₂ _⊕_ (read-beyond F k f j (omega arith)) (coefficients-monomial-other F (f k) k j e))
+
+  pub read-zeros : (k n : ℕ) (f : ℕ → K) → k ≤ n → ((j : ℕ) → k ≤ j → j < n → f j ≡ 𝟎) → read F n f ≡ read F k f
+  read-zeros k n f le zeros = equal-coefficients F _ _ (λ j. go j (decLt j k) (decLt j n))
+    where
+      go : (j : ℕ) → Dec (j < k) → Dec (j < n) → coefficients F (read F n f) j ≡ coefficients F (read F k f) j
+      go j (yes l) h = read-at F n f j (omega arith) ∙ sym (read-at F k f j l)
+      go j (no l) (yes h) = read-at F n f j h ∙ zeros j (omega arith) h ∙ sym (read-beyond F k f j (omega arith))
+      go j (no l) (no h) = read-beyond F n f j (omega arith) ∙ sym (read-beyond F k f j (omega arith))

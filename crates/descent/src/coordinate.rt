@@ -4,7 +4,7 @@ use residue::modulus::Modulus;
 use vector::find_leading;
 use vector::reduce_range;
 ghost use mathlib.Core.Path.{_≡_};
-ghost use Prim.Native.Nat.{ℕ, _+_, _*_, _%_, _<_, _≤_};
+ghost use Prim.Native.Nat.{ℕ, _+_, _-_, _*_, _%_, _<_, _≤_};
 ghost use lib.ListN.{length, getD};
 ghost use Rattle.modular.specs.Modulo.{modulo};
 ghost use Rattle.residue.specs.Modulus.{ValidModulus};
@@ -26,8 +26,15 @@ pub fn store_negated(h: &mut [u64], a: usize, y: &[u64], n: usize, modulus: Modu
     }
 }
 
+// The lesser of two numbers.
+fn lesser(n: usize, m: usize) -> usize
+    ensures { λ r. ⌜ r ≡ n - (n - m) ⌝ }
+{
+    if n < m { n } else { m }
+}
+
 // Stores minus y, the coordinate, in 128 words of h from a on, takes the coordinate times the column, 128 words from `at` on, off
-// the block t, and reduces what is left. Returns the size of the coordinate.
+// the block t, and reduces what that touched. Returns the size of the coordinate.
 pub fn take_column(
     t: &mut [u64],
     h: &mut [u64],
@@ -45,8 +52,10 @@ pub fn take_column(
         (now (t .exit)) (now (h .exit)) r ⌝ }
 {
     store_negated(h, a, y, 128, modulus);
-    subtract_product(t, 8, h, a, 1, 121, columns, at, 128, modulus);
-    reduce_range(t, 1088, modulus);
     let found = find_leading(y, 128, modulus);
+    // a coordinate has at most 121 coefficients (L6), and t has no room for more
+    let terms = lesser(found.size, 121);
+    subtract_product(t, 8, h, a, 1, terms, columns, at, 128, modulus);
+    reduce_range(t, 8 * terms + 120, modulus);
     found.size
 }

@@ -23,7 +23,10 @@ pub fn reduce_by_kernel(y: &mut [u64], kernel: &[u64], at: usize, size: usize, m
     while last < k {
         let i = k - 1;
         let factor = modulus.mul(modulus.reduce(y[i]), inverse);
-        add_scaled(y, i - last, kernel, at, size, modulus.p - factor);
+        // nothing is to be taken off where the word is 0 modulo p
+        if 0 < factor {
+            add_scaled(y, i - last, kernel, at, size, modulus.p - factor);
+        }
         k = i;
     }
 }

@@ -27,7 +27,11 @@ pub fn subtract_product(
 {
     let mut k = 0;
     while k < n {
-        add_scaled(h, k * w, s, a, m, modulus.p - f[b + k * v]);
+        let factor = f[b + k * v];
+        // most factors of a quotient are 0
+        if 0 < factor {
+            add_scaled(h, k * w, s, a, m, modulus.p - factor);
+        }
         k += 1;
     }
 }

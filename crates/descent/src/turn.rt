@@ -6,13 +6,14 @@ ghost use mathlib.Core.Path.{_≡_};
 ghost use Prim.Native.Nat.{ℕ, _+_, _<_, _≤_};
 ghost use lib.ListN.{length, getD};
 ghost use Rattle.residue.specs.Modulus.{ValidModulus};
+ghost use Rattle.vector.specs.Bound.{AtMost};
 ghost use Rattle.lattice.specs.Memory.{level, ValidLevel};
 ghost use Rattle.descent.specs.Kernel.{ValidKernel};
 ghost use Rattle.descent.specs.Turn.{Turned};
 
 // From the vector t, in the span of the level j + 1 whose slots and kernel are given, and column j at `at`: its coordinate goes to
 // 128 words from `place` on, and t becomes t less the coordinate times the column. Returns the size of the coordinate. The block,
-// the quotients and y are areas to work in.
+// the quotients and y are areas to work in, the latter two 0.
 pub fn descend_column(
     t: &mut [u64],
     slots: &[u64],
@@ -37,6 +38,7 @@ pub fn descend_column(
     requires vector { ⌜ (length (now t) ≡ 1088) × ((i : ℕ) → getD (now t) i 0 < modulus .p) ⌝ }
     requires coordinates { ⌜ (place + 128 ≤ length (now coordinates)) × ((i : ℕ) → getD (now coordinates) i 0 < modulus .p) ⌝ }
     requires areas { ⌜ (length (now block) ≡ 1088) × (length (now quotients) ≡ 1088) × (length (now y) ≡ 256) ⌝ }
+    requires zeros { ⌜ AtMost 0 (now quotients) × AtMost 0 (now y) ⌝ }
     ensures { λ r. ⌜ Turned (modulus .p) (level (now (slots .entry)) (now (sizes .entry)) (now (inverses .entry))) rows
         (now (kernels .entry)) kernel (now (columns .entry)) at (now (t .entry)) (now (coordinates .entry)) place
         (now (t .exit)) (now (coordinates .exit)) r ⌝ }

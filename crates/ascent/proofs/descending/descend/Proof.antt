@@ -1,7 +1,8 @@
--- `descend` meets its contract: its areas have the lengths that the turn asks.
+-- `descend` meets its contract: its areas have the lengths that the turn asks, and are 0.
 use mathlib.Core.Path.{refl}
 use native.Mathlib.Omega.{arith}
 use borrow.Author.Needs.{needs}
+use Rattle.ascent.specs.Empty.{zeros-at-most}
 use Rattle.ascent.proofs.descending.descend.Statement.{statement}
 use Rattle.ascent.proofs.descending.descend.Tie as tie
 
@@ -33,7 +34,7 @@ descend-column-requires c κs =
         given .1 .1 .0,
         (
           (omega (arith, input .room), input .below),
-          (given .1 .1 .1 .0, ((omega (arith, output .room), output .below), (refl, refl, refl))),
+          (given .1 .1 .1 .0, ((omega (arith, output .room), output .below), ((refl, refl, refl), (zeros-at-most 1088, zeros-at-most 256)))),
         ),
       ),
     )

@@ -1,5 +1,5 @@
 -- Each step's words are what the next one needs.
-use Prim.Native.Nat.{_-_, _≤_, _<_}
+use Prim.Native.Nat.{_-_, _*_, _≤_, _<_}
 use native.Mathlib.Nat.{mul-le-mul-right}
 use native.Mathlib.Omega.{arith}
 use borrow.Author.Needs.{needs}
@@ -17,19 +17,32 @@ store-negated-requires c κs =
     let square = mul-le-mul-right (S .args .modulus .p) limit in
     ((m, S .pre .1 .0 .0, omega arith), λ j lt. omega (arith, S .pre .1 .1 .0 .1 j))
 
-subtract-product-requires : tie.Need-subtract-product-requires
-subtract-product-requires c κs =
-    let S = c .before .before .before .before .before .before .before .before .before .before in
+find-leading-requires : tie.Need-find-leading-requires
+find-leading-requires c κs =
+    let S = c .before .before .before .before .before .before .before .before in
     let m : ValidModulus (S .args .modulus) = S .pre .0 .0 in
     let limit : S .args .modulus .p ≤ 65521 = m .limit in
     let positive : 1 < S .args .modulus .p = m .prime .large in
     let square = mul-le-mul-right (S .args .modulus .p) limit in
-    let stores = c .before .before .before .before .store-negated .ensures in
+    ((m, omega arith), λ j lt. omega (arith, S .pre .1 .1 .0 .1 j))
+
+lesser-requires : tie.Need-lesser-requires
+lesser-requires c κs = search needs
+
+subtract-product-requires : tie.Need-subtract-product-requires
+subtract-product-requires c κs =
+    let S = c .before .before .before .before .before .before .before .before .before .before .before .before in
+    let m : ValidModulus (S .args .modulus) = S .pre .0 .0 in
+    let limit : S .args .modulus .p ≤ 65521 = m .limit in
+    let positive : 1 < S .args .modulus .p = m .prime .large in
+    let square = mul-le-mul-right (S .args .modulus .p) limit in
+    let few = c .before .before .lesser .ensures in
+    let stores = c .before .before .before .before .before .before .store-negated .ensures in
     let size = stored-length (m .prime) (S .args .h .now) _ (S .args .a) (S .args .y .now) stores (S .pre .1 .0 .0) in (
-      (m, omega arith, omega arith, S .pre .1 .1 .1 .0),
+      (m, omega (arith, few), omega (arith, few), S .pre .1 .1 .1 .0),
       (
         (
-          omega (arith, S .pre .1 .0 .0),
+          omega (arith, few, S .pre .1 .0 .0),
           stored-below (m .prime) (S .args .h .now) _ (S .args .a) (S .args .y .now) stores
               (S .pre .1 .0 .0) (S .pre .1 .0 .1),
         ),
@@ -37,26 +50,25 @@ subtract-product-requires c κs =
       ),
     )
 
+mul-reduce-range : tie.Need-mul-reduce-range
+mul-reduce-range c = search needs
+
+add-reduce-range : tie.Need-add-reduce-range
+add-reduce-range c = search needs
+
 reduce-range-requires : tie.Need-reduce-range-requires
 reduce-range-requires c κs =
-    let S = c .before .before .before .before .before .before .before .before .before .before .before .before .before .before in
+    let S = c .before .before .before .before .before .before .before .before .before .before .before .before .before .before .before .before in
     let m : ValidModulus (S .args .modulus) = S .pre .0 .0 in
     let limit : S .args .modulus .p ≤ 65521 = m .limit in
     let positive : 1 < S .args .modulus .p = m .prime .large in
     let square = mul-le-mul-right (S .args .modulus .p) limit in
+    let few : c .before .before .before .before .before .before .lesser .result ≤ 121 = omega (arith, c .before .before .before .before .before .before .lesser .ensures) in
+    let products = mul-le-mul-right (S .args .modulus .p * S .args .modulus .p) few in
     let T = c .before .before .before .subtract-product .ensures in (
-      (m, omega (arith, T .same-length)),
-      λ j lt. omega (arith, T .bound (S .args .modulus .p) (λ i. omega (arith, S .pre .0 .2 i)) j),
+      (m, omega (arith, few, T .same-length)),
+      λ j lt. omega (arith, products, T .bound (S .args .modulus .p) (λ i. omega (arith, S .pre .0 .2 i)) j),
     )
-
-find-leading-requires : tie.Need-find-leading-requires
-find-leading-requires c κs =
-    let S = c .before .before .before .before .before .before .before .before .before .before .before .before .before .before .before .before .before in
-    let m : ValidModulus (S .args .modulus) = S .pre .0 .0 in
-    let limit : S .args .modulus .p ≤ 65521 = m .limit in
-    let positive : 1 < S .args .modulus .p = m .prime .large in
-    let square = mul-le-mul-right (S .args .modulus .p) limit in
-    ((m, omega arith), λ j lt. omega (arith, S .pre .1 .1 .0 .1 j))
 
 same-length : tie.Need-same-length
 same-length c = search needs
@@ -66,22 +78,27 @@ same-length-2 c = search needs
 
 returns : tie.Need-returns
 returns c =
-    let S = c .before .before .before .before .before .before .before .before .before .before .before .before .before .before .before .before .before .before in
+    let S = c .before .before .before .before .before .before .before .before .before .before .before .before .before .before .before .before .before .before .before in
     let m : ValidModulus (S .args .modulus) = S .pre .0 .0 in
     column-taken (m .prime) (S .args .t .now) (S .args .h .now) (S .args .a) (S .args .y .now) (S .args .columns .now)
-    (S .args .at) _ _ _ _ (S .pre .0 .1) (S .pre .1 .0 .0)
-    (c .before .before .before .before .before .before .before .before .before .before .before .before .store-negated .ensures)
-    (c .before .before .before .before .before .before .before .subtract-product .ensures)
-    (c .before .before .before .reduce-range .ensures) (c .find-leading .ensures .0)
+    (S .args .at) _ _ _ _ _ (S .pre .0 .1) (S .pre .0 .2) (S .pre .1 .0 .0)
+    (c .before .before .before .before .before .before .before .before .before .before .before .before .before .store-negated .ensures)
+    (c .before .before .before .before .before .before .before .before .before .before .find-leading .ensures .0)
+    (c .before .before .before .before .before .before .before .before .before .lesser .ensures)
+    (c .before .before .before .before .before .before .subtract-product .ensures)
+    (c .before .before .reduce-range .ensures)
 
 pub take-column-spec : {M : Type 1} → statement M
 take-column-spec =
     tie.close
     (tie.spec
     store-negated-requires
-    subtract-product-requires
-    reduce-range-requires
     find-leading-requires
+    lesser-requires
+    subtract-product-requires
+    mul-reduce-range
+    add-reduce-range
+    reduce-range-requires
     same-length
     same-length-2
     returns)

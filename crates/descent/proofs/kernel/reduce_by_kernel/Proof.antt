@@ -11,7 +11,7 @@ use Rattle.residue.specs.Modulus.{ValidModulus}
 use Rattle.residue.specs.Below.{inverse-below}
 use Rattle.descent.specs.Kernel.{ValidKernel}
 use Rattle.descent.proofs.Kernels.{Reducing, kernel-start, kernel-none, kernel-end}
-use Rattle.descent.proofs.Kernels.{kernel-room, factor-below, kernel-sum, kernel-turn}
+use Rattle.descent.proofs.Kernels.{kernel-room, factor-below, kernel-sum, kernel-turn, kernel-skip}
 use Rattle.descent.proofs.kernel.reduce_by_kernel.Statement.{statement}
 use Rattle.descent.proofs.kernel.reduce_by_kernel.Tie as tie
 
@@ -96,18 +96,18 @@ sub-add-scaled c = search needs
 
 sub-add-scaled-2 : tie.Need-sub-add-scaled-2 Inv-loop μ-loop
 sub-add-scaled-2 c =
-    let S = c .before .before .before .before .before .before .before .before .before .before .before .before in
-    let L = c .before .before .before .before .before .before .loop in
-    let by = factor-is (S .args .modulus .p) (c .before .before .mul .ensures) (c .before .before .before .reduce .ensures)
-    (c .before .before .before .before .before .before .before .inverse .ensures) in
+    let S = c .before .before .before .before .before .before .before .before .before .before .before .before .before in
+    let L = c .before .before .before .before .before .before .before .loop in
+    let by = factor-is (S .args .modulus .p) (c .before .before .before .mul .ensures) (c .before .before .before .before .reduce .ensures)
+    (c .before .before .before .before .before .before .before .before .inverse .ensures) in
     omega (arith, factor-below (L .inv) (S .pre .0 .1) (omega arith) (omega arith) (S .pre .0 .0 .prime) _ by)
 
 add-scaled-requires : tie.Need-add-scaled-requires Inv-loop μ-loop
 add-scaled-requires c κs =
-    let S = c .before .before .before .before .before .before .before .before .before .before .before .before in
-    let L = c .before .before .before .before .before .before .loop in
-    let by = factor-is (S .args .modulus .p) (c .before .before .mul .ensures) (c .before .before .before .reduce .ensures)
-    (c .before .before .before .before .before .before .before .inverse .ensures) in
+    let S = c .before .before .before .before .before .before .before .before .before .before .before .before .before in
+    let L = c .before .before .before .before .before .before .before .loop in
+    let by = factor-is (S .args .modulus .p) (c .before .before .before .mul .ensures) (c .before .before .before .before .reduce .ensures)
+    (c .before .before .before .before .before .before .before .before .inverse .ensures) in
     let m : ValidModulus (S .args .modulus) = S .pre .0 .0 in
     let limit : S .args .modulus .p ≤ 65521 = m .limit in
     let valid = S .pre .0 .1 in (
@@ -123,13 +123,24 @@ loop-less c = search needs
 
 loop-again : tie.Need-loop-again Inv-loop μ-loop
 loop-again c =
-    let S = c .before .before .before .before .before .before .before .before .before .before .before .before .before .before .before in
-    let L = c .before .before .before .before .before .before .before .before .before .loop in
-    let by = factor-is (S .args .modulus .p) (c .before .before .before .before .before .mul .ensures)
-    (c .before .before .before .before .before .before .reduce .ensures)
-    (c .before .before .before .before .before .before .before .before .before .before .inverse .ensures) in
+    let S = c .before .before .before .before .before .before .before .before .before .before .before .before .before .before .before .before in
+    let L = c .before .before .before .before .before .before .before .before .before .before .loop in
+    let by = factor-is (S .args .modulus .p) (c .before .before .before .before .before .before .mul .ensures)
+    (c .before .before .before .before .before .before .before .reduce .ensures)
+    (c .before .before .before .before .before .before .before .before .before .before .before .inverse .ensures) in
     kernel-turn (L .inv) (S .pre .0 .1) (omega arith) (omega arith) (S .pre .0 .0 .prime) _ by _
     (c .before .before .add-scaled .ensures .0) (S .pre .1 .0)
+
+loop-less-2 : tie.Need-loop-less-2 Inv-loop μ-loop
+loop-less-2 c = search needs
+
+loop-again-2 : tie.Need-loop-again-2 Inv-loop μ-loop
+loop-again-2 c =
+    let S = c .before .before .before .before .before .before .before .before .before .before .before in
+    let L = c .before .before .before .before .before .loop in
+    let by = factor-is (S .args .modulus .p) (c .before .mul .ensures) (c .before .before .reduce .ensures)
+    (c .before .before .before .before .before .before .inverse .ensures) in
+    kernel-skip (L .inv) (S .pre .0 .1) (omega arith) (omega arith) (S .pre .0 .0 .prime) _ by (omega arith)
 
 same-length : tie.Need-same-length Inv-loop μ-loop
 same-length c = search needs
@@ -161,5 +172,7 @@ reduce-by-kernel-spec =
     add-scaled-requires
     loop-less
     loop-again
+    loop-less-2
+    loop-again-2
     same-length
     returns-2)

@@ -1,10 +1,11 @@
 -- The loop keeps a `TakesProduct`: the coefficients of f before k are done.
 use Prim.Native.Nat.{_+_, _-_, _*_, _≤_}
-use mathlib.Core.Path.{_≡_, subst}
+use mathlib.Core.Path.{_≡_, sym, _∙_, subst}
+use mathlib.Core.Logic.{⊎-elim}
 use native.Mathlib.Omega.{arith}
 use borrow.Author.Needs.{needs}
 use Rattle.descent.specs.Product.{TakesProduct}
-use Rattle.descent.proofs.Products.{next-multiple, product-start, product-sum, product-turn}
+use Rattle.descent.proofs.Products.{next-multiple, product-start, product-sum, product-turn, product-skip}
 use Rattle.descent.proofs.product.subtract_product.Statement.{statement}
 use Rattle.descent.proofs.product.subtract_product.Tie as tie
 
@@ -18,51 +19,51 @@ abbrev μ-loop : tie.MeasureT-loop
 loop-holds : tie.Need-loop-holds Inv-loop μ-loop
 loop-holds c = (omega arith, product-start)
 
-mul-add-scaled : tie.Need-mul-add-scaled Inv-loop μ-loop
-mul-add-scaled c =
-    let S = c .before .before .before .before .before .before in
-    let L = c .before .before .loop in
-    let rows = next-multiple (L .k) (S .args .n) (S .args .w) (omega arith) in
-    search needs
-
-mul-add-scaled-2 : tie.Need-mul-add-scaled-2 Inv-loop μ-loop
-mul-add-scaled-2 c =
-    let S = c .before .before .before .before .before .before in
-    let L = c .before .before .loop in
+mul-factor : tie.Need-mul-factor Inv-loop μ-loop
+mul-factor c =
+    let S = c .before .before .before .before .before in
+    let L = c .before .loop in
     let rows = next-multiple (L .k) (S .args .n) (S .args .v) (omega arith) in
     search needs
 
-add-add-scaled : tie.Need-add-add-scaled Inv-loop μ-loop
-add-add-scaled c =
-    let S = c .before .before .before .before .before .before in
-    let L = c .before .before .loop in
+add-factor : tie.Need-add-factor Inv-loop μ-loop
+add-factor c =
+    let S = c .before .before .before .before .before in
+    let L = c .before .loop in
     let rows = next-multiple (L .k) (S .args .n) (S .args .v) (omega arith) in
     search needs
 
-mul-add-scaled-3 : tie.Need-mul-add-scaled-3 Inv-loop μ-loop
-mul-add-scaled-3 c =
-    let S = c .before .before .before .before .before .before in
-    let L = c .before .before .loop in
+mul-factor-2 : tie.Need-mul-factor-2 Inv-loop μ-loop
+mul-factor-2 c =
+    let S = c .before .before .before .before .before in
+    let L = c .before .loop in
     let rows = next-multiple (L .k) (S .args .n) (S .args .v) (omega arith) in
     search needs
 
-shared-slice-read-add-scaled : tie.Need-shared-slice-read-add-scaled Inv-loop μ-loop
-shared-slice-read-add-scaled c =
-    let S = c .before .before .before .before .before .before .before in
-    let L = c .before .before .before .loop in
+shared-slice-read-factor : tie.Need-shared-slice-read-factor Inv-loop μ-loop
+shared-slice-read-factor c =
+    let S = c .before .before .before .before .before .before in
+    let L = c .before .before .loop in
     let rows = next-multiple (L .k) (S .args .n) (S .args .v) (omega arith) in
     omega arith
 
-sub-add-scaled : tie.Need-sub-add-scaled Inv-loop μ-loop
-sub-add-scaled c =
+mul-add-scaled : tie.Need-mul-add-scaled Inv-loop μ-loop
+mul-add-scaled c =
     let S = c .before .before .before .before .before .before .before .before in
     let L = c .before .before .before .before .loop in
+    let rows = next-multiple (L .k) (S .args .n) (S .args .w) (omega arith) in
+    search needs
+
+sub-add-scaled : tie.Need-sub-add-scaled Inv-loop μ-loop
+sub-add-scaled c =
+    let S = c .before .before .before .before .before .before .before .before .before in
+    let L = c .before .before .before .before .before .loop in
     omega (arith, S .pre .1 .0 .1 (S .args .b + L .k * S .args .v))
 
 add-scaled-requires : tie.Need-add-scaled-requires Inv-loop μ-loop
 add-scaled-requires c κs =
-    let S = c .before .before .before .before .before .before .before .before in
-    let L = c .before .before .before .before .loop in
+    let S = c .before .before .before .before .before .before .before .before .before in
+    let L = c .before .before .before .before .before .loop in
     let so-far = L .inv .1 in
     let limit : S .args .modulus .p ≤ 65521 = S .pre .0 .0 .limit in
     let rows = next-multiple (L .k) (S .args .n) (S .args .w) (omega arith) in (
@@ -82,9 +83,16 @@ loop-less c = search needs
 
 loop-again : tie.Need-loop-again Inv-loop μ-loop
 loop-again c =
-    let S = c .before .before .before .before .before .before .before .before .before .before .before in
-    let L = c .before .before .before .before .before .before .before .loop in
-    (omega arith, product-turn (L .inv .1) (S .pre .1 .0 .1) (S .pre .1 .1 .1) _ (c .before .before .add-scaled .ensures .0))
+    let S = c .before .before .before .before .before .before .before in
+    let L = c .before .before .before .loop in (
+      omega arith,
+      ⊎-elim
+          (λ way. product-turn (L .inv .1) (S .pre .1 .0 .1) (S .pre .1 .1 .1) _ (way .6 ∙ way .3 .ensures .0))
+          (λ way. subst (TakesProduct (S .args .modulus .p) (S .args .w) (S .args .h .now) (S .args .f .now) (S .args .b)
+          (S .args .v) (L .k + 1) (S .args .s .now) (S .args .a) (S .args .m)) (sym (way .1))
+          (product-skip (L .inv .1) (omega (arith, way .0 .left))))
+          (c .if1 .came),
+    )
 
 same-length : tie.Need-same-length Inv-loop μ-loop
 same-length c = search needs
@@ -104,11 +112,11 @@ subtract-product-spec =
     Inv-loop
     μ-loop
     loop-holds
+    mul-factor
+    add-factor
+    mul-factor-2
+    shared-slice-read-factor
     mul-add-scaled
-    mul-add-scaled-2
-    add-add-scaled
-    mul-add-scaled-3
-    shared-slice-read-add-scaled
     sub-add-scaled
     add-scaled-requires
     add-k

@@ -12,68 +12,40 @@ use Rattle.descent.proofs.search.find_coordinate.Tie as tie
 copy-requires : tie.Need-copy-requires
 copy-requires c κs = search needs
 
-clear-requires : tie.Need-clear-requires
-clear-requires c κs = search needs
-
 divide-requires : tie.Need-divide-requires
 divide-requires c κs =
-    let S = c .before .before .before .before .before .before .before .before .before .before .before .before .before .before .before .before .before .before in
+    let S = c .before .before .before .before .before .before .before .before .before .before .before .before .before .before in
     let m : ValidModulus (S .args .modulus) = S .pre .0 .0 in
-    let block = area-length (λ j. getD (S .args .t .now) (0 + j) 0) (S .args .block .now) _ 1088
-    (c .before .before .before .before .before .before .before .before .copy .ensures) (S .pre .1 .1 .1 .0) in
-    let small = area-most (λ j. getD (S .args .t .now) (0 + j) 0) (S .args .block .now) _ 1088
-    (c .before .before .before .before .before .before .before .before .copy .ensures) (S .pre .1 .1 .1 .0)
-    (S .args .modulus .p) (λ j lt. omega (arith, S .pre .1 .1 .0 .1 (0 + j))) in
-    let quotients = area-length (λ j. 0) (S .args .quotients .now) _ 1088 (c .before .before .before .before .clear .ensures)
-    (S .pre .1 .1 .1 .1) in (
+    let areas = S .pre .1 .1 .1 .0 in
+    let copied = c .before .before .before .before .copy .ensures in
+    let block = area-length (λ j. getD (S .args .t .now) (0 + j) 0) (S .args .block .now) _ 1088 copied (areas .0) in
+    let small = area-most (λ j. getD (S .args .t .now) (0 + j) 0) (S .args .block .now) _ 1088 copied (areas .0)
+    (S .args .modulus .p) (λ j lt. omega (arith, S .pre .1 .1 .0 .1 (0 + j))) in (
       (m, S .pre .0 .2),
       (
         (omega (arith, block), omega arith, (λ j ge lt. absurd (omega arith)), λ i. omega (arith, small i)),
-        (
-          omega (arith, quotients),
-          area-most (λ j. 0) (S .args .quotients .now) _ 1088
-              (c .before .before .before .before .clear .ensures) (S .pre .1 .1 .1 .1) 0 (λ j lt. omega arith),
-        ),
+        (omega (arith, areas .1), S .pre .1 .1 .1 .1 .0),
       ),
     )
 
-clear-requires-2 : tie.Need-clear-requires-2
-clear-requires-2 c κs =
-    let S = c .before .before .before .before .before .before .before .before .before .before .before .before .before .before .before .before .before .before .before .before .before .before .before .before in
-    omega (arith, S .pre .1 .1 .1 .2)
-
 subtract-combination-requires : tie.Need-subtract-combination-requires
 subtract-combination-requires c κs =
-    let S = c .before .before .before .before .before .before .before .before .before .before .before .before .before .before .before .before .before .before .before .before .before .before .before .before .before .before .before .before .before in
+    let S = c .before .before .before .before .before .before .before .before .before .before .before .before .before .before .before .before .before .before .before .before .before in
     let m : ValidModulus (S .args .modulus) = S .pre .0 .0 in
-    let quotients = area-length (λ j. 0) (S .args .quotients .now) _ 1088
-    (c .before .before .before .before .before .before .before .before .before .before .before .before .before .before .before .clear .ensures) (S .pre .1 .1 .1 .1) in
-    let y = area-length (λ j. 0) (S .args .y .now) _ 256 (c .before .before .before .before .clear2 .ensures)
-    (S .pre .1 .1 .1 .2) in (
+    let areas = S .pre .1 .1 .1 .0 in (
       (m, S .pre .0 .1, S .pre .0 .2),
-      (
-        (
-          omega (arith, y),
-          area-most (λ j. 0) (S .args .y .now) _ 256 (c .before .before .before .before .clear2 .ensures)
-              (S .pre .1 .1 .1 .2) 0 (λ j lt. omega arith),
-        ),
-        (omega (arith, quotients), c .before .before .before .before .before .before .before .before .before .before .divide .ensures .below),
-      ),
+      ((omega (arith, areas .2), S .pre .1 .1 .1 .1 .1), (omega (arith, areas .1), c .before .before .before .before .before .before .divide .ensures .below)),
     )
 
 reduce-by-kernel-requires : tie.Need-reduce-by-kernel-requires
 reduce-by-kernel-requires c κs =
-    let S = c .before .before .before .before .before .before .before .before .before .before .before .before .before .before .before .before .before .before .before .before .before .before .before .before .before .before .before .before .before .before .before .before .before in
+    let S = c .before .before .before .before .before .before .before .before .before .before .before .before .before .before .before .before .before .before .before .before .before .before .before .before .before in
     let m : ValidModulus (S .args .modulus) = S .pre .0 .0 in
-    let y = area-length (λ j. 0) (S .args .y .now) _ 256
-    (c .before .before .before .before .before .before .before .before .clear2 .ensures) (S .pre .1 .1 .1 .2) in
     let C = c .before .before .before .subtract-combination .ensures in
     let products = mul-le-mul-right (136 * (S .args .modulus .p * S .args .modulus .p)) (S .pre .0 .1) in
-    let bound = C .bound 0 (area-most (λ j. 0) (S .args .y .now) _ 256
-    (c .before .before .before .before .before .before .before .before .clear2 .ensures) (S .pre .1 .1 .1 .2) 0
-    (λ j lt. omega arith)) in (
+    let bound = C .bound 0 (S .pre .1 .1 .1 .1 .1) in (
       (m, S .pre .1 .0),
-      (omega (arith, y, C .same-length), λ i. omega (arith, bound i)),
+      (omega (arith, S .pre .1 .1 .1 .0 .2, C .same-length), λ i. omega (arith, bound i)),
     )
 
 same-length : tie.Need-same-length
@@ -87,15 +59,13 @@ same-length-3 c = search needs
 
 returns : tie.Need-returns
 returns c =
-    let S = c .before .before .before .before .before .before .before .before .before .before .before .before .before .before .before .before .before .before .before .before .before .before .before .before .before .before .before .before .before .before .before .before .before .before .before .before in
-    let m : ValidModulus (S .args .modulus) = S .pre .0 .0 in
+    let S = c .before .before .before .before .before .before .before .before .before .before .before .before .before .before .before .before .before .before .before .before .before .before .before .before .before .before .before .before in
     coordinate-found (S .args .t .now) _
     (area-word (λ j. getD (S .args .t .now) (0 + j) 0) (S .args .block .now) _ 1088
-    (c .before .before .before .before .before .before .before .before .before .before .before .before .before .before .before .before .before .before .before .before .before .before .before .before .before .before .copy .ensures) (S .pre .1 .1 .1 .0)) (c .before .before .before .before .before .before .before .before .before .before .before .before .before .before .before .before .before .divide .ensures)
-    (area-most (λ j. 0) (S .args .y .now) _ 256
-    (c .before .before .before .before .before .before .before .before .before .before .before .clear2 .ensures)
-    (S .pre .1 .1 .1 .2) 0 (λ j lt. omega arith))
-    (c .before .before .before .before .before .before .subtract-combination .ensures)
+    (c .before .before .before .before .before .before .before .before .before .before .before .before .before .before .before .before .before .before .copy .ensures)
+    (S .pre .1 .1 .1 .0 .0))
+    (c .before .before .before .before .before .before .before .before .before .before .before .before .before .divide .ensures)
+    (S .pre .1 .1 .1 .1 .1) (c .before .before .before .before .before .before .subtract-combination .ensures)
     (c .before .before .reduce-by-kernel .ensures) (S .pre .0 .1)
 
 pub find-coordinate-spec : {M : Type 1} → statement M
@@ -103,9 +73,7 @@ find-coordinate-spec =
     tie.close
     (tie.spec
     copy-requires
-    clear-requires
     divide-requires
-    clear-requires-2
     subtract-combination-requires
     reduce-by-kernel-requires
     same-length

@@ -14,7 +14,7 @@ take-column-requires : tie.Need-take-column-requires
 take-column-requires c κs =
     let given = c .before .before .before .before .before .before .before .before .before .before .before .before .before .before .before .before .before .before .before .before .before .before .before .before .pre in (
       (given .0 .0, given .1 .1 .1 .0 .0, given .1 .1 .1 .0 .1),
-      (given .1 .1 .1 .1 .0, ((omega (arith, given .1 .1 .1 .1 .1 .2), c .before .before .before .before .before .before .before .before .before .find-coordinate .ensures .bound), given .1 .1 .0)),
+      (given .1 .1 .1 .1 .0, ((omega (arith, given .1 .1 .1 .1 .1 .0 .2), c .before .before .before .before .before .before .before .before .before .find-coordinate .ensures .bound), given .1 .1 .0)),
     )
 
 same-length : tie.Need-same-length
