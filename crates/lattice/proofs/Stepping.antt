@@ -2,7 +2,7 @@
 -- the same step.
 use Prim.Native.Nat.{ℕ, _+_, _-_, _*_, _/_, _%_, _<_, _≤_}
 use mathlib.Core.Path.{_≡_, refl, sym, _∙_, ap, ap₂, subst}
-use mathlib.Core.Logic.{inr, ⊎-elim}
+use mathlib.Core.Logic.{⊎-elim}
 use mathlib.Core.List.{List, [], _∷_}
 use native.Mathlib.Nat.{mod-lt, mul-le-mul}
 use native.Mathlib.Omega.{arith}
@@ -15,14 +15,14 @@ use Rattle.modular.specs.Prime.{Prime}
 use Rattle.modular.specs.Modulo.{modulo}
 use Rattle.modular.specs.Residue.{Residue, residues}
 use Rattle.residue.specs.Below.{mul-below, inverse-below}
-use Rattle.vector.specs.Stored.{stored, length-stored, stored-outside, below-or-not}
+use Rattle.vector.specs.Stored.{stored, length-stored, below-or-not}
 use Rattle.vector.specs.Multiple.{sumAt}
 use Rattle.lattice.specs.Word.{residue, residue-mod, residue-mul, residue-inverse, zero-residue}
 use Rattle.lattice.specs.Word.{words, words-inside, words-first}
-use Rattle.lattice.specs.Memory.{row, ZeroFrom, Level, slotSize, Sums, ValidSlot}
+use Rattle.lattice.specs.Memory.{row, height, ZeroFrom, Level, slotSize, Sums, ValidSlot}
 use Rattle.lattice.specs.Sums.{sums-room, sums-step}
 use Rattle.lattice.specs.Step.{factorOf, HasStep}
-use Rattle.lattice.specs.Range.{zero-word, words-upper, words-lower}
+use Rattle.lattice.specs.Range.{zero-word, words-upper, words-lower, zero-kept}
 
 -- h less h/u times u
 cancelled : {K : Type 0} (R : Ring K) (h u i : K) → R .mul u i ≡ R .one → R .add h (R .neg (R .mul (R .mul h i) u)) ≡ R .zero
@@ -55,6 +55,10 @@ module _ (p : ℕ) (prime : Prime p) {L : Level} {block : List ℕ} {k value : �
   abbrev pub shift : ℕ
   shift = (k - slotSize L (row k)) / 8
 
+  -- the words of the slot's degrees
+  abbrev pub taken : ℕ
+  taken = height (slotSize L (row k)) * 8
+
   slot : ValidSlot p L (row k)
   slot = S .level .slot (row k) (omega arith)
 
@@ -72,8 +76,17 @@ module _ (p : ℕ) (prime : Prime p) {L : Level} {block : List ℕ} {k value : �
   step-product i = mul-le-mul {n₁ = p - a} {m₁ = getD (L .slots) i 0} {n₂ = p} {m₂ = p} (omega arith) (omega (arith, step-word i))
 
   -- the places of the step are there, and the sums fit
-  pub step-room : k - slotSize L (row k) + slotSize L (row k) ≤ length block
-  step-room = omega (arith, S .room, S .fits, S .ends .within)
+  step-inside : k - slotSize L (row k) + taken ≤ 1088
+  step-inside = omega (arith, step-shift, S .fits, S .ends .within)
+
+  pub step-room : k - slotSize L (row k) + height (slotSize L (row k)) * 8 ≤ length block
+  step-room = omega (arith, S .room, step-inside)
+
+  step-fits : taken ≤ 128
+  step-fits = omega (arith, slot .block .within)
+
+  step-none : ZeroFrom p (L .slots) (256 * row k) 128 taken
+  step-none j h lt = slot .block .behind j (omega arith) lt
 
   pub step-sum : Sums p 1 block → p ≤ 65521 → (j : ℕ)
       → sumAt block (k - slotSize L (row k)) (L .slots) (256 * row k) (p - a) j < 18446744073709551616
@@ -81,12 +94,12 @@ module _ (p : ℕ) (prime : Prime p) {L : Level} {block : List ℕ} {k value : �
       let positive : 0 < p = omega (arith, prime .large) in
       omega (arith, sums-room p block 1 positive limit sums (k - slotSize L (row k) + j), step-product (256 * row k + j))
 
-  pub step-slot-room : 256 * row k + slotSize L (row k) ≤ length (L .slots)
-  step-slot-room = omega (arith, S .level .room, slot .block .within)
+  pub step-slot-room : 256 * row k + height (slotSize L (row k)) * 8 ≤ length (L .slots)
+  step-slot-room = omega (arith, S .level .room, step-fits)
 
   module _ (block′ : List ℕ)
       (stores : block′ ≡ stored (sumAt block (k - slotSize L (row k)) (L .slots) (256 * row k) (p - a)) block
-      (k - slotSize L (row k)) (slotSize L (row k))) where
+      (k - slotSize L (row k)) (height (slotSize L (row k)) * 8)) where
     abbrev d : ℕ
     d = k - slotSize L (row k)
 
@@ -94,7 +107,7 @@ module _ (p : ℕ) (prime : Prime p) {L : Level} {block : List ℕ} {k value : �
     c = p - a
 
     pub step-sums : (n : ℕ) → 0 < n → n ≤ 62112 → Sums p n block → Sums p (n - 1) block′
-    step-sums = sums-step p block block′ d (L .slots) (256 * row k) size c stores step-product
+    step-sums = sums-step p block block′ d (L .slots) (256 * row k) taken c stores step-product
 
     pub step-reducible : Sums p 1 block → p ≤ 65521 → (j : ℕ) → getD block′ j 0 < 4294967296 * p
     step-reducible sums limit j =
@@ -102,18 +115,18 @@ module _ (p : ℕ) (prime : Prime p) {L : Level} {block : List ℕ} {k value : �
         omega (arith, sums-room p block′ 0 positive limit (step-sums 1 (omega arith) (omega arith) sums) j)
 
     pub step-length : length block′ ≡ length block
-    step-length = ap length stores ∙ length-stored _ block d size
+    step-length = ap length stores ∙ length-stored _ block d taken
 
     upper : (x : ℕ) → words p prime block′ 0 1088 (d + x)
         ≡ residues p prime .ring .add (words p prime block 0 1088 (d + x))
         (residues p prime .ring .neg (residues p prime .ring .mul (residue p prime a)
         (words p prime (L .slots) (256 * row k) 128 x)))
-    upper = words-upper p prime block block′ (L .slots) d (256 * row k) size 128 1088 a stores step-factor
-        (omega (arith, S .fits, S .ends .within)) (S .room) (slot .block .behind) (slot .block .within)
+    upper = words-upper p prime block block′ (L .slots) d (256 * row k) taken 128 1088 a stores step-factor
+        step-inside (S .room) step-none step-fits
 
     lower : (x : ℕ) → x < d → words p prime block′ 0 1088 x ≡ words p prime block 0 1088 x
-    lower = words-lower p prime block block′ (L .slots) d (256 * row k) size 128 1088 a stores step-factor
-        (omega (arith, S .fits, S .ends .within)) (S .room) (slot .block .behind) (slot .block .within)
+    lower = words-lower p prime block block′ (L .slots) d (256 * row k) taken 128 1088 a stores step-factor
+        step-inside (S .room) step-none step-fits
 
     -- as `flat-step` of `reduction` takes it
     pub step-upper : (x : ℕ) → words p prime block′ 0 1088 (shift * 8 + x)
@@ -168,7 +181,6 @@ module _ (p : ℕ) (prime : Prime p) {L : Level} {block : List ℕ} {k value : �
         let here : j ≡ k - 1 = omega (arith, S .some) in
         zero-word p prime block′ 0 1088 j lt (ap (words p prime block′ 0 1088) here ∙ leading-gone))
         (λ more.
-        ap (λ w. getD w (0 + j) 0 % p) stores
-        ∙ ap (λ w. w % p) (stored-outside _ block d size (0 + j) (inr (omega (arith, S .fits))))
-        ∙ S .ends .behind j more lt)
+        zero-kept p prime block block′ (L .slots) d (256 * row k) taken 128 1088 a stores step-factor step-inside (S .room)
+        step-none step-fits size k (slot .block .behind) (omega (arith, S .fits)) (S .ends .behind) j more lt)
         (below-or-not j k)

@@ -1,6 +1,6 @@
 -- A step on the block in hand: when there is one, and what it leaves. The slot at the block's pivot is filled and no longer than
 -- the block; the multiple of it that takes the leading word away is taken off.
-use Prim.Native.Nat.{ℕ, _-_, _*_, _%_, _<_, _≤_}
+use Prim.Native.Nat.{ℕ, _-_, _*_, _/_, _%_, _<_, _≤_}
 use mathlib.Core.Path.{_≡_}
 use mathlib.Core.List.{List}
 use lib.ListN.{length, getD}
@@ -8,7 +8,7 @@ use Rattle.modular.specs.Modulo.{modulo}
 use Rattle.vector.specs.Stored.{stored}
 use Rattle.vector.specs.Multiple.{sumAt}
 use Rattle.lattice.specs.declared.step.Remains.{Remains}
-use Rattle.lattice.specs.Memory.{row, Ends, Level, slotSize, ValidLevel}
+use Rattle.lattice.specs.Memory.{row, height, Ends, Level, slotSize, ValidLevel}
 
 -- k is the size of the block, value its leading word modulo p
 pub record HasStep (p : ℕ) (L : Level) (block : List ℕ) (k value : ℕ) : Type 0 where
@@ -24,10 +24,11 @@ pub record HasStep (p : ℕ) (L : Level) (block : List ℕ) (k value : ℕ) : Ty
 abbrev pub factorOf : (p : ℕ) → Level → (k value : ℕ) → ℕ
 factorOf p L k value = modulo p .mul value (getD (L .inverses) (row k) 0)
 
+-- of the slot all words of its degrees are taken; those behind its size are 0
 pub record TakesMultiple (p : ℕ) (L : Level) (block : List ℕ) (k value : ℕ) (block′ : List ℕ) (r : Remains) : Type 0 where
   pub factor : r .factor ≡ factorOf p L k value
   pub words : block′ ≡ stored (sumAt block (k - slotSize L (row k)) (L .slots) (256 * row k) (p - r .factor)) block
-      (k - slotSize L (row k)) (slotSize L (row k))
+      (k - slotSize L (row k)) (height (slotSize L (row k)) * 8)
   pub ends : Ends p block′ 0 1088 (r .size)
   pub leading : 0 < r .size → r .leading ≡ getD block′ (r .size - 1) 0 % p
   pub fewer : r .size < k

@@ -34,7 +34,9 @@ pub fn take_multiple(
     let size = sizes[q];
     let factor = modulus.mul(found.value, inverses[q]);
     let minus = modulus.p - factor;
-    add_scaled(block, k - size, slots, 256 * q, size, minus);
+    // all words of the slot's degrees: those behind its size are 0, and the loop has none left over from its vectors
+    let words = (size + 7) / 8 * 8;
+    add_scaled(block, k - size, slots, 256 * q, words, minus);
     let left = find_leading(block, k - 1, modulus);
     Remains {
         size: left.size,

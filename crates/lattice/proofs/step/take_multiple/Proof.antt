@@ -40,6 +40,14 @@ sub-minus c =
     let S = A .before .before .before .before .before .before .before in
     omega (arith, Stepping.step-factor _ (S .pre .0 .prime) (S .pre .1 .0) _ (A .mul .ensures))
 
+add-words : tie.Need-add-words
+add-words c =
+    let S = c .before .before .before .before .before .before .before .before in
+    omega (arith, S .pre .1 .0 .level .slot (row (S .args .found .size)) (omega arith) .block .within)
+
+mul-words : tie.Need-mul-words
+mul-words c = search needs
+
 sub-add-scaled : tie.Need-sub-add-scaled
 sub-add-scaled c = search needs
 
@@ -114,6 +122,8 @@ take-multiple-spec =
     shared-slice-read-mul
     mul-requires
     sub-minus
+    add-words
+    mul-words
     sub-add-scaled
     mul-add-scaled
     add-scaled-requires
