@@ -48,6 +48,25 @@ sub-minus c =
     let S = A .before .before .before .before .before .before .before .before .before in
     omega (arith, Taking.factor-below (S .pre .0 .prime) (S .pre .1 .0) (S .pre .1 .1) (A .take-multiple .ensures))
 
+add-smaller : tie.Need-add-smaller
+add-smaller c =
+    let S = c .before .before .before .before .before .before .before .before .before .before .before .before .before in
+    omega (arith, S .pre .1 .0 .level .slot (row (S .args .hand .size)) (omega arith) .tail-within)
+
+mul-smaller : tie.Need-mul-smaller
+mul-smaller c =
+    let S = c .before .before .before .before .before .before .before .before .before .before .before .before .before in
+    omega (arith, S .pre .1 .0 .level .slot (row (S .args .hand .size)) (omega arith) .tail-within)
+
+sub-smaller : tie.Need-sub-smaller
+sub-smaller c =
+    let A = c .before .before .before .before in
+    let S = A .before .before .before .before .before .before .before .before .before in
+    omega (arith, Taking.taking-inside (S .pre .0 .prime) (S .pre .1 .0) (S .pre .1 .1) (A .take-multiple .ensures))
+
+smaller-requires : tie.Need-smaller-requires
+smaller-requires c κs = search needs
+
 mul-add-scaled : tie.Need-mul-add-scaled
 mul-add-scaled c = search needs
 
@@ -56,16 +75,18 @@ add-add-scaled c = search needs
 
 add-scaled-requires : tie.Need-add-scaled-requires
 add-scaled-requires c κs =
-    let A = c .before .before .before .before .before in
+    let N = c .before in
+    let A = N .before .before .before .before .before in
     let S = A .before .before .before .before .before .before .before .before .before in
     let m : ValidModulus (S .args .modulus) = S .pre .0 in
     let limit : S .args .modulus .p ≤ 65521 = m .limit in
     let valid = S .pre .1 .0 in
     let fits = S .pre .1 .1 in
-    let taken = A .take-multiple .ensures in (
+    let taken = A .take-multiple .ensures in
+    let words = N .smaller .ensures in (
       (
-        omega (arith, Taking.taking-inside (m .prime) valid fits taken, valid .hand .tail-room),
-        Taking.taking-slot-room (m .prime) valid fits taken,
+        omega (arith, Taking.taking-room (m .prime) valid fits taken _ words, valid .hand .tail-room),
+        Taking.taking-slot-room (m .prime) valid fits taken _ words,
         omega arith,
       ),
       (
@@ -76,7 +97,7 @@ add-scaled-requires c κs =
 
 add-larger : tie.Need-add-larger
 add-larger c =
-    let A = c .before .before .before .before .before .before .before .before in
+    let A = c .before .before .before .before .before .before .before .before .before in
     let S = A .before .before .before .before .before .before .before .before .before in
     omega (arith, Taking.taking-inside (S .pre .0 .prime) (S .pre .1 .0) (S .pre .1 .1) (A .take-multiple .ensures))
 
@@ -92,10 +113,11 @@ same-length-2 c = search needs
 returns : tie.Need-returns
 returns c =
     let B = c .before .before .before in
-    let A = B .before .before .before .before .before .before in
+    let N = B .before .before in
+    let A = N .before .before .before .before .before in
     let S = A .before .before .before .before .before .before .before .before .before in
     Taking.taking-stepped (S .pre .0 .prime) (S .pre .1 .0) (S .pre .1 .1) (A .take-multiple .ensures)
-    _ (B .add-scaled .ensures .0) _ (c .larger .ensures)
+    _ (N .smaller .ensures) _ (B .add-scaled .ensures .0) _ (c .larger .ensures)
 
 pub take-from-hand-spec : {M : Type 1} → statement M
 take-from-hand-spec =
@@ -111,6 +133,10 @@ take-from-hand-spec =
     shared-slice-read-size
     take-multiple-requires
     sub-minus
+    add-smaller
+    mul-smaller
+    sub-smaller
+    smaller-requires
     mul-add-scaled
     add-add-scaled
     add-scaled-requires
