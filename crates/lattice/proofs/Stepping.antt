@@ -4,7 +4,7 @@ use Prim.Native.Nat.{ℕ, _+_, _-_, _*_, _/_, _%_, _<_, _≤_}
 use mathlib.Core.Path.{_≡_, refl, sym, _∙_, ap, ap₂, subst}
 use mathlib.Core.Logic.{⊎-elim}
 use mathlib.Core.List.{List, [], _∷_}
-use native.Mathlib.Nat.{mod-lt, mul-le-mul}
+use native.Mathlib.Nat.{mod-lt, mul-le-mul, zero-add}
 use native.Mathlib.Omega.{arith}
 use lib.ListN.{length, getD}
 use Rattle.ring.specs.Ring.{Ring}
@@ -15,11 +15,11 @@ use Rattle.modular.specs.Prime.{Prime}
 use Rattle.modular.specs.Modulo.{modulo}
 use Rattle.modular.specs.Residue.{Residue, residues}
 use Rattle.residue.specs.Below.{mul-below, inverse-below}
-use Rattle.vector.specs.Stored.{stored, length-stored, below-or-not}
+use Rattle.vector.specs.Stored.{stored, length-stored, stored-inside, below-or-not}
 use Rattle.vector.specs.Multiple.{sumAt}
 use Rattle.lattice.specs.Word.{residue, residue-mod, residue-mul, residue-inverse, zero-residue}
 use Rattle.lattice.specs.Word.{words, words-inside, words-first}
-use Rattle.lattice.specs.Memory.{row, height, ZeroFrom, Level, slotSize, Sums, ValidSlot}
+use Rattle.lattice.specs.Memory.{row, height, ZeroFrom, Ends, Level, slotSize, Sums, ValidSlot}
 use Rattle.lattice.specs.Sums.{sums-room, sums-step}
 use Rattle.lattice.specs.Step.{factorOf, HasStep}
 use Rattle.lattice.specs.Range.{zero-word, words-upper, words-lower, zero-kept}
@@ -91,6 +91,12 @@ module _ (p : ℕ) (prime : Prime p) {L : Level} {block : List ℕ} {k value : �
   pub step-sum : Sums p 1 block → p ≤ 65521 → (j : ℕ)
       → sumAt block (k - slotSize L (row k)) (L .slots) (256 * row k) (p - a) j < 18446744073709551616
   step-sum sums limit j =
+      let positive : 0 < p = omega (arith, prime .large) in
+      omega (arith, sums-room p block 1 positive limit sums (k - slotSize L (row k) + j), step-product (256 * row k + j))
+
+  pub step-reduces : Sums p 1 block → p ≤ 65521 → (j : ℕ)
+      → sumAt block (k - slotSize L (row k)) (L .slots) (256 * row k) (p - a) j < 4294967296 * p
+  step-reduces sums limit j =
       let positive : 0 < p = omega (arith, prime .large) in
       omega (arith, sums-room p block 1 positive limit sums (k - slotSize L (row k) + j), step-product (256 * row k + j))
 
@@ -184,3 +190,22 @@ module _ (p : ℕ) (prime : Prime p) {L : Level} {block : List ℕ} {k value : �
         zero-kept p prime block block′ (L .slots) d (256 * row k) taken 128 1088 a stores step-factor step-inside (S .room)
         step-none step-fits size k (slot .block .behind) (omega (arith, S .fits)) (S .ends .behind) j more lt)
         (below-or-not j k)
+
+    -- the word before the leading one, where it is not 0 modulo p: it is the next that leads
+    module _ (next : ℕ) (some : 0 < next)
+        (before : (2 ≤ slotSize L (row k))
+        × (next ≡ sumAt block (k - slotSize L (row k)) (L .slots) (256 * row k) (p - a) (slotSize L (row k) - 2) % p)) where
+      pub step-next : next ≡ getD block′ (k - 1 - 1) 0 % p
+      step-next =
+          let place : d + (slotSize L (row k) - 2) ≡ k - 1 - 1 = omega (arith, before .0, S .fits) in
+          before .1
+          ∙ ap (λ w. w % p) (sym (ap (λ w. getD w (d + (slotSize L (row k) - 2)) 0) stores
+          ∙ stored-inside _ block d taken (slotSize L (row k) - 2) step-room (omega (arith, before .0))))
+          ∙ ap (λ i. getD block′ i 0 % p) place
+
+      pub step-ends : Ends p block′ 0 1088 (k - 1)
+      step-ends = record {
+        within = omega (arith, S .ends .within);
+        last = λ h. subst (λ x. 0 < x) (step-next ∙ ap (λ i. getD block′ i 0 % p) (sym (zero-add (k - 1 - 1)))) some;
+        behind = step-behind;
+      }

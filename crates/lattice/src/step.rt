@@ -3,7 +3,11 @@ use residue::modulus::Modulus;
 use vector::Leading;
 use vector::add_scaled;
 use vector::find_leading;
+ghost use mathlib.Core.Path.{_≡_};
+ghost use Prim.Native.Nat.{_+_, _-_, _*_, _%_, _<_, _≤_};
+ghost use lib.ListN.{length};
 ghost use Rattle.residue.specs.Modulus.{ValidModulus};
+ghost use Rattle.vector.specs.Multiple.{sumAt};
 ghost use Rattle.lattice.specs.Memory.{level, Sums};
 ghost use Rattle.lattice.specs.Step.{HasStep, TakesMultiple};
 
@@ -12,6 +16,19 @@ pub struct Remains {
     pub size: usize,
     pub leading: u64,
     pub factor: u64,
+}
+
+// What a step leaves at its last place but one, modulo p; 0 where it has no such place.
+pub fn word_before(h: &[u64], d: usize, s: &[u64], a: usize, n: usize, c: u64, modulus: Modulus) -> u64
+    requires { ⌜ ValidModulus modulus × (d + n ≤ length (now h)) × (a + n ≤ length (now s)) ⌝ }
+    requires sum { ⌜ sumAt (now h) d (now s) a c (n - 2) < 4294967296 * modulus .p ⌝ }
+    ensures { λ r. ⌜ (0 < r → (2 ≤ n) × (r ≡ sumAt (now (h .entry)) d (now (s .entry)) a c (n - 2) % modulus .p)) ⌝ }
+{
+    if n < 2 {
+        return 0;
+    }
+    let j = n - 2;
+    modulus.reduce(h[d + j] + c * s[a + j])
 }
 
 // Takes the multiple of the slot at the pivot off the block that takes its leading word away.
@@ -36,8 +53,18 @@ pub fn take_multiple(
     let minus = modulus.p - factor;
     // all words of the slot's degrees: those behind its size are 0, and the loop has none left over from its vectors
     let words = (size + 7) / 8 * 8;
+    // in most cases the next leading word: with it before the loop, the processor works out the next factor during the loop
+    let next = word_before(block, k - size, slots, 256 * q, size, minus, modulus);
     add_scaled(block, k - size, slots, 256 * q, words, minus);
-    let left = find_leading(block, k - 1, modulus);
+    let rest = k - 1;
+    if next != 0 {
+        return Remains {
+            size: rest,
+            leading: next,
+            factor,
+        };
+    }
+    let left = find_leading(block, rest, modulus);
     Remains {
         size: left.size,
         leading: left.value,

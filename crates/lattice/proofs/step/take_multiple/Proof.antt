@@ -41,12 +41,28 @@ sub-minus c =
     omega (arith, Stepping.step-factor _ (S .pre .0 .prime) (S .pre .1 .0) _ (A .mul .ensures))
 
 add-words : tie.Need-add-words
-add-words c =
-    let S = c .before .before .before .before .before .before .before .before in
-    omega (arith, S .pre .1 .0 .level .slot (row (S .args .found .size)) (omega arith) .block .within)
+add-words c = search needs
 
 mul-words : tie.Need-mul-words
 mul-words c = search needs
+
+sub-word-before : tie.Need-sub-word-before
+sub-word-before c = search needs
+
+mul-word-before : tie.Need-mul-word-before
+mul-word-before c = search needs
+
+word-before-requires : tie.Need-word-before-requires
+word-before-requires c κs =
+    let A = c .before .before in
+    let S = A .before .before .before .before .before .before .before in
+    let m : ValidModulus (S .args .modulus) = S .pre .0 in
+    let step = S .pre .1 .0 in
+    let by = A .mul .ensures in
+    let within = step .level .slot (row (S .args .found .size)) (omega arith) .block .within in (
+      (m, omega (arith, step .fits, step .ends .within, step .room), omega (arith, within, step .level .room)),
+      Stepping.step-reduces _ (m .prime) step _ by (S .pre .1 .1) (m .limit) _,
+    )
 
 sub-add-scaled : tie.Need-sub-add-scaled
 sub-add-scaled c = search needs
@@ -56,7 +72,7 @@ mul-add-scaled c = search needs
 
 add-scaled-requires : tie.Need-add-scaled-requires
 add-scaled-requires c κs =
-    let A = c .before .before in
+    let A = c .before .before .before .before in
     let S = A .before .before .before .before .before .before .before in
     let m : ValidModulus (S .args .modulus) = S .pre .0 in
     let limit : S .args .modulus .p ≤ 65521 = m .limit in
@@ -69,13 +85,35 @@ add-scaled-requires c κs =
       ),
     )
 
-sub-find-leading : tie.Need-sub-find-leading
-sub-find-leading c = search needs
+sub-rest : tie.Need-sub-rest
+sub-rest c = search needs
+
+same-length : tie.Need-same-length
+same-length c = search needs
+
+returns : tie.Need-returns
+returns c =
+    let B = c .before .before .before in
+    let N = B .before .before in
+    let A = N .before .before .before in
+    let S = A .before .before .before .before .before .before .before in
+    let m : ValidModulus (S .args .modulus) = S .pre .0 in
+    let step = S .pre .1 .0 in
+    let by = A .mul .ensures in
+    let words = B .add-scaled .ensures .0 in
+    let some : 0 < N .word-before .result = omega arith in
+    let before = N .word-before .ensures some in record {
+      factor = by;
+      words = words;
+      ends = Stepping.step-ends _ (m .prime) step _ by _ words _ some before;
+      leading = λ h. Stepping.step-next _ (m .prime) step _ by _ words _ some before;
+      fewer = omega (arith, step .some);
+    }
 
 find-leading-requires : tie.Need-find-leading-requires
 find-leading-requires c κs =
-    let B = c .before .before .before in
-    let A = B .before .before .before in
+    let B = c .before .before .before .before in
+    let A = B .before .before .before .before .before in
     let S = A .before .before .before .before .before .before .before in
     let m : ValidModulus (S .args .modulus) = S .pre .0 in
     let step = S .pre .1 .0 in
@@ -86,13 +124,13 @@ find-leading-requires c κs =
       λ j lt. Stepping.step-reducible _ (m .prime) step _ by _ words (S .pre .1 .1) (m .limit) j,
     )
 
-same-length : tie.Need-same-length
-same-length c = search needs
+same-length-2 : tie.Need-same-length-2
+same-length-2 c = search needs
 
-returns : tie.Need-returns
-returns c =
-    let B = c .before .before .before .before in
-    let A = B .before .before .before in
+returns-2 : tie.Need-returns-2
+returns-2 c =
+    let B = c .before .before .before .before .before in
+    let A = B .before .before .before .before .before in
     let S = A .before .before .before .before .before .before .before in
     let m : ValidModulus (S .args .modulus) = S .pre .0 in
     let positive : 0 < S .args .modulus .p = omega (arith, m .prime .large) in
@@ -124,10 +162,15 @@ take-multiple-spec =
     sub-minus
     add-words
     mul-words
+    sub-word-before
+    mul-word-before
+    word-before-requires
     sub-add-scaled
     mul-add-scaled
     add-scaled-requires
-    sub-find-leading
-    find-leading-requires
+    sub-rest
     same-length
-    returns)
+    returns
+    find-leading-requires
+    same-length-2
+    returns-2)
