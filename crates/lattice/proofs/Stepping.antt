@@ -19,9 +19,9 @@ use Rattle.vector.specs.Stored.{stored, length-stored, stored-inside, below-or-
 use Rattle.vector.specs.Multiple.{sumAt}
 use Rattle.lattice.specs.Word.{residue, residue-mod, residue-mul, residue-inverse, zero-residue}
 use Rattle.lattice.specs.Word.{words, words-inside, words-first}
-use Rattle.lattice.specs.Memory.{row, height, ZeroFrom, Ends, Level, slotSize, Sums, ValidSlot}
+use Rattle.lattice.specs.Memory.{row, height, ZeroFrom, Level, slotSize, Sums, ValidSlot}
 use Rattle.lattice.specs.Sums.{sums-room, sums-step}
-use Rattle.lattice.specs.Step.{factorOf, HasStep}
+use Rattle.lattice.specs.Step.{factorOf, HasStep, Rest, Left}
 use Rattle.lattice.specs.Range.{zero-word, words-upper, words-lower, zero-kept}
 
 -- h less h/u times u
@@ -42,6 +42,18 @@ slot-inverse-below {p} {L} {block} {k} prime S =
 pub place-inside : {p : ℕ} {L : Level} {block : List ℕ} {k value : ℕ} → HasStep p L block k value
     → k - slotSize L (row k) + (7 - row k) < 1088
 place-inside {k = k} S = omega (arith, S .level .slot (row k) (omega arith) .pivot (S .filled), S .ends .within, S .filled, S .fits)
+
+-- where the last word is known
+pub early-left : {p : ℕ} {block : List ℕ} {n value : ℕ} → Rest p block n value → 0 < value → Left p block n n value
+early-left {p} {block} {n} R some = record {
+  ends = record {
+    within = R .within;
+    last = λ h. subst (λ x. 0 < x) (R .early some .1 ∙ ap (λ i. getD block i 0 % p) (sym (zero-add (n - 1)))) some;
+    behind = R .behind;
+  };
+  leading = λ h. R .early some .1;
+  within = omega arith;
+}
 
 -- a times the slot is taken off, `shift` degrees up
 module _ (p : ℕ) (prime : Prime p) {L : Level} {block : List ℕ} {k value : ℕ} (S : HasStep p L block k value) (a : ℕ)
@@ -192,7 +204,7 @@ module _ (p : ℕ) (prime : Prime p) {L : Level} {block : List ℕ} {k value : �
         (below-or-not j k)
 
     -- the word before the leading one, where it is not 0 modulo p: it is the next that leads
-    module _ (next : ℕ) (some : 0 < next)
+    module _ (next : ℕ)
         (before : (2 ≤ slotSize L (row k))
         × (next ≡ sumAt block (k - slotSize L (row k)) (L .slots) (256 * row k) (p - a) (slotSize L (row k) - 2) % p)) where
       pub step-next : next ≡ getD block′ (k - 1 - 1) 0 % p
@@ -202,10 +214,3 @@ module _ (p : ℕ) (prime : Prime p) {L : Level} {block : List ℕ} {k value : �
           ∙ ap (λ w. w % p) (sym (ap (λ w. getD w (d + (slotSize L (row k) - 2)) 0) stores
           ∙ stored-inside _ block d taken (slotSize L (row k) - 2) step-room (omega (arith, before .0))))
           ∙ ap (λ i. getD block′ i 0 % p) place
-
-      pub step-ends : Ends p block′ 0 1088 (k - 1)
-      step-ends = record {
-        within = omega (arith, S .ends .within);
-        last = λ h. subst (λ x. 0 < x) (step-next ∙ ap (λ i. getD block′ i 0 % p) (sym (zero-add (k - 1 - 1)))) some;
-        behind = step-behind;
-      }

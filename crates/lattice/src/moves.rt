@@ -1,5 +1,6 @@
 // The moves of an insertion: a multiple of the slot at the pivot is taken off the hand, and the hand and that slot change places.
 use crate::hand::Hand;
+use crate::step::find_rest;
 use crate::step::take_multiple;
 use residue::modulus::Modulus;
 use vector::Leading;
@@ -52,13 +53,14 @@ pub fn take_from_hand(
         value: hand.leading,
     };
     let left = take_multiple(slots, sizes, inverses, block, found, modulus);
+    let rest = find_rest(block, left.size, left.leading, modulus);
     let minus = modulus.p - left.factor;
     // as many words as `take_multiple` would take, where there is room for them
     let words = smaller((size + 7) / 8 * 8, 256 - shift);
     add_scaled(tail, shift, slots, 256 * q + 128, words, minus);
     Hand {
-        size: left.size,
-        leading: left.leading,
+        size: rest.size,
+        leading: rest.value,
         tail: larger(hand.tail, shift + size),
     }
 }

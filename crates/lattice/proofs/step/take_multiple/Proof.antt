@@ -1,10 +1,10 @@
 -- The words are those of `add_scaled`, and what is left is found by `find_leading`.
 use Prim.Native.Nat.{ℕ, _+_, _-_, _*_, _≤_, _<_}
+use mathlib.Core.Path.{refl}
 use native.Mathlib.Omega.{arith}
 use borrow.Author.Needs.{needs}
 use Rattle.residue.specs.Modulus.{ValidModulus}
 use Rattle.lattice.specs.Memory.{row}
-use Rattle.lattice.specs.Found.{found-ends, found-leading, found-within}
 use Rattle.lattice.proofs.Stepping
 use Rattle.lattice.proofs.step.take_multiple.Statement.{statement}
 use Rattle.lattice.proofs.step.take_multiple.Tie as tie
@@ -93,59 +93,27 @@ same-length c = search needs
 
 returns : tie.Need-returns
 returns c =
-    let B = c .before .before .before in
+    let B = c .before .before in
     let N = B .before .before in
     let A = N .before .before .before in
     let S = A .before .before .before .before .before .before .before in
     let m : ValidModulus (S .args .modulus) = S .pre .0 in
     let step = S .pre .1 .0 in
     let by = A .mul .ensures in
-    let words = B .add-scaled .ensures .0 in
-    let some : 0 < N .word-before .result = omega arith in
-    let before = N .word-before .ensures some in record {
+    let words = B .add-scaled .ensures .0 in record {
       factor = by;
       words = words;
-      ends = Stepping.step-ends _ (m .prime) step _ by _ words _ some before;
-      leading = λ h. Stepping.step-next _ (m .prime) step _ by _ words _ some before;
-      fewer = omega (arith, step .some);
-    }
-
-find-leading-requires : tie.Need-find-leading-requires
-find-leading-requires c κs =
-    let B = c .before .before .before .before in
-    let A = B .before .before .before .before .before in
-    let S = A .before .before .before .before .before .before .before in
-    let m : ValidModulus (S .args .modulus) = S .pre .0 in
-    let step = S .pre .1 .0 in
-    let by = A .mul .ensures in
-    let words = B .add-scaled .ensures .0 in
-    let same = Stepping.step-length _ (m .prime) step _ by _ words in (
-      (m, omega (arith, step .ends .within, step .room, same)),
-      λ j lt. Stepping.step-reducible _ (m .prime) step _ by _ words (S .pre .1 .1) (m .limit) j,
-    )
-
-same-length-2 : tie.Need-same-length-2
-same-length-2 c = search needs
-
-returns-2 : tie.Need-returns-2
-returns-2 c =
-    let B = c .before .before .before .before .before in
-    let A = B .before .before .before .before .before in
-    let S = A .before .before .before .before .before .before .before in
-    let m : ValidModulus (S .args .modulus) = S .pre .0 in
-    let positive : 0 < S .args .modulus .p = omega (arith, m .prime .large) in
-    let step = S .pre .1 .0 in
-    let k : ℕ = S .args .found .size in
-    let by = A .mul .ensures in
-    let words = B .add-scaled .ensures .0 in
-    let found = c .find-leading .ensures in
-    let behind = Stepping.step-behind _ (m .prime) step _ by _ words in
-    let within : k - 1 ≤ 1088 = omega (arith, step .ends .within) in record {
-      factor = by;
-      words = words;
-      ends = found-ends _ positive _ 1088 (k - 1) within behind _ (found .0);
-      leading = found-leading _ positive _ 1088 (k - 1) within behind _ (found .0) _ (found .1);
-      fewer = omega (arith, step .some, found-within _ positive _ 1088 (k - 1) within behind _ (found .0));
+      size = refl;
+      rest = record {
+        room = omega (arith, step .room, Stepping.step-length _ (m .prime) step _ by _ words);
+        within = omega (arith, step .ends .within);
+        behind = Stepping.step-behind _ (m .prime) step _ by _ words;
+        reducible = Stepping.step-reducible _ (m .prime) step _ by _ words (S .pre .1 .1) (m .limit);
+        early = λ some. let before = N .word-before .ensures some in (
+          omega (arith, before .0, step .fits),
+          Stepping.step-next _ (m .prime) step _ by _ words _ before,
+        );
+      };
     }
 
 pub take-multiple-spec : {M : Type 1} → statement M
@@ -170,7 +138,4 @@ take-multiple-spec =
     add-scaled-requires
     sub-rest
     same-length
-    returns
-    find-leading-requires
-    same-length-2
-    returns-2)
+    returns)
