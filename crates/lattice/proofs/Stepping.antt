@@ -2,9 +2,9 @@
 -- the same step.
 use Prim.Native.Nat.{ℕ, _+_, _-_, _*_, _/_, _%_, _<_, _≤_}
 use mathlib.Core.Path.{_≡_, refl, sym, _∙_, ap, ap₂, subst}
-use mathlib.Core.Logic.{inr, ⊎-elim}
+use mathlib.Core.Logic.{⊎-elim}
 use mathlib.Core.List.{List, [], _∷_}
-use native.Mathlib.Nat.{mod-lt, mul-le-mul}
+use native.Mathlib.Nat.{mod-lt, mul-le-mul, zero-add}
 use native.Mathlib.Omega.{arith}
 use lib.ListN.{length, getD}
 use Rattle.ring.specs.Ring.{Ring}
@@ -15,14 +15,14 @@ use Rattle.modular.specs.Prime.{Prime}
 use Rattle.modular.specs.Modulo.{modulo}
 use Rattle.modular.specs.Residue.{Residue, residues}
 use Rattle.residue.specs.Below.{mul-below, inverse-below}
-use Rattle.vector.specs.Stored.{stored, length-stored, stored-outside, below-or-not}
+use Rattle.vector.specs.Stored.{stored, length-stored, stored-inside, below-or-not}
 use Rattle.vector.specs.Multiple.{sumAt}
 use Rattle.lattice.specs.Word.{residue, residue-mod, residue-mul, residue-inverse, zero-residue}
 use Rattle.lattice.specs.Word.{words, words-inside, words-first}
-use Rattle.lattice.specs.Memory.{row, ZeroFrom, Level, slotSize, Sums, ValidSlot}
+use Rattle.lattice.specs.Memory.{row, height, ZeroFrom, Level, slotSize, Sums, ValidSlot}
 use Rattle.lattice.specs.Sums.{sums-room, sums-step}
-use Rattle.lattice.specs.Step.{factorOf, HasStep}
-use Rattle.lattice.specs.Range.{zero-word, words-upper, words-lower}
+use Rattle.lattice.specs.Step.{factorOf, HasStep, Rest, Left}
+use Rattle.lattice.specs.Range.{zero-word, words-upper, words-lower, zero-kept}
 
 -- h less h/u times u
 cancelled : {K : Type 0} (R : Ring K) (h u i : K) → R .mul u i ≡ R .one → R .add h (R .neg (R .mul (R .mul h i) u)) ≡ R .zero
@@ -43,6 +43,18 @@ pub place-inside : {p : ℕ} {L : Level} {block : List ℕ} {k value : ℕ} → 
     → k - slotSize L (row k) + (7 - row k) < 1088
 place-inside {k = k} S = omega (arith, S .level .slot (row k) (omega arith) .pivot (S .filled), S .ends .within, S .filled, S .fits)
 
+-- where the last word is known
+pub early-left : {p : ℕ} {block : List ℕ} {n value : ℕ} → Rest p block n value → 0 < value → Left p block n n value
+early-left {p} {block} {n} R some = record {
+  ends = record {
+    within = R .within;
+    last = λ h. subst (λ x. 0 < x) (R .early some .1 ∙ ap (λ i. getD block i 0 % p) (sym (zero-add (n - 1)))) some;
+    behind = R .behind;
+  };
+  leading = λ h. R .early some .1;
+  within = omega arith;
+}
+
 -- a times the slot is taken off, `shift` degrees up
 module _ (p : ℕ) (prime : Prime p) {L : Level} {block : List ℕ} {k value : ℕ} (S : HasStep p L block k value) (a : ℕ)
     (by : a ≡ factorOf p L k value) where
@@ -54,6 +66,10 @@ module _ (p : ℕ) (prime : Prime p) {L : Level} {block : List ℕ} {k value : �
 
   abbrev pub shift : ℕ
   shift = (k - slotSize L (row k)) / 8
+
+  -- the words of the slot's degrees
+  abbrev pub taken : ℕ
+  taken = height (slotSize L (row k)) * 8
 
   slot : ValidSlot p L (row k)
   slot = S .level .slot (row k) (omega arith)
@@ -72,8 +88,17 @@ module _ (p : ℕ) (prime : Prime p) {L : Level} {block : List ℕ} {k value : �
   step-product i = mul-le-mul {n₁ = p - a} {m₁ = getD (L .slots) i 0} {n₂ = p} {m₂ = p} (omega arith) (omega (arith, step-word i))
 
   -- the places of the step are there, and the sums fit
-  pub step-room : k - slotSize L (row k) + slotSize L (row k) ≤ length block
-  step-room = omega (arith, S .room, S .fits, S .ends .within)
+  step-inside : k - slotSize L (row k) + taken ≤ 1088
+  step-inside = omega (arith, step-shift, S .fits, S .ends .within)
+
+  pub step-room : k - slotSize L (row k) + height (slotSize L (row k)) * 8 ≤ length block
+  step-room = omega (arith, S .room, step-inside)
+
+  step-fits : taken ≤ 128
+  step-fits = omega (arith, slot .block .within)
+
+  step-none : ZeroFrom p (L .slots) (256 * row k) 128 taken
+  step-none j h lt = slot .block .behind j (omega arith) lt
 
   pub step-sum : Sums p 1 block → p ≤ 65521 → (j : ℕ)
       → sumAt block (k - slotSize L (row k)) (L .slots) (256 * row k) (p - a) j < 18446744073709551616
@@ -81,12 +106,18 @@ module _ (p : ℕ) (prime : Prime p) {L : Level} {block : List ℕ} {k value : �
       let positive : 0 < p = omega (arith, prime .large) in
       omega (arith, sums-room p block 1 positive limit sums (k - slotSize L (row k) + j), step-product (256 * row k + j))
 
-  pub step-slot-room : 256 * row k + slotSize L (row k) ≤ length (L .slots)
-  step-slot-room = omega (arith, S .level .room, slot .block .within)
+  pub step-reduces : Sums p 1 block → p ≤ 65521 → (j : ℕ)
+      → sumAt block (k - slotSize L (row k)) (L .slots) (256 * row k) (p - a) j < 4294967296 * p
+  step-reduces sums limit j =
+      let positive : 0 < p = omega (arith, prime .large) in
+      omega (arith, sums-room p block 1 positive limit sums (k - slotSize L (row k) + j), step-product (256 * row k + j))
+
+  pub step-slot-room : 256 * row k + height (slotSize L (row k)) * 8 ≤ length (L .slots)
+  step-slot-room = omega (arith, S .level .room, step-fits)
 
   module _ (block′ : List ℕ)
       (stores : block′ ≡ stored (sumAt block (k - slotSize L (row k)) (L .slots) (256 * row k) (p - a)) block
-      (k - slotSize L (row k)) (slotSize L (row k))) where
+      (k - slotSize L (row k)) (height (slotSize L (row k)) * 8)) where
     abbrev d : ℕ
     d = k - slotSize L (row k)
 
@@ -94,7 +125,7 @@ module _ (p : ℕ) (prime : Prime p) {L : Level} {block : List ℕ} {k value : �
     c = p - a
 
     pub step-sums : (n : ℕ) → 0 < n → n ≤ 62112 → Sums p n block → Sums p (n - 1) block′
-    step-sums = sums-step p block block′ d (L .slots) (256 * row k) size c stores step-product
+    step-sums = sums-step p block block′ d (L .slots) (256 * row k) taken c stores step-product
 
     pub step-reducible : Sums p 1 block → p ≤ 65521 → (j : ℕ) → getD block′ j 0 < 4294967296 * p
     step-reducible sums limit j =
@@ -102,18 +133,18 @@ module _ (p : ℕ) (prime : Prime p) {L : Level} {block : List ℕ} {k value : �
         omega (arith, sums-room p block′ 0 positive limit (step-sums 1 (omega arith) (omega arith) sums) j)
 
     pub step-length : length block′ ≡ length block
-    step-length = ap length stores ∙ length-stored _ block d size
+    step-length = ap length stores ∙ length-stored _ block d taken
 
     upper : (x : ℕ) → words p prime block′ 0 1088 (d + x)
         ≡ residues p prime .ring .add (words p prime block 0 1088 (d + x))
         (residues p prime .ring .neg (residues p prime .ring .mul (residue p prime a)
         (words p prime (L .slots) (256 * row k) 128 x)))
-    upper = words-upper p prime block block′ (L .slots) d (256 * row k) size 128 1088 a stores step-factor
-        (omega (arith, S .fits, S .ends .within)) (S .room) (slot .block .behind) (slot .block .within)
+    upper = words-upper p prime block block′ (L .slots) d (256 * row k) taken 128 1088 a stores step-factor
+        step-inside (S .room) step-none step-fits
 
     lower : (x : ℕ) → x < d → words p prime block′ 0 1088 x ≡ words p prime block 0 1088 x
-    lower = words-lower p prime block block′ (L .slots) d (256 * row k) size 128 1088 a stores step-factor
-        (omega (arith, S .fits, S .ends .within)) (S .room) (slot .block .behind) (slot .block .within)
+    lower = words-lower p prime block block′ (L .slots) d (256 * row k) taken 128 1088 a stores step-factor
+        step-inside (S .room) step-none step-fits
 
     -- as `flat-step` of `reduction` takes it
     pub step-upper : (x : ℕ) → words p prime block′ 0 1088 (shift * 8 + x)
@@ -168,7 +199,18 @@ module _ (p : ℕ) (prime : Prime p) {L : Level} {block : List ℕ} {k value : �
         let here : j ≡ k - 1 = omega (arith, S .some) in
         zero-word p prime block′ 0 1088 j lt (ap (words p prime block′ 0 1088) here ∙ leading-gone))
         (λ more.
-        ap (λ w. getD w (0 + j) 0 % p) stores
-        ∙ ap (λ w. w % p) (stored-outside _ block d size (0 + j) (inr (omega (arith, S .fits))))
-        ∙ S .ends .behind j more lt)
+        zero-kept p prime block block′ (L .slots) d (256 * row k) taken 128 1088 a stores step-factor step-inside (S .room)
+        step-none step-fits size k (slot .block .behind) (omega (arith, S .fits)) (S .ends .behind) j more lt)
         (below-or-not j k)
+
+    -- the word before the leading one, where it is not 0 modulo p: it is the next that leads
+    module _ (next : ℕ)
+        (before : (2 ≤ slotSize L (row k))
+        × (next ≡ sumAt block (k - slotSize L (row k)) (L .slots) (256 * row k) (p - a) (slotSize L (row k) - 2) % p)) where
+      pub step-next : next ≡ getD block′ (k - 1 - 1) 0 % p
+      step-next =
+          let place : d + (slotSize L (row k) - 2) ≡ k - 1 - 1 = omega (arith, before .0, S .fits) in
+          before .1
+          ∙ ap (λ w. w % p) (sym (ap (λ w. getD w (d + (slotSize L (row k) - 2)) 0) stores
+          ∙ stored-inside _ block d taken (slotSize L (row k) - 2) step-room (omega (arith, before .0))))
+          ∙ ap (λ i. getD block′ i 0 % p) place

@@ -1,16 +1,15 @@
 -- A step of an insertion: the multiple of the slot at the pivot is taken off the hand, block and tail. It is a `Step` of
 -- `reduction`.
-use Prim.Native.Nat.{ℕ, _+_, _-_, _*_, _/_, _%_, _<_, _≤_, max}
-use mathlib.Core.Path.{_≡_, refl, _∙_, ap}
-use mathlib.Core.Logic.{inr}
+use Prim.Native.Nat.{ℕ, _+_, _-_, _*_, _/_, _%_, _<_, _≤_, max, min}
+use mathlib.Core.Path.{_≡_, refl, ap}
 use mathlib.Core.List.{List}
 use native.Mathlib.Omega.{arith}
-use lib.ListN.{length, getD}
+use lib.ListN.{length}
 use Rattle.algebra.specs.Polynomial.{Polynomial, polynomials}
 use Rattle.algebra.specs.Size.{sized}
 use Rattle.modular.specs.Prime.{Prime}
 use Rattle.modular.specs.Residue.{Residue, residues}
-use Rattle.vector.specs.Stored.{stored, length-stored, stored-outside}
+use Rattle.vector.specs.Stored.{stored, length-stored}
 use Rattle.vector.specs.Multiple.{sumAt}
 use Rattle.reduction.specs.Total.{total-le, total-constant}
 use Rattle.reduction.specs.Pivot.{Pivot}
@@ -23,7 +22,7 @@ use Rattle.lattice.specs.Word.{residue, words}
 use Rattle.lattice.specs.Memory.{row, height, ZeroFrom, Level, slotSize, tailSize, ValidSlot}
 use Rattle.lattice.specs.Memory.{Memory, memory, places, Valid}
 use Rattle.lattice.specs.Holding.{HoldsState, Reached}
-use Rattle.lattice.specs.Range.{words-upper, words-lower}
+use Rattle.lattice.specs.Range.{words-upper, words-lower, zero-kept}
 use Rattle.lattice.specs.Sums.{sums-room, sums-fewer, sums-step}
 use Rattle.lattice.specs.Reading.{holds-pivot}
 use Rattle.lattice.specs.Step.{HasStep, TakesMultiple}
@@ -93,20 +92,30 @@ module _ {p : ℕ} (prime₀ : Prime p) {M : Memory} (valid : Valid p M) (fits :
         Stepping.step-product p prime₀ S (r .factor) (T .factor) (256 * q + 128 + j),
       )
 
-  pub taking-slot-room : 256 * q + 128 + size ≤ length (L .slots)
-  taking-slot-room = omega (arith, valid .level .room, slot .tail-within)
+  -- words that `add_scaled` takes of the slot's tail
+  module _ (words : ℕ) (smaller : words ≡ min (height size * 8) (256 - shift)) where
+    pub taking-fits : words ≤ 128
+    taking-fits = omega (arith, slot .tail-within)
 
-  module _ (tail′ : List ℕ)
-      (stores : tail′ ≡ stored (sumAt (M .tail) shift (L .slots) (256 * q + 128) (p - r .factor)) (M .tail) shift size)
+    pub taking-room : shift + words ≤ 256
+    taking-room = omega (arith, taking-inside)
+
+    pub taking-slot-room : 256 * q + 128 + words ≤ length (L .slots)
+    taking-slot-room = omega (arith, valid .level .room, taking-fits)
+
+    taking-none : ZeroFrom p (L .slots) (256 * q + 128) 128 words
+    taking-none j h lt = slot .tail j (omega (arith, taking-inside)) lt
+
+  module _ (taken : ℕ) (smaller : taken ≡ min (height size * 8) (256 - shift)) (tail′ : List ℕ)
+      (stores : tail′ ≡ stored (sumAt (M .tail) shift (L .slots) (256 * q + 128) (p - r .factor)) (M .tail) shift taken)
       (t : ℕ) (larger : t ≡ max (M .hand .tail) (shift + size)) where
     abbrev M′ : Memory
     M′ = memory (M .level) block′ tail′ (record { size = r .size; leading = r .leading; tail = t })
 
     behind : ZeroFrom p tail′ 0 256 t
-    behind j h lt =
-        ap (λ w. getD w (0 + j) 0 % p) stores
-        ∙ ap (λ w. w % p) (stored-outside _ (M .tail) shift size (0 + j) (inr (omega arith)))
-        ∙ valid .hand .tail j (omega arith) lt
+    behind = zero-kept p prime₀ (M .tail) tail′ (L .slots) shift (256 * q + 128) taken 128 256 (r .factor) stores factor-below
+        (taking-room taken smaller) (valid .hand .tail-room) (taking-none taken smaller) (taking-fits taken smaller)
+        size t (slot .tail) (omega arith) (λ j h lt. valid .hand .tail j (omega arith) lt)
 
     taken-valid : Valid p M′
     taken-valid = record {
@@ -118,7 +127,7 @@ module _ {p : ℕ} (prime₀ : Prime p) {M : Memory} (valid : Valid p M) (fits :
           valid .hand .tail-room,
           ap length stores,
           length-stored
-              (sumAt (M .tail) shift (L .slots) (256 * q + 128) (p - r .factor)) (M .tail) shift size,
+              (sumAt (M .tail) shift (L .slots) (256 * q + 128) (p - r .factor)) (M .tail) shift taken,
         );
         block = T .ends;
         leading = T .leading;
@@ -128,7 +137,7 @@ module _ {p : ℕ} (prime₀ : Prime p) {M : Memory} (valid : Valid p M) (fits :
             (Stepping.step-sums p prime₀ S (r .factor) (T .factor) block′ (T .words) (places M) (omega (arith, fits .some))
             (omega (arith, places-most valid)) (valid .hand .sums));
         tail-sums = sums-fewer p tail′ (places M - 1) (places M′) (omega (arith, T .fewer))
-            (sums-step p (M .tail) tail′ shift (L .slots) (256 * q + 128) size (p - r .factor) stores
+            (sums-step p (M .tail) tail′ shift (L .slots) (256 * q + 128) taken (p - r .factor) stores
             (Stepping.step-product p prime₀ S (r .factor) (T .factor)) (places M) (omega (arith, fits .some))
             (omega (arith, places-most valid)) (valid .hand .tail-sums));
       };
@@ -179,10 +188,12 @@ module _ {p : ℕ} (prime₀ : Prime p) {M : Memory} (valid : Valid p M) (fits :
               (holds .slots .vector (row (M .hand .size)) (P .inside) filled)
               (Stepping.step-upper p prime S (r .factor) (T .factor) block′ (T .words))
               (Stepping.step-lower p prime S (r .factor) (T .factor) block′ (T .words))
-              (words-upper p prime (M .tail) tail′ (L .slots) shift (256 * q + 128) size 128 256 (r .factor) stores factor-below
-              taking-inside (valid .hand .tail-room) (slot .tail) (omega (arith, slot .tail-within)))
-              (words-lower p prime (M .tail) tail′ (L .slots) shift (256 * q + 128) size 128 256 (r .factor) stores factor-below
-              taking-inside (valid .hand .tail-room) (slot .tail) (omega (arith, slot .tail-within)));
+              (words-upper p prime (M .tail) tail′ (L .slots) shift (256 * q + 128) taken 128 256 (r .factor) stores
+              factor-below (taking-room taken smaller) (valid .hand .tail-room) (taking-none taken smaller)
+              (taking-fits taken smaller))
+              (words-lower p prime (M .tail) tail′ (L .slots) shift (256 * q + 128) taken 128 256 (r .factor) stores
+              factor-below (taking-room taken smaller) (valid .hand .tail-room) (taking-none taken smaller)
+              (taking-fits taken smaller));
           size = refl;
         };
         trace = step start made;

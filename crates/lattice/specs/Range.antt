@@ -1,6 +1,6 @@
 -- What the loops of `vector` do to a range of words, said of the residues that stand there.
 use Prim.Native.Nat.{ℕ, _+_, _-_, _%_, _<_, _≤_}
-use mathlib.Core.Path.{_≡_, refl, sym, _∙_, ap, ap₂}
+use mathlib.Core.Path.{_≡_, refl, sym, _∙_, ap, ap₂, subst}
 use mathlib.Core.Logic.{_⊎_, inl, inr, ⊎-elim}
 use mathlib.Core.List.{List, [], _∷_}
 use native.Mathlib.Omega.{arith}
@@ -106,6 +106,17 @@ module _ (p : ℕ) (prime : Prime p) where
         ∙ identity (residues p prime .ring) (words p prime l 0 N (d + x) ∷ residue p prime a ∷ [])
         (λ ρ qh qa. search quotes depth 16) refl))
         (below-or-not x m)
+
+    -- words that are 0 modulo p stay so where the words of s are 0 too
+    pub zero-kept : (j k : ℕ) → ZeroFrom p s b n j → d + j ≤ k → ZeroFrom p l 0 N k → ZeroFrom p l′ 0 N k
+    zero-kept j k none from zero i h lt =
+        let place : d + (i - d) ≡ i = omega arith in
+        zero-word l′ 0 N i lt
+        (sym (ap (words p prime l′ 0 N) place)
+        ∙ words-upper (i - d)
+        ∙ ap₂ (λ y z. y ⊕ (⊝ (residue p prime a ⊗ z)))
+        (ap (words p prime l 0 N) place ∙ words-zero l 0 N k zero i h) (words-zero s b n j none (i - d) (omega arith))
+        ∙ identity (residues p prime .ring) (residue p prime a ∷ []) (λ ρ qa. search quotes depth 16) refl)
 
   -- `exchange`: m words of h and of s from b on change places, all behind being 0 modulo p
   module _ (h s : List ℕ) (b m n N : ℕ) (fits : m ≤ n) (wider : n ≤ N) (room : N ≤ length h) (slot-room : b + n ≤ length s)

@@ -1,14 +1,15 @@
 -- A step on the block in hand: when there is one, and what it leaves. The slot at the block's pivot is filled and no longer than
 -- the block; the multiple of it that takes the leading word away is taken off.
-use Prim.Native.Nat.{ℕ, _-_, _*_, _%_, _<_, _≤_}
+use Prim.Native.Nat.{ℕ, _-_, _*_, _/_, _%_, _<_, _≤_}
 use mathlib.Core.Path.{_≡_}
 use mathlib.Core.List.{List}
+use native.Mathlib.Omega.{arith}
 use lib.ListN.{length, getD}
 use Rattle.modular.specs.Modulo.{modulo}
 use Rattle.vector.specs.Stored.{stored}
 use Rattle.vector.specs.Multiple.{sumAt}
 use Rattle.lattice.specs.declared.step.Remains.{Remains}
-use Rattle.lattice.specs.Memory.{row, Ends, Level, slotSize, ValidLevel}
+use Rattle.lattice.specs.Memory.{row, height, ZeroFrom, Ends, Level, slotSize, ValidLevel}
 
 -- k is the size of the block, value its leading word modulo p
 pub record HasStep (p : ℕ) (L : Level) (block : List ℕ) (k value : ℕ) : Type 0 where
@@ -24,10 +25,43 @@ pub record HasStep (p : ℕ) (L : Level) (block : List ℕ) (k value : ℕ) : Ty
 abbrev pub factorOf : (p : ℕ) → Level → (k value : ℕ) → ℕ
 factorOf p L k value = modulo p .mul value (getD (L .inverses) (row k) 0)
 
+-- of the slot all words of its degrees are taken; those behind its size are 0
 pub record TakesMultiple (p : ℕ) (L : Level) (block : List ℕ) (k value : ℕ) (block′ : List ℕ) (r : Remains) : Type 0 where
   pub factor : r .factor ≡ factorOf p L k value
   pub words : block′ ≡ stored (sumAt block (k - slotSize L (row k)) (L .slots) (256 * row k) (p - r .factor)) block
-      (k - slotSize L (row k)) (slotSize L (row k))
+      (k - slotSize L (row k)) (height (slotSize L (row k)) * 8)
   pub ends : Ends p block′ 0 1088 (r .size)
   pub leading : 0 < r .size → r .leading ≡ getD block′ (r .size - 1) 0 % p
   pub fewer : r .size < k
+
+-- what is known of the block before its size is: nothing counts from n on, and value is the word before n where it is not 0
+pub record Rest (p : ℕ) (block : List ℕ) (n value : ℕ) : Type 0 where
+  pub room : 1088 ≤ length block
+  pub within : n ≤ 1088
+  pub behind : ZeroFrom p block 0 1088 n
+  pub reducible : (j : ℕ) → getD block j 0 < 4294967296 * p
+  pub early : 0 < value → (0 < n) × (value ≡ getD block (n - 1) 0 % p)
+
+pub record Left (p : ℕ) (block : List ℕ) (n size value : ℕ) : Type 0 where
+  pub ends : Ends p block 0 1088 size
+  pub leading : 0 < size → value ≡ getD block (size - 1) 0 % p
+  pub within : size ≤ n
+
+-- a step before its rest is found
+pub record Takes (p : ℕ) (L : Level) (block : List ℕ) (k value : ℕ) (block′ : List ℕ) (r : Remains) : Type 0 where
+  pub factor : r .factor ≡ factorOf p L k value
+  pub words : block′ ≡ stored (sumAt block (k - slotSize L (row k)) (L .slots) (256 * row k) (p - r .factor)) block
+      (k - slotSize L (row k)) (height (slotSize L (row k)) * 8)
+  pub size : r .size ≡ k - 1
+  pub rest : Rest p block′ (r .size) (r .leading)
+
+pub takes-left : {p : ℕ} {L : Level} {block : List ℕ} {k value : ℕ} {block′ : List ℕ} {r : Remains} {size leading : ℕ} → 0 < k
+    → Takes p L block k value block′ r → Left p block′ (r .size) size leading
+    → TakesMultiple p L block k value block′ (record { size = size; leading = leading; factor = r .factor })
+takes-left some T left = record {
+  factor = T .factor;
+  words = T .words;
+  ends = left .ends;
+  leading = left .leading;
+  fewer = omega (arith, T .size, left .within);
+}

@@ -1,7 +1,7 @@
 // A vector divided by the slots of a level.
+use crate::step::find_rest;
 use crate::step::take_multiple;
 use residue::modulus::Modulus;
-use vector::Leading;
 use vector::find_leading;
 ghost use Prim.Native.Nat.{_≤_};
 ghost use lib.ListN.{length};
@@ -42,10 +42,7 @@ pub fn divide(
         let left = take_multiple(slots, sizes, inverses, block, found, modulus);
         let place = k - size + (7 - q);
         quotients[place] = modulus.add(quotients[place], left.factor);
-        found = Leading {
-            size: left.size,
-            value: left.leading,
-        };
+        found = find_rest(block, left.size, left.leading, modulus);
     }
     0
 }

@@ -1,5 +1,6 @@
 // The moves of an insertion: a multiple of the slot at the pivot is taken off the hand, and the hand and that slot change places.
 use crate::hand::Hand;
+use crate::step::find_rest;
 use crate::step::take_multiple;
 use residue::modulus::Modulus;
 use vector::Leading;
@@ -7,7 +8,7 @@ use vector::add_scaled;
 use vector::exchange;
 use vector::find_leading;
 ghost use mathlib.Core.Path.{_≡_};
-ghost use Prim.Native.Nat.{max};
+ghost use Prim.Native.Nat.{max, min};
 ghost use Rattle.residue.specs.Modulus.{ValidModulus};
 ghost use Rattle.lattice.specs.Memory.{level, memory, Valid};
 ghost use Rattle.lattice.specs.Moves.{Fits, HasRoom, Stepped, Swapped};
@@ -16,6 +17,12 @@ pub fn larger(a: usize, b: usize) -> usize
     ensures { λ r. ⌜ r ≡ max a b ⌝ }
 {
     if a < b { b } else { a }
+}
+
+pub fn smaller(a: usize, b: usize) -> usize
+    ensures { λ r. ⌜ r ≡ min a b ⌝ }
+{
+    if a < b { a } else { b }
 }
 
 // Takes the multiple of the slot at the pivot off the hand, block and tail, that takes its leading word away.
@@ -46,11 +53,14 @@ pub fn take_from_hand(
         value: hand.leading,
     };
     let left = take_multiple(slots, sizes, inverses, block, found, modulus);
+    let rest = find_rest(block, left.size, left.leading, modulus);
     let minus = modulus.p - left.factor;
-    add_scaled(tail, shift, slots, 256 * q + 128, size, minus);
+    // as many words as `take_multiple` would take, where there is room for them
+    let words = smaller((size + 7) / 8 * 8, 256 - shift);
+    add_scaled(tail, shift, slots, 256 * q + 128, words, minus);
     Hand {
-        size: left.size,
-        leading: left.leading,
+        size: rest.size,
+        leading: rest.value,
         tail: larger(hand.tail, shift + size),
     }
 }

@@ -3,15 +3,41 @@ use residue::modulus::Modulus;
 use vector::Leading;
 use vector::add_scaled;
 use vector::find_leading;
+ghost use mathlib.Core.Path.{_≡_};
+ghost use Prim.Native.Nat.{_+_, _-_, _*_, _%_, _<_, _≤_};
+ghost use lib.ListN.{length};
 ghost use Rattle.residue.specs.Modulus.{ValidModulus};
+ghost use Rattle.vector.specs.Multiple.{sumAt};
 ghost use Rattle.lattice.specs.Memory.{level, Sums};
-ghost use Rattle.lattice.specs.Step.{HasStep, TakesMultiple};
+ghost use Rattle.lattice.specs.Step.{HasStep, Takes, Rest, Left};
 
-// What a step leaves of the block, its size and its leading word modulo p, and the factor of the multiple.
+// What a step leaves of the block: a number of words behind which all are 0 modulo p, the last of them modulo p, or 0 where that
+// is not known, and the factor of the multiple.
 pub struct Remains {
     pub size: usize,
     pub leading: u64,
     pub factor: u64,
+}
+
+// What a step leaves at its last place but one, modulo p; 0 where it has no such place.
+pub fn word_before(
+    h: &[u64],
+    d: usize,
+    s: &[u64],
+    a: usize,
+    n: usize,
+    c: u64,
+    modulus: Modulus,
+) -> u64
+    requires { ⌜ ValidModulus modulus × (d + n ≤ length (now h)) × (a + n ≤ length (now s)) ⌝ }
+    requires sum { ⌜ sumAt (now h) d (now s) a c (n - 2) < 4294967296 * modulus .p ⌝ }
+    ensures { λ r. ⌜ (0 < r → (2 ≤ n) × (r ≡ sumAt (now (h .entry)) d (now (s .entry)) a c (n - 2) % modulus .p)) ⌝ }
+{
+    if n < 2 {
+        return 0;
+    }
+    let j = n - 2;
+    modulus.reduce(h[d + j] + c * s[a + j])
 }
 
 // Takes the multiple of the slot at the pivot off the block that takes its leading word away.
@@ -26,7 +52,7 @@ pub fn take_multiple(
     requires { ⌜ ValidModulus modulus ⌝ }
     requires step { ⌜ HasStep (modulus .p) (level (now slots) (now sizes) (now inverses)) (now block) (found .size) (found .value) ⌝ }
     requires sums { ⌜ Sums (modulus .p) 1 (now block) ⌝ }
-    ensures { λ r. ⌜ TakesMultiple (modulus .p) (level (now (slots .entry)) (now (sizes .entry)) (now (inverses .entry)))
+    ensures { λ r. ⌜ Takes (modulus .p) (level (now (slots .entry)) (now (sizes .entry)) (now (inverses .entry)))
         (now (block .entry)) (found .size) (found .value) (now (block .exit)) r ⌝ }
 {
     let k = found.size;
@@ -34,11 +60,27 @@ pub fn take_multiple(
     let size = sizes[q];
     let factor = modulus.mul(found.value, inverses[q]);
     let minus = modulus.p - factor;
-    add_scaled(block, k - size, slots, 256 * q, size, minus);
-    let left = find_leading(block, k - 1, modulus);
+    // all words of the slot's degrees: those behind its size are 0, and the loop has none left over from its vectors
+    let words = (size + 7) / 8 * 8;
+    // in most cases the next leading word: with it before the loop, the processor works out the next factor during the loop
+    let next = word_before(block, k - size, slots, 256 * q, size, minus, modulus);
+    add_scaled(block, k - size, slots, 256 * q, words, minus);
+    let rest = k - 1;
     Remains {
-        size: left.size,
-        leading: left.value,
+        size: rest,
+        leading: next,
         factor,
     }
+}
+
+// Size and leading word of what a step leaves: n words, the last of them known where value is not 0.
+pub fn find_rest(block: &[u64], n: usize, value: u64, modulus: Modulus) -> Leading
+    requires { ⌜ ValidModulus modulus ⌝ }
+    requires rest { ⌜ Rest (modulus .p) (now block) n value ⌝ }
+    ensures { λ r. ⌜ Left (modulus .p) (now (block .entry)) n (r .size) (r .value) ⌝ }
+{
+    if value != 0 {
+        return Leading { size: n, value };
+    }
+    find_leading(block, n, modulus)
 }

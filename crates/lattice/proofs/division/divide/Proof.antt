@@ -9,6 +9,7 @@ use Rattle.lattice.specs.Memory.{level}
 use Rattle.lattice.specs.Found.{found-ends, found-leading}
 use Rattle.lattice.specs.Sums.{sums-room, sums-fewer}
 use Rattle.lattice.specs.Quotients.{Divided}
+use Rattle.lattice.specs.Step.{takes-left}
 use Rattle.lattice.proofs.Stepping
 use Rattle.lattice.proofs.Dividing.{Dividing, dividing-start, dividing-step, dividing-turn, dividing-end}
 use Rattle.lattice.proofs.division.divide.Statement.{statement}
@@ -121,17 +122,28 @@ slice-write-quotients c =
     let step = dividing-step (S .pre .0 .0 .prime) I (S .pre .0 .1) (S .pre .1 .0 .0) (omega arith) (omega arith) (omega arith) in
     omega (arith, Stepping.place-inside step, I .same-quotients)
 
+find-rest-requires : tie.Need-find-rest-requires Inv-loop μ-loop
+find-rest-requires c κs =
+    let T = c .before .before .before .before .before in
+    let L = T .before .before .before .before .before .before .before in
+    let S = L .before .before .before .before .before .before .before .before in
+    (S .pre .0 .0, T .take-multiple .ensures .rest)
+
 loop-less : tie.Need-loop-less Inv-loop μ-loop
-loop-less c = search needs
+loop-less c =
+    let T = c .before .before .before .before .before .before in
+    omega (arith, T .take-multiple .ensures .size, c .find-rest .ensures .within)
 
 loop-again : tie.Need-loop-again Inv-loop μ-loop
 loop-again c =
-    let T = c .before .before .before .before in
+    let A = c .before .before in
+    let T = A .before .before .before .before in
     let L = T .before .before .before .before .before .before .before in
     let S = L .before .before .before .before .before .before .before .before in
     let I = L .loop .inv in
     let step = dividing-step (S .pre .0 .0 .prime) I (S .pre .0 .1) (S .pre .1 .0 .0) (omega arith) (omega arith) (omega arith) in
-    dividing-turn (S .pre .0 .0 .prime) I step (T .take-multiple .ensures) (S .pre .1 .1 .0) _ (c .add .ensures)
+    dividing-turn (S .pre .0 .0 .prime) I step (takes-left (step .some) (T .take-multiple .ensures) (c .find-rest .ensures))
+    (S .pre .1 .1 .0) _ (A .add .ensures)
 
 same-length-5 : tie.Need-same-length-5 Inv-loop μ-loop
 same-length-5 c = search needs
@@ -172,6 +184,7 @@ divide-spec =
     add-requires
     mul-quotients
     slice-write-quotients
+    find-rest-requires
     loop-less
     loop-again
     same-length-5

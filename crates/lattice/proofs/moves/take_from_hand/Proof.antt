@@ -5,6 +5,7 @@ use borrow.Author.Needs.{needs}
 use Rattle.residue.specs.Modulus.{ValidModulus}
 use Rattle.lattice.specs.Memory.{row}
 use Rattle.lattice.specs.Sums.{sums-fewer}
+use Rattle.lattice.specs.Step.{takes-left}
 use Rattle.lattice.proofs.Taking
 use Rattle.lattice.proofs.moves.take_from_hand.Statement.{statement}
 use Rattle.lattice.proofs.moves.take_from_hand.Tie as tie
@@ -42,11 +43,46 @@ take-multiple-requires c κs =
       (Taking.fits-step valid fits, sums-fewer _ (S .args .block .now) _ 1 (omega (arith, fits .some)) (valid .hand .sums)),
     )
 
+find-rest-requires : tie.Need-find-rest-requires
+find-rest-requires c κs =
+    let A = c .before .before .before in
+    let S = A .before .before .before .before .before .before .before .before .before in
+    (S .pre .0, A .take-multiple .ensures .rest)
+
 sub-minus : tie.Need-sub-minus
 sub-minus c =
-    let A = c .before .before .before .before in
+    let F = c .before .before in
+    let A = F .before .before .before .before in
     let S = A .before .before .before .before .before .before .before .before .before in
-    omega (arith, Taking.factor-below (S .pre .0 .prime) (S .pre .1 .0) (S .pre .1 .1) (A .take-multiple .ensures))
+    omega (
+      arith,
+      Taking.factor-below (S .pre .0 .prime) (S .pre .1 .0) (S .pre .1 .1)
+          (takes-left (S .pre .1 .1 .some) (A .take-multiple .ensures) (F .find-rest .ensures)),
+    )
+
+add-smaller : tie.Need-add-smaller
+add-smaller c =
+    let S = c .before .before .before .before .before .before .before .before .before .before .before .before .before .before .before in
+    omega (arith, S .pre .1 .0 .level .slot (row (S .args .hand .size)) (omega arith) .tail-within)
+
+mul-smaller : tie.Need-mul-smaller
+mul-smaller c =
+    let S = c .before .before .before .before .before .before .before .before .before .before .before .before .before .before .before in
+    omega (arith, S .pre .1 .0 .level .slot (row (S .args .hand .size)) (omega arith) .tail-within)
+
+sub-smaller : tie.Need-sub-smaller
+sub-smaller c =
+    let F = c .before .before in
+    let A = F .before .before .before .before in
+    let S = A .before .before .before .before .before .before .before .before .before in
+    omega (
+      arith,
+      Taking.taking-inside (S .pre .0 .prime) (S .pre .1 .0) (S .pre .1 .1)
+          (takes-left (S .pre .1 .1 .some) (A .take-multiple .ensures) (F .find-rest .ensures)),
+    )
+
+smaller-requires : tie.Need-smaller-requires
+smaller-requires c κs = search needs
 
 mul-add-scaled : tie.Need-mul-add-scaled
 mul-add-scaled c = search needs
@@ -56,16 +92,19 @@ add-add-scaled c = search needs
 
 add-scaled-requires : tie.Need-add-scaled-requires
 add-scaled-requires c κs =
-    let A = c .before .before .before .before .before in
+    let N = c .before in
+    let F = N .before .before .before in
+    let A = F .before .before .before .before in
     let S = A .before .before .before .before .before .before .before .before .before in
     let m : ValidModulus (S .args .modulus) = S .pre .0 in
     let limit : S .args .modulus .p ≤ 65521 = m .limit in
     let valid = S .pre .1 .0 in
     let fits = S .pre .1 .1 in
-    let taken = A .take-multiple .ensures in (
+    let taken = takes-left (fits .some) (A .take-multiple .ensures) (F .find-rest .ensures) in
+    let words = N .smaller .ensures in (
       (
-        omega (arith, Taking.taking-inside (m .prime) valid fits taken, valid .hand .tail-room),
-        Taking.taking-slot-room (m .prime) valid fits taken,
+        omega (arith, Taking.taking-room (m .prime) valid fits taken _ words, valid .hand .tail-room),
+        Taking.taking-slot-room (m .prime) valid fits taken _ words,
         omega arith,
       ),
       (
@@ -76,9 +115,14 @@ add-scaled-requires c κs =
 
 add-larger : tie.Need-add-larger
 add-larger c =
-    let A = c .before .before .before .before .before .before .before .before in
+    let F = c .before .before .before .before .before .before .before in
+    let A = F .before .before .before .before in
     let S = A .before .before .before .before .before .before .before .before .before in
-    omega (arith, Taking.taking-inside (S .pre .0 .prime) (S .pre .1 .0) (S .pre .1 .1) (A .take-multiple .ensures))
+    omega (
+      arith,
+      Taking.taking-inside (S .pre .0 .prime) (S .pre .1 .0) (S .pre .1 .1)
+          (takes-left (S .pre .1 .1 .some) (A .take-multiple .ensures) (F .find-rest .ensures)),
+    )
 
 larger-requires : tie.Need-larger-requires
 larger-requires c κs = search needs
@@ -92,10 +136,13 @@ same-length-2 c = search needs
 returns : tie.Need-returns
 returns c =
     let B = c .before .before .before in
-    let A = B .before .before .before .before .before .before in
+    let N = B .before .before in
+    let F = N .before .before .before in
+    let A = F .before .before .before .before in
     let S = A .before .before .before .before .before .before .before .before .before in
-    Taking.taking-stepped (S .pre .0 .prime) (S .pre .1 .0) (S .pre .1 .1) (A .take-multiple .ensures)
-    _ (B .add-scaled .ensures .0) _ (c .larger .ensures)
+    Taking.taking-stepped (S .pre .0 .prime) (S .pre .1 .0) (S .pre .1 .1)
+    (takes-left (S .pre .1 .1 .some) (A .take-multiple .ensures) (F .find-rest .ensures))
+    _ (N .smaller .ensures) _ (B .add-scaled .ensures .0) _ (c .larger .ensures)
 
 pub take-from-hand-spec : {M : Type 1} → statement M
 take-from-hand-spec =
@@ -110,7 +157,12 @@ take-from-hand-spec =
     mul-size
     shared-slice-read-size
     take-multiple-requires
+    find-rest-requires
     sub-minus
+    add-smaller
+    mul-smaller
+    sub-smaller
+    smaller-requires
     mul-add-scaled
     add-add-scaled
     add-scaled-requires

@@ -1,10 +1,10 @@
 -- The words are those of `add_scaled`, and what is left is found by `find_leading`.
 use Prim.Native.Nat.{ℕ, _+_, _-_, _*_, _≤_, _<_}
+use mathlib.Core.Path.{refl}
 use native.Mathlib.Omega.{arith}
 use borrow.Author.Needs.{needs}
 use Rattle.residue.specs.Modulus.{ValidModulus}
 use Rattle.lattice.specs.Memory.{row}
-use Rattle.lattice.specs.Found.{found-ends, found-leading, found-within}
 use Rattle.lattice.proofs.Stepping
 use Rattle.lattice.proofs.step.take_multiple.Statement.{statement}
 use Rattle.lattice.proofs.step.take_multiple.Tie as tie
@@ -40,6 +40,30 @@ sub-minus c =
     let S = A .before .before .before .before .before .before .before in
     omega (arith, Stepping.step-factor _ (S .pre .0 .prime) (S .pre .1 .0) _ (A .mul .ensures))
 
+add-words : tie.Need-add-words
+add-words c = search needs
+
+mul-words : tie.Need-mul-words
+mul-words c = search needs
+
+sub-word-before : tie.Need-sub-word-before
+sub-word-before c = search needs
+
+mul-word-before : tie.Need-mul-word-before
+mul-word-before c = search needs
+
+word-before-requires : tie.Need-word-before-requires
+word-before-requires c κs =
+    let A = c .before .before in
+    let S = A .before .before .before .before .before .before .before in
+    let m : ValidModulus (S .args .modulus) = S .pre .0 in
+    let step = S .pre .1 .0 in
+    let by = A .mul .ensures in
+    let within = step .level .slot (row (S .args .found .size)) (omega arith) .block .within in (
+      (m, omega (arith, step .fits, step .ends .within, step .room), omega (arith, within, step .level .room)),
+      Stepping.step-reduces _ (m .prime) step _ by (S .pre .1 .1) (m .limit) _,
+    )
+
 sub-add-scaled : tie.Need-sub-add-scaled
 sub-add-scaled c = search needs
 
@@ -48,7 +72,7 @@ mul-add-scaled c = search needs
 
 add-scaled-requires : tie.Need-add-scaled-requires
 add-scaled-requires c κs =
-    let A = c .before .before in
+    let A = c .before .before .before .before in
     let S = A .before .before .before .before .before .before .before in
     let m : ValidModulus (S .args .modulus) = S .pre .0 in
     let limit : S .args .modulus .p ≤ 65521 = m .limit in
@@ -61,45 +85,35 @@ add-scaled-requires c κs =
       ),
     )
 
-sub-find-leading : tie.Need-sub-find-leading
-sub-find-leading c = search needs
-
-find-leading-requires : tie.Need-find-leading-requires
-find-leading-requires c κs =
-    let B = c .before .before .before in
-    let A = B .before .before .before in
-    let S = A .before .before .before .before .before .before .before in
-    let m : ValidModulus (S .args .modulus) = S .pre .0 in
-    let step = S .pre .1 .0 in
-    let by = A .mul .ensures in
-    let words = B .add-scaled .ensures .0 in
-    let same = Stepping.step-length _ (m .prime) step _ by _ words in (
-      (m, omega (arith, step .ends .within, step .room, same)),
-      λ j lt. Stepping.step-reducible _ (m .prime) step _ by _ words (S .pre .1 .1) (m .limit) j,
-    )
+sub-rest : tie.Need-sub-rest
+sub-rest c = search needs
 
 same-length : tie.Need-same-length
 same-length c = search needs
 
 returns : tie.Need-returns
 returns c =
-    let B = c .before .before .before .before in
-    let A = B .before .before .before in
+    let B = c .before .before in
+    let N = B .before .before in
+    let A = N .before .before .before in
     let S = A .before .before .before .before .before .before .before in
     let m : ValidModulus (S .args .modulus) = S .pre .0 in
-    let positive : 0 < S .args .modulus .p = omega (arith, m .prime .large) in
     let step = S .pre .1 .0 in
-    let k : ℕ = S .args .found .size in
     let by = A .mul .ensures in
-    let words = B .add-scaled .ensures .0 in
-    let found = c .find-leading .ensures in
-    let behind = Stepping.step-behind _ (m .prime) step _ by _ words in
-    let within : k - 1 ≤ 1088 = omega (arith, step .ends .within) in record {
+    let words = B .add-scaled .ensures .0 in record {
       factor = by;
       words = words;
-      ends = found-ends _ positive _ 1088 (k - 1) within behind _ (found .0);
-      leading = found-leading _ positive _ 1088 (k - 1) within behind _ (found .0) _ (found .1);
-      fewer = omega (arith, step .some, found-within _ positive _ 1088 (k - 1) within behind _ (found .0));
+      size = refl;
+      rest = record {
+        room = omega (arith, step .room, Stepping.step-length _ (m .prime) step _ by _ words);
+        within = omega (arith, step .ends .within);
+        behind = Stepping.step-behind _ (m .prime) step _ by _ words;
+        reducible = Stepping.step-reducible _ (m .prime) step _ by _ words (S .pre .1 .1) (m .limit);
+        early = λ some. let before = N .word-before .ensures some in (
+          omega (arith, before .0, step .fits),
+          Stepping.step-next _ (m .prime) step _ by _ words _ before,
+        );
+      };
     }
 
 pub take-multiple-spec : {M : Type 1} → statement M
@@ -114,10 +128,14 @@ take-multiple-spec =
     shared-slice-read-mul
     mul-requires
     sub-minus
+    add-words
+    mul-words
+    sub-word-before
+    mul-word-before
+    word-before-requires
     sub-add-scaled
     mul-add-scaled
     add-scaled-requires
-    sub-find-leading
-    find-leading-requires
+    sub-rest
     same-length
     returns)
