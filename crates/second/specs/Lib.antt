@@ -2,6 +2,7 @@ pub mod Words
 pub mod Cells
 pub mod Transposed
 pub mod ValidTransposed
+pub mod Laid
 pub mod RightInserted
 pub mod SecondReady
 pub mod SecondDual
