@@ -11,6 +11,8 @@ pub mod Row
 pub mod RowTaken
 pub mod First
 pub mod Zeros
+pub mod Filling
+pub mod TransposeFilling
 pub mod Denominator
 pub mod Scaled
 pub mod DividedSecond
