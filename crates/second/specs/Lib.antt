@@ -13,6 +13,7 @@ pub mod First
 pub mod Zeros
 pub mod Filling
 pub mod TransposeFilling
+pub mod RightFilling
 pub mod Denominator
 pub mod Scaled
 pub mod DividedSecond

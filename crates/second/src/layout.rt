@@ -8,6 +8,7 @@ ghost use lib.ListN.{length};
 ghost use Rattle.vector.specs.Bound.{AtMost};
 ghost use Rattle.lattice.specs.Memory.{level};
 ghost use Rattle.second.specs.Words.{InRoom};
+ghost use Rattle.second.specs.RightFilling.{TailsEnd};
 ghost use Rattle.second.specs.Laid.{Laid};
 
 // Of a level of n rows, into cleared memory.
@@ -21,7 +22,7 @@ pub fn lay_second(
     reciprocals: &mut [u64],
     right: &mut [u64],
 )
-    requires { ⌜ InRoom (now slots) (now sizes) × (8 ≤ length (now inverses)) × (n ≤ 8) ⌝ }
+    requires { ⌜ InRoom (now slots) (now sizes) × TailsEnd (now slots) (now sizes) × (8 ≤ length (now inverses)) × (n ≤ 8) ⌝ }
     requires room { ⌜ (2048 ≤ length (now transposed)) × (16 ≤ length (now heights)) × (8 ≤ length (now reciprocals))
         × (1088 ≤ length (now right)) ⌝ }
     requires zeros { ⌜ AtMost 0 (now transposed) × AtMost 0 (now right) ⌝ }

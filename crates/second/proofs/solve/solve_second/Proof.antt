@@ -2,6 +2,7 @@
 use native.Mathlib.Omega.{arith}
 use Rattle.residue.specs.Modulus.{ValidModulus}
 use Rattle.second.specs.Zeros.{zeros-none}
+use Rattle.second.specs.RightFilling.{tails-end}
 use Rattle.second.specs.SecondReady.{level-room, block-reducible, ready-valid, ready-starts}
 use Rattle.second.specs.Denominator.{laid-denominator}
 use Rattle.second.specs.Scaled.{scales-within, right-below, right-within, product-room, right-scaled}
@@ -39,7 +40,7 @@ slice-aggregate-lay-second-4 c = search needs
 lay-second-requires : tie.Need-lay-second-requires
 lay-second-requires c κs =
     let S = c .before .before .before .before .before .before .before .before .before in (
-      (level-room (S .pre .0 .2), S .pre .0 .2 .all-inverses, S .pre .0 .1),
+      (level-room (S .pre .0 .2), tails-end (S .pre .0 .2), S .pre .0 .2 .all-inverses, S .pre .0 .1),
       ((omega arith, omega arith, omega arith, omega arith), (zeros-none 2048, zeros-none 1088)),
     )
 
