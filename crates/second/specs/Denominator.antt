@@ -1,10 +1,13 @@
 -- The tail with which the insertion of the right side ends, made monic: the denominator w of the second system's solution.
-use Prim.Native.Nat.{ℕ, _<_}
+use Prim.Native.Nat.{ℕ, _<_, _≤_}
+use mathlib.Core.Path.{_≡_}
 use mathlib.Core.List.{List}
 use native.Mathlib.Omega.{arith}
-use lib.ListN.{getD}
+use lib.ListN.{length, getD}
+use Rattle.algebra.specs.Coefficients.{leading}
 use Rattle.algebra.specs.Polynomial.{Polynomial, polynomials}
 use Rattle.algebra.specs.Size.{size, sized}
+use Rattle.modular.specs.Modulo.{modulo}
 use Rattle.modular.specs.Prime.{Prime}
 use Rattle.modular.specs.Residue.{residues}
 use Rattle.reduction.specs.Slots.{Slots, unweighted}
@@ -12,12 +15,23 @@ use Rattle.reduction.specs.Transpose.{Tops}
 use Rattle.reduction.specs.Second.{second-positive}
 use Rattle.reduction.specs.Polynomials.{associate}
 use Rattle.reduction.specs.Holds.{Holds}
+use Rattle.vector.specs.Reduced.{polynomial}
+use Rattle.vector.specs.declared.leading.Leading.{Leading}
 use Rattle.lattice.specs.Word.{words}
-use Rattle.lattice.specs.Memory.{Ends, Sums, Level, Memory, places, Valid}
+use Rattle.lattice.specs.Memory.{Ends, Sums, Level, level, ValidLevel, Memory, places, Valid}
 use Rattle.lattice.specs.Sums.{sums-fewer}
 use Rattle.lattice.specs.Holding.{HoldsSlots}
+use Rattle.lattice.specs.Insertion.{Inserts}
 use Rattle.multiples.specs.Monic.{MadeMonic}
 use Rattle.second.specs.RightInserted.{InsertedRight, RightInserted}
+use Rattle.second.specs.Laid.{Laid, startingMemory}
+use Rattle.second.specs.SecondReady.{ready-inserted}
+
+-- w, of so many coefficients, is the tail with which an insertion that begins with memory M ends, made monic
+pub record TailFound (p : ℕ) (M : Memory) (w : List ℕ) (count : ℕ) : Type 0 where
+  pub after : Memory
+  pub inserts : Inserts p M after
+  pub monic : MadeMonic p (after .tail) w count
 
 -- of slots U: how the insertion ended, and that w is its tail made monic
 pub record FoundDenominator (p : ℕ) (prime : Prime p) (n : ℕ) (U : Slots (Polynomial (residues p prime))) (w : List ℕ) : Type 0
@@ -49,3 +63,11 @@ denominator-found {p} {n} {L} {M} {w} {count} done made = record {
       let some = second-positive tops (I .run) (I .ends) in
       record { memory = M; inserted = I; some = some; holds = made .holds prime (I .run .now .hand n) some (I .holds .hand .tail) };
 }
+
+-- w, where the second system is laid out and its right side inserted
+pub laid-denominator : (p : ℕ) (prime : Prime p) {n : ℕ} → n ≤ 8 → {L : Level} → ValidLevel p L → {s z i b : List ℕ}
+    → Laid n L (level s z i) b → (found : Leading) → found .size ≡ length (polynomial p b 0 1088)
+    → found .value ≡ leading (modulo p) (polynomial p b 0 1088) → {w : List ℕ} {count : ℕ}
+    → TailFound p (startingMemory (level s z i) b found) w count → DenominatorFound p n L w count
+laid-denominator p prime small valid laid found size last tail =
+    denominator-found (ready-inserted p prime small valid laid found size last (tail .after) (tail .inserts)) (tail .monic)

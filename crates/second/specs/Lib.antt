@@ -2,6 +2,7 @@ pub mod Words
 pub mod Cells
 pub mod Transposed
 pub mod ValidTransposed
+pub mod Laid
 pub mod RightInserted
 pub mod SecondReady
 pub mod SecondDual
@@ -10,6 +11,9 @@ pub mod Row
 pub mod RowTaken
 pub mod First
 pub mod Zeros
+pub mod Filling
+pub mod TransposeFilling
+pub mod RightFilling
 pub mod Denominator
 pub mod Scaled
 pub mod DividedSecond

@@ -17,37 +17,35 @@ use Rattle.reduction.specs.Second.{second-room}
 use Rattle.reduction.specs.Polynomials.{associate}
 use Rattle.reduction.specs.Holds.{Holds, holds-size-exact}
 use Rattle.reduction.specs.Flat.{Flat}
-use Rattle.vector.specs.Bound.{AtMost, Reducible}
 use Rattle.vector.specs.Reduced.{polynomial}
 use Rattle.vector.specs.Stored.{stored, stored-outside, below-or-not}
 use Rattle.lattice.specs.Word.{words, words-first, words-behind}
-use Rattle.lattice.specs.Memory.{row, height, ZeroFrom, Ends, Level, level, ValidLevel}
+use Rattle.lattice.specs.Memory.{row, height, ZeroFrom, Ends, Level, ValidLevel}
 use Rattle.lattice.specs.Holding.{HoldsSlots}
 use Rattle.lattice.specs.Range.{words-zero, zero-word}
 use Rattle.lattice.specs.Reading.{flat-same, ends-pivot}
 use Rattle.lattice.specs.Found.{found-ends}
 use Rattle.multiples.specs.Product.{BlockMultiplied}
-use Rattle.second.specs.Words.{InRoom, rightWord}
+use Rattle.second.specs.Words.{rightWord}
 use Rattle.second.specs.Transposed.{right-held}
 use Rattle.second.specs.ValidTransposed.{when-below}
 use Rattle.second.specs.First.{stored-first}
-use Rattle.second.specs.SecondReady.{level-room}
+use Rattle.second.specs.Laid.{Laid}
 use Rattle.second.specs.Solved.{HasTops}
 use Rattle.second.specs.Denominator.{FoundDenominator, DenominatorFound}
 
--- slots s of sizes z, and w of so many coefficients: w times the right side has at most 136 degrees
-pub record ScalesWithin (p n : ℕ) (s z w : List ℕ) (count : ℕ) : Type 0 where
-  pub in-room : InRoom s z
-  pub below : (i : ℕ) → getD s i 0 < p
+-- w of so many coefficients: w times the right side of a level has at most 136 degrees
+pub record ScalesWithin (p n : ℕ) (L : Level) (w : List ℕ) (count : ℕ) : Type 0 where
+  pub below : (i : ℕ) → getD (L .slots) i 0 < p
   pub w-below : (i : ℕ) → getD w i 0 < p
   pub within : count ≤ 128
-  pub room : (o : List ℕ) → 1088 ≤ length o → (m : ℕ) → Ends p (stored (rightWord s z n) o 0 1088) 0 1088 m → count * 8 + m ≤ 1096
+  pub room : (o : List ℕ) → 1088 ≤ length o → (m : ℕ)
+      → Ends p (stored (rightWord (L .slots) (L .sizes) n) o 0 1088) 0 1088 m → count * 8 + m ≤ 1096
 
-pub record RightScaled (p n : ℕ) (s z w : List ℕ) (count : ℕ) (out : List ℕ) : Type 0 where
+pub record RightScaled (p n : ℕ) (L : Level) (w : List ℕ) (count : ℕ) (out : List ℕ) : Type 0 where
   pub below : (i : ℕ) → getD out i 0 < p
-  pub holds : (prime : Prime p) (i : List ℕ) (U : Slots (Polynomial (residues p prime))) (x : Polynomial (residues p prime))
-      → ValidLevel p (level s z i) → HoldsSlots p prime n unweighted (level s z i) U
-      → Holds (residues p prime) (words p prime w 0 count) x
+  pub holds : (prime : Prime p) (U : Slots (Polynomial (residues p prime))) (x : Polynomial (residues p prime))
+      → ValidLevel p L → HoldsSlots p prime n unweighted L U → Holds (residues p prime) (words p prime w 0 count) x
       → Flat (residues p prime) n 8 (weights (polynomials (residues p prime)) n 16 U) (words p prime out 0 1088)
       (λ i. polynomials (residues p prime) .mul x (rightSide (polynomials (residues p prime)) n 16 U i))
 
@@ -60,47 +58,50 @@ words-cut p prime l N k within zero x =
     (λ ge. words-zero p prime l 0 N k zero x ge ∙ sym (words-behind p prime l 0 k x ge))
     (below-or-not x k)
 
--- the right side as it is stored over zeros
-module _ {p n : ℕ} {s z w : List ℕ} {count : ℕ} (fits : ScalesWithin p n s z w count) (o : List ℕ) (room : 1088 ≤ length o)
-    (none : AtMost 0 o) (b : List ℕ) (eb : b ≡ stored (rightWord s z n) o 0 1088) where
-  positive : 0 < p
-  positive = omega (arith, fits .below 0)
+-- the right side as it is laid out
+module _ {p n : ℕ} {L T : Level} {w : List ℕ} {count : ℕ} (fits : ScalesWithin p n L w count) {b : List ℕ} (laid : Laid n L T b)
+  where
+    positive : 0 < p
+    positive = omega (arith, fits .below 0)
 
-  word-below : (x : ℕ) → rightWord s z n x < p
-  word-below x = when-below p positive _ _ (when-below p positive _ _ (when-below p positive _ _
-      (when-below p positive _ _ (fits .below _))))
+    word-below : (x : ℕ) → rightWord (L .slots) (L .sizes) n x < p
+    word-below x = when-below p positive _ _ (when-below p positive _ _ (when-below p positive _ _
+        (when-below p positive _ _ (fits .below _))))
 
-  stored-below : (i : ℕ) → getD (stored (rightWord s z n) o 0 1088) i 0 < p
-  stored-below i = ⊎-elim
-      (λ lt. subst (λ v. v < p) (sym (stored-first (rightWord s z n) o 1088 i room lt)) (word-below i))
-      (λ ge. omega (arith, positive, stored-outside (rightWord s z n) o 0 1088 i (inr (omega arith)), none i))
-      (below-or-not i 1088)
+    stored-below : (i : ℕ) → getD (stored (rightWord (L .slots) (L .sizes) n) (laid .ob) 0 1088) i 0 < p
+    stored-below i = ⊎-elim
+        (λ lt. subst (λ v. v < p) (sym (stored-first (rightWord (L .slots) (L .sizes) n) (laid .ob) 1088 i (laid .room-block) lt))
+        (word-below i))
+        (λ ge. omega (
+          arith,
+          positive,
+          stored-outside (rightWord (L .slots) (L .sizes) n) (laid .ob) 0 1088 i (inr (omega arith)),
+          laid .none-block i,
+        ))
+        (below-or-not i 1088)
 
-  pub right-below : (i : ℕ) → getD b i 0 < p
-  right-below i = subst (λ l. getD l i 0 < p) (sym eb) (stored-below i)
+    pub right-below : (i : ℕ) → getD b i 0 < p
+    right-below i = subst (λ l. getD l i 0 < p) (sym (laid .right)) (stored-below i)
 
-  pub right-reducible : Reducible p b 1088
-  right-reducible j lt = omega (arith, right-below j)
+    module _ (m : ℕ) (found : m ≡ length (polynomial p b 0 1088)) where
+      right-ends : Ends p b 0 1088 m
+      right-ends = found-ends p positive b 1088 1088 (omega arith) (λ j h lt. absurd (omega arith)) m found
 
-  module _ (m : ℕ) (found : m ≡ length (polynomial p b 0 1088)) where
-    right-ends : Ends p b 0 1088 m
-    right-ends = found-ends p positive b 1088 1088 (omega arith) (λ j h lt. absurd (omega arith)) m found
+      pub right-within : m ≤ 1088
+      right-within = right-ends .within
 
-    pub right-within : m ≤ 1088
-    right-within = right-ends .within
+      pub product-room : count * 8 + m ≤ 1096
+      product-room = fits .room (laid .ob) (laid .room-block) m (subst (λ l. Ends p l 0 1088 m) (laid .right) right-ends)
 
-    pub product-room : count * 8 + m ≤ 1096
-    product-room = fits .room o room m (subst (λ l. Ends p l 0 1088 m) eb right-ends)
-
-    pub right-scaled : n ≤ 8 → {out : List ℕ} → BlockMultiplied p w count b m out → RightScaled p n s z w count out
-    right-scaled small {out} done = record {
-      below = done .below;
-      holds = λ prime i U x valid holds factor. done .holds prime n (weights (polynomials (residues p prime)) n 16 U) x
-          (rightSide (polynomials (residues p prime)) n 16 U) factor
-          (flat-same (words-cut p prime b 1088 m (right-ends .within) (right-ends .behind))
-          (subst (λ l. Flat (residues p prime) n 8 (weights (polynomials (residues p prime)) n 16 U) (words p prime l 0 1088)
-          (rightSide (polynomials (residues p prime)) n 16 U)) (sym eb) (right-held p prime small valid holds o room)));
-    }
+      pub right-scaled : n ≤ 8 → {out : List ℕ} → BlockMultiplied p w count b m out → RightScaled p n L w count out
+      right-scaled small {out} done = record {
+        below = done .below;
+        holds = λ prime U x valid holds factor. done .holds prime n (weights (polynomials (residues p prime)) n 16 U) x
+            (rightSide (polynomials (residues p prime)) n 16 U) factor
+            (flat-same (words-cut p prime b 1088 m (right-ends .within) (right-ends .behind))
+            (subst (λ l. Flat (residues p prime) n 8 (weights (polynomials (residues p prime)) n 16 U) (words p prime l 0 1088)
+            (rightSide (polynomials (residues p prime)) n 16 U)) (sym (laid .right)) (right-held p prime small valid holds (laid .ob) (laid .room-block))));
+      }
 
 -- an array of so many words up to the last that is not 0 holds a polynomial of that size
 pub ends-size : (p : ℕ) (prime : Prime p) {l : List ℕ} {N k : ℕ} {x : Polynomial (residues p prime)} → Ends p l 0 N k → 0 < k
@@ -146,9 +147,8 @@ module _ {p n : ℕ} {L : Level} {w : List ℕ} {count : ℕ} (small : n ≤ 8) 
       has .small,
     )
 
-  pub scales-within : ScalesWithin p n (L .slots) (L .sizes) w count
+  pub scales-within : ScalesWithin p n L w count
   scales-within = record {
-    in-room = level-room valid;
     below = valid .below;
     w-below = found .below;
     within = found .ends .within;

@@ -29,7 +29,7 @@ use Rattle.second.specs.DividedSecond.{DividedSecond}
 use Rattle.second.specs.QuotientRows.{quotientWord, row-cell, rows-below}
 
 module _ {p n : ℕ} (small : n ≤ 8) {L : Level} (valid : ValidLevel p L) {w : List ℕ} {count : ℕ}
-    (found : DenominatorFound p n L w count) {block : List ℕ} (scaled : RightScaled p n (L .slots) (L .sizes) w count block)
+    (found : DenominatorFound p n L w count) {block : List ℕ} (scaled : RightScaled p n L w count block)
     {quotients : List ℕ} (divided : DividedSecond p n L block quotients) (o : List ℕ) (room : length o ≡ 1024) (rows : List ℕ)
     (er : rows ≡ stored (quotientWord quotients n) o 0 1024) where
   -- a quotient of at most 121 coefficients is in the 128 words of its row
@@ -63,7 +63,7 @@ module _ {p n : ℕ} (small : n ≤ 8) {L : Level} (valid : ValidLevel p L) {w :
 
     D : HoldsDual p prime n B U x quotients
     D = divided-dual p prime tops (F .inserted) m (divided .holds prime U holds)
-        (scaled .holds prime (L .inverses) U x valid holds factor) (divided .divided)
+        (scaled .holds prime U x valid holds factor) (divided .divided)
 
     holds-second : HoldsSecond p prime n B U w rows
     holds-second = record {

@@ -1,9 +1,11 @@
 // The second system of a level solved: its right side inserted, made monic, and divided.
 use crate::denominator::find_denominator;
-use crate::division::divide_by_transposed;
+use crate::layout::lay_second;
 use crate::rows::store_rows;
-use crate::scaling::scale_right_side;
+use lattice::division::divide;
+use multiples::product::multiply_block;
 use residue::modulus::Modulus;
+use vector::find_leading;
 ghost use mathlib.Core.Path.{_≡_};
 ghost use Prim.Native.Nat.{_≤_};
 ghost use lib.ListN.{length};
@@ -12,6 +14,7 @@ ghost use Rattle.lattice.specs.Memory.{level, ValidLevel};
 ghost use Rattle.second.specs.Solved.{HasTops, SecondSolved};
 
 // Of a level of n rows: w to its 128 words, Y k to the 128 words of `rows` from 128 k on. What stood there is lost.
+// The insertion works on copies, since it changes what it works on.
 pub fn solve_second(
     slots: &[u64],
     sizes: &[usize],
@@ -27,16 +30,35 @@ pub fn solve_second(
     ensures { λ _. ⌜ SecondSolved (modulus .p) n (level (now (slots .entry)) (now (sizes .entry)) (now (inverses .entry)))
         (now (w .exit)) (now (rows .exit)) ⌝ }
 {
-    let count = find_denominator(slots, sizes, inverses, n, w, modulus);
-    let mut block = [0u64; 1088];
-    scale_right_side(slots, sizes, n, w, count, &mut block, modulus);
-    let mut quotients = [0u64; 1088];
-    divide_by_transposed(
+    let mut transposed = [0u64; 2048];
+    let mut heights = [0usize; 16];
+    let mut reciprocals = [0u64; 8];
+    let mut right = [0u64; 1088];
+    lay_second(
         slots,
         sizes,
         inverses,
         n,
+        &mut transposed,
+        &mut heights,
+        &mut reciprocals,
+        &mut right,
+    );
+    let found = find_leading(&right, 1088, modulus);
+    let size = found.size;
+    let mut s = transposed;
+    let mut z = heights;
+    let mut i = reciprocals;
+    let mut block = right;
+    let count = find_denominator(&mut s, &mut z, &mut i, &mut block, found, w, modulus);
+    multiply_block(w, count, &right, size, &mut block, modulus);
+    let mut quotients = [0u64; 1088];
+    divide(
+        &transposed,
+        &heights,
+        &reciprocals,
         &mut block,
+        1088,
         &mut quotients,
         modulus,
     );

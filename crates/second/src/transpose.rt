@@ -2,8 +2,10 @@
 ghost use mathlib.Core.Path.{_≡_};
 ghost use Prim.Native.Nat.{_+_, _-_, _*_, _<_, _≤_};
 ghost use lib.ListN.{length, getD};
+ghost use Rattle.vector.specs.Bound.{AtMost};
 ghost use Rattle.vector.specs.Stored.{stored};
 ghost use Rattle.second.specs.Words.{InRoom, reversed, transposedWord, transposedSize};
+ghost use Rattle.second.specs.TransposeFilling.{Transposing};
 
 // Where a level has coefficient e of row r in the block of slot q.
 pub fn place_in_block(q: usize, r: usize, e: usize) -> usize
@@ -27,38 +29,50 @@ pub fn transposed_size(sizes: &[usize], n: usize, k: usize) -> usize
     0
 }
 
-// The word at x of the transposed slots.
-pub fn transposed_word(slots: &[u64], sizes: &[usize], n: usize, x: usize) -> u64
-    requires { ⌜ InRoom (now slots) (now sizes) × (n ≤ 8) × (x < 2048) ⌝ }
-    ensures { λ r. ⌜ r ≡ transposedWord (now (slots .entry)) (now (sizes .entry)) n x ⌝ }
+// Stores lane i of slot k: coordinate n - 1 - k of the block of slot n - 1 - i of the level.
+pub fn transpose_lane(slots: &[u64], sizes: &[usize], n: usize, k: usize, i: usize, out: &mut [u64])
+    requires { ⌜ InRoom (now slots) (now sizes) × (n ≤ 8) × (k < n) × (i < n) × (0 < getD (now sizes) (reversed n k) 0) ⌝ }
+    requires before { ⌜ Transposing (now slots) (now sizes) n (length (now out)) (now out) (256 * k + 32 * i) ⌝ }
+    ensures { λ _. ⌜ Transposing (now (slots .entry)) (now (sizes .entry)) n (length (now (out .entry))) (now (out .exit))
+        (256 * k + 32 * (i + 1)) ⌝ }
 {
-    let k = x / 256;
-    let i = 7 - x % 8;
-    if 0 < transposed_size(sizes, n, k) {
-        if i < n {
-            if x % 256 < 128 {
-                let q = n - 1 - i;
-                let lift = 16 - (sizes[q] + 7) / 8;
-                let e = x % 256 / 8;
-                if lift <= e {
-                    let place = place_in_block(q, n - 1 - k, e - lift);
-                    return slots[place];
-                }
-            }
-        }
+    let q = n - 1 - i;
+    let lift = 16 - (sizes[q] + 7) / 8;
+    let mut e = lift;
+    while e < 16 {
+        let from = place_in_block(q, n - 1 - k, e - lift);
+        let to = place_in_block(k, i, e);
+        out[to] = slots[from];
+        e += 1;
     }
-    0
 }
 
-// Stores the transposed slots, their tails 0.
+// Stores slot k, lane by lane, where it is filled.
+pub fn transpose_slot(slots: &[u64], sizes: &[usize], n: usize, k: usize, out: &mut [u64])
+    requires { ⌜ InRoom (now slots) (now sizes) × (n ≤ 8) × (k < n) ⌝ }
+    requires before { ⌜ Transposing (now slots) (now sizes) n (length (now out)) (now out) (256 * k) ⌝ }
+    ensures { λ _. ⌜ Transposing (now (slots .entry)) (now (sizes .entry)) n (length (now (out .entry))) (now (out .exit))
+        (256 * (k + 1)) ⌝ }
+{
+    if sizes[n - 1 - k] == 0 {
+        return;
+    }
+    let mut i = 0;
+    while i < n {
+        transpose_lane(slots, sizes, n, k, i, out);
+        i += 1;
+    }
+}
+
+// Stores the transposed slots, their tails 0, into cleared memory: only the slots that are filled.
 pub fn transpose_slots(slots: &[u64], sizes: &[usize], n: usize, out: &mut [u64])
-    requires { ⌜ InRoom (now slots) (now sizes) × (n ≤ 8) × (2048 ≤ length (now out)) ⌝ }
+    requires { ⌜ InRoom (now slots) (now sizes) × (n ≤ 8) × (2048 ≤ length (now out)) × AtMost 0 (now out) ⌝ }
     ensures { λ _. ⌜ now (out .exit) ≡ stored (transposedWord (now (slots .entry)) (now (sizes .entry)) n) (now (out .entry)) 0 2048 ⌝ }
 {
-    let mut x = 0;
-    while x < 2048 {
-        out[x] = transposed_word(slots, sizes, n, x);
-        x += 1;
+    let mut k = 0;
+    while k < n {
+        transpose_slot(slots, sizes, n, k, out);
+        k += 1;
     }
 }
 

@@ -1,62 +1,60 @@
--- The loop keeps a `Storing`: one word a turn.
+-- The loop keeps what `Righting` says of the lanes so far.
 use mathlib.Core.Path.{refl, sym}
-use Prim.Native.Nat.{ℕ, _+_, _-_}
-use native.Mathlib.Nat.{zero-add}
+use Prim.Native.Nat.{_-_, _*_, _≤_}
 use native.Mathlib.Omega.{arith}
-use lib.ListN.{getD}
-use Rattle.second.specs.Words.{rightWord}
-use Rattle.vector.proofs.Storing.{Storing, storing-start, storing-turn-at, storing-end}
+use lib.ListN.{length}
+use Rattle.second.specs.Filling.{filling-same}
+use Rattle.second.specs.RightFilling.{Righting, righting-start, righting-end}
 use Rattle.second.proofs.right.right_side.Statement.{statement}
 use Rattle.second.proofs.right.right_side.Tie as tie
 use Rattle.second.proofs.right.right_side.Reads as reads
 use Rattle.second.proofs.right.right_side.Lts as lts
-use Rattle.second.proofs.right.right_word.Reads as right-word-reads
+use Rattle.second.proofs.right.right_lane.Reads as right-lane-reads
 
 abbrev Inv-loop : tie.InvT-loop
-Inv-loop slots sizes n out₀ x₀ out x = Storing (rightWord slots sizes n) out₀ 0 1088 out x
+Inv-loop slots sizes n out₀ i₀ out i = (i ≤ n) × Righting slots sizes n (length out₀) out (136 * i)
 
 abbrev μ-loop : tie.MeasureT-loop
-μ-loop slots sizes n out₀ x₀ out x = 1088 - x
+μ-loop slots sizes n out₀ i₀ out i = n - i
 
--- src/right.rt:35:5
+-- src/right.rt:47:5
 loop-holds : tie.Need-loop-holds Inv-loop μ-loop
-loop-holds c = storing-start _ _ _ _
+loop-holds c =
+    let S = c .before .before .before in
+    (omega arith, righting-start (S .args .slots .now) (S .args .sizes .now) (S .args .n) (S .args .out .now) (S .pre .3) (S .pre .4))
 
--- src/right.rt:36:18
-right-word-requires : tie.Need-right-word-requires Inv-loop μ-loop
-right-word-requires c κs =
-    let S = c .before .before .before .before .before in
-    (S .pre .0, S .pre .1, omega arith)
+-- src/right.rt:48:9
+right-lane-requires : tie.Need-right-lane-requires Inv-loop μ-loop
+right-lane-requires c κs =
+    let L = c .before .before in
+    let S = L .before .before .before .before in
+    let inv = L .loop .inv in
+    ((S .pre .0, S .pre .1, S .pre .2, omega arith), filling-same (inv .1) (sym (inv .1 .same-length)) refl)
 
--- src/right.rt:36:9
-mul-out : tie.Need-mul-out Inv-loop μ-loop
-mul-out c = omega arith
+-- src/right.rt:49:9
+add-i : tie.Need-add-i Inv-loop μ-loop
+add-i c = omega arith
 
--- src/right.rt:36:9
-slice-write-out : tie.Need-slice-write-out Inv-loop μ-loop
-slice-write-out c = omega arith
-
--- src/right.rt:37:9
-add-x : tie.Need-add-x Inv-loop μ-loop
-add-x c = omega arith
-
--- src/right.rt:35:5
+-- src/right.rt:47:5
 loop-less : tie.Need-loop-less Inv-loop μ-loop
 loop-less c = omega arith
 
--- src/right.rt:35:5
+-- src/right.rt:47:5
 loop-again : tie.Need-loop-again Inv-loop μ-loop
 loop-again c =
-    let L = c .before .before in
-    storing-turn-at (L .loop .inv) _ (sym (zero-add (L .loop .x))) _ (omega arith) (c .right-word .ensures)
+    let L = c .before .before .before .before .before in
+    (omega arith, filling-same (c .before .before .right-lane .ensures) (L .loop .inv .1 .same-length) refl)
 
--- src/right.rt:30:1
+-- src/right.rt:41:1
 same-length : tie.Need-same-length Inv-loop μ-loop
-same-length c = c .before .loop .inv .same-length
+same-length c = c .before .loop .inv .1 .same-length
 
--- src/right.rt:30:1
+-- src/right.rt:41:1
 returns : tie.Need-returns Inv-loop μ-loop
-returns c = storing-end (c .before .loop .inv) (c .loop-test .left)
+returns c =
+    let S = c .before .before .before .before .before in
+    let inv = c .before .loop .inv in
+    righting-end (S .args .slots .now) (S .args .sizes .now) (S .args .n) (filling-same (inv .1) refl (omega (arith, inv .0))) (S .args .out .now) refl (S .pre .4) (S .pre .2)
 
 pub right-side-spec : {M : Type 1} → statement M
 right-side-spec =
@@ -65,10 +63,8 @@ right-side-spec =
     Inv-loop
     μ-loop
     loop-holds
-    right-word-requires
-    mul-out
-    slice-write-out
-    add-x
+    right-lane-requires
+    add-i
     loop-less
     loop-again
     same-length

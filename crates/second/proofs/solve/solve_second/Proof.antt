@@ -1,93 +1,222 @@
 -- One law for each call, and `SecondEnds` for the whole.
-use mathlib.Core.Path.{refl}
 use native.Mathlib.Omega.{arith}
+use Rattle.residue.specs.Modulus.{ValidModulus}
 use Rattle.second.specs.Zeros.{zeros-none}
-use Rattle.second.specs.Scaled.{scales-within}
+use Rattle.second.specs.RightFilling.{tails-end}
+use Rattle.second.specs.SecondReady.{level-room, block-reducible, ready-valid, ready-starts}
+use Rattle.second.specs.Denominator.{laid-denominator}
+use Rattle.second.specs.Scaled.{scales-within, right-below, right-within, product-room, right-scaled}
+use Rattle.second.specs.DividedSecond.{laid-valid, laid-divided}
 use Rattle.second.specs.SecondEnds.{second-solved}
 use borrow.Author.Needs.{needs}
 use Rattle.second.proofs.solve.solve_second.Statement.{statement}
 use Rattle.second.proofs.solve.solve_second.Tie as tie
 use Rattle.second.proofs.solve.solve_second.Reads as reads
 use Rattle.second.proofs.solve.solve_second.Lts as lts
+use Rattle.lattice.proofs.divide.Reads as divide-reads
+use Rattle.multiples.proofs.product.multiply_block.Reads as multiply-block-reads
 use Rattle.second.proofs.denominator.find_denominator.Reads as find-denominator-reads
-use Rattle.second.proofs.division.divide_by_transposed.Reads as divide-by-transposed-reads
+use Rattle.second.proofs.layout.lay_second.Reads as lay-second-reads
 use Rattle.second.proofs.rows.store_rows.Reads as store-rows-reads
-use Rattle.second.proofs.scaling.scale_right_side.Reads as scale-right-side-reads
+use Rattle.vector.proofs.find_leading.Reads as find-leading-reads
 
--- src/solve.rt:30:9
-find-denominator-requires : tie.Need-find-denominator-requires
-find-denominator-requires c κs = search needs
+-- src/solve.rt:37:43
+slice-aggregate-lay-second : tie.Need-slice-aggregate-lay-second
+slice-aggregate-lay-second c = search needs
 
--- src/solve.rt:32:49
-slice-aggregate-scale-right-side : tie.Need-slice-aggregate-scale-right-side
-slice-aggregate-scale-right-side c = search needs
+-- src/solve.rt:37:60
+slice-aggregate-lay-second-2 : tie.Need-slice-aggregate-lay-second-2
+slice-aggregate-lay-second-2 c = search needs
 
--- src/solve.rt:32:5
-scale-right-side-requires : tie.Need-scale-right-side-requires
-scale-right-side-requires c κs =
-    let F = c .before .before .before .before in
-    let S = F .before .before .before .before .before .before .before in (
-      (S .pre .0 .0, S .pre .0 .1, omega (arith, F .find-denominator .kept, S .pre .1 .1 .0), refl),
-      scales-within (S .pre .0 .1) (S .pre .0 .2) (S .pre .1 .0) (F .find-denominator .ensures),
+-- src/solve.rt:37:74
+slice-aggregate-lay-second-3 : tie.Need-slice-aggregate-lay-second-3
+slice-aggregate-lay-second-3 c = search needs
+
+-- src/solve.rt:37:92
+slice-aggregate-lay-second-4 : tie.Need-slice-aggregate-lay-second-4
+slice-aggregate-lay-second-4 c = search needs
+
+-- src/solve.rt:37:5
+lay-second-requires : tie.Need-lay-second-requires
+lay-second-requires c κs =
+    let S = c .before .before .before .before .before .before .before .before .before in (
+      (level-room (S .pre .0 .2), tails-end (S .pre .0 .2), S .pre .0 .2 .all-inverses, S .pre .0 .1),
+      ((omega arith, omega arith, omega arith, omega arith), (zeros-none 2048, zeros-none 1088)),
     )
 
--- src/solve.rt:34:53
-slice-aggregate-divide-by-transposed : tie.Need-slice-aggregate-divide-by-transposed
-slice-aggregate-divide-by-transposed c = search needs
+-- src/solve.rt:38:30
+slice-aggregate-find-leading : tie.Need-slice-aggregate-find-leading
+slice-aggregate-find-leading c = search needs
 
--- src/solve.rt:34:65
-slice-aggregate-divide-by-transposed-2 : tie.Need-slice-aggregate-divide-by-transposed-2
-slice-aggregate-divide-by-transposed-2 c = search needs
+-- src/solve.rt:38:9
+find-leading-requires : tie.Need-find-leading-requires
+find-leading-requires c κs =
+    let L = c .before .before .before .before .before in
+    let S = L .before .before .before .before .before .before .before .before .before .before in
+    ((S .pre .0 .0, omega (arith, L .lay-second .kept)), block-reducible (S .args .modulus .p) (S .pre .0 .0 .prime) (S .pre .0 .1) (S .pre .0 .2) (L .lay-second .ensures))
 
--- src/solve.rt:34:5
-divide-by-transposed-requires : tie.Need-divide-by-transposed-requires
-divide-by-transposed-requires c κs =
-    let R = c .before .before .before in
-    let S = R .before .before .before .before .before .before .before .before .before .before .before .before in
-    (S .pre .0, ((omega (arith, R .scale-right-side .kept), R .scale-right-side .ensures .below), (omega arith, zeros-none 1088)))
+-- src/solve.rt:44:34
+slice-aggregate-find-denominator : tie.Need-slice-aggregate-find-denominator
+slice-aggregate-find-denominator c = search needs
 
--- src/solve.rt:35:16
+-- src/solve.rt:44:42
+slice-aggregate-find-denominator-2 : tie.Need-slice-aggregate-find-denominator-2
+slice-aggregate-find-denominator-2 c = search needs
+
+-- src/solve.rt:44:50
+slice-aggregate-find-denominator-3 : tie.Need-slice-aggregate-find-denominator-3
+slice-aggregate-find-denominator-3 c = search needs
+
+-- src/solve.rt:44:58
+slice-aggregate-find-denominator-4 : tie.Need-slice-aggregate-find-denominator-4
+slice-aggregate-find-denominator-4 c = search needs
+
+-- src/solve.rt:44:9
+find-denominator-requires : tie.Need-find-denominator-requires
+find-denominator-requires c κs =
+    let F = c .before .before .before .before .before in
+    let L = F .before .before .before .before .before .before in
+    let S = L .before .before .before .before .before .before .before .before .before .before in
+    let m : ValidModulus (S .args .modulus) = S .pre .0 .0 in
+    let valid = ready-valid (S .args .modulus .p) (m .prime) (S .pre .0 .1) (S .pre .0 .2) (L .lay-second .ensures) (F .find-leading .result)
+    (F .find-leading .ensures .0) (F .find-leading .ensures .1) in
+    let starts = ready-starts (S .args .modulus .p) (m .prime) (S .pre .0 .1) (S .pre .0 .2) (L .lay-second .ensures) (F .find-leading .result)
+    (F .find-leading .ensures .0) (F .find-leading .ensures .1) in
+    ((m, S .pre .1 .1 .0), (valid, starts))
+
+-- src/solve.rt:45:30
+slice-aggregate-multiply-block : tie.Need-slice-aggregate-multiply-block
+slice-aggregate-multiply-block c = search needs
+
+-- src/solve.rt:45:44
+slice-aggregate-multiply-block-2 : tie.Need-slice-aggregate-multiply-block-2
+slice-aggregate-multiply-block-2 c = search needs
+
+-- src/solve.rt:45:5
+multiply-block-requires : tie.Need-multiply-block-requires
+multiply-block-requires c κs =
+    let D = c .before .before .before .before .before .before .before .before .before in
+    let F = D .before .before .before .before .before .before in
+    let L = F .before .before .before .before .before .before in
+    let S = L .before .before .before .before .before .before .before .before .before .before in
+    let m : ValidModulus (S .args .modulus) = S .pre .0 .0 in
+    let found = laid-denominator (S .args .modulus .p) (m .prime) (S .pre .0 .1) (S .pre .0 .2) (L .lay-second .ensures)
+    (F .find-leading .result) (F .find-leading .ensures .0) (F .find-leading .ensures .1) (D .find-denominator .ensures) in
+    let fits = scales-within (S .pre .0 .1) (S .pre .0 .2) (S .pre .1 .0) found in
+    let within = right-within fits (L .lay-second .ensures) _ (F .find-leading .ensures .0) in (
+      (
+        m,
+        fits .within,
+        omega (arith, fits .within, D .find-denominator .kept, S .pre .1 .1 .0),
+        omega (arith, within, L .lay-second .kept),
+        product-room fits (L .lay-second .ensures) _ (F .find-leading .ensures .0),
+        omega (arith, D .find-denominator .kept, L .lay-second .kept),
+      ),
+      (fits .w-below, right-below fits (L .lay-second .ensures)),
+    )
+
+-- src/solve.rt:47:12
+slice-aggregate-divide : tie.Need-slice-aggregate-divide
+slice-aggregate-divide c = search needs
+
+-- src/solve.rt:47:25
+slice-aggregate-divide-2 : tie.Need-slice-aggregate-divide-2
+slice-aggregate-divide-2 c = search needs
+
+-- src/solve.rt:47:35
+slice-aggregate-divide-3 : tie.Need-slice-aggregate-divide-3
+slice-aggregate-divide-3 c = search needs
+
+-- src/solve.rt:47:49
+slice-aggregate-divide-4 : tie.Need-slice-aggregate-divide-4
+slice-aggregate-divide-4 c = search needs
+
+-- src/solve.rt:47:67
+slice-aggregate-divide-5 : tie.Need-slice-aggregate-divide-5
+slice-aggregate-divide-5 c = search needs
+
+-- src/solve.rt:47:5
+divide-requires : tie.Need-divide-requires
+divide-requires c κs =
+    let M = c .before .before .before .before .before .before in
+    let D = M .before .before .before .before .before .before .before .before .before .before in
+    let L = D .before .before .before .before .before .before .before .before .before .before .before .before in
+    let S = L .before .before .before .before .before .before .before .before .before .before in
+    let below = M .multiply-block .ensures .below in (
+      (S .pre .0 .0, laid-valid (S .pre .0 .1) (S .pre .0 .2) (L .lay-second .ensures)),
+      (
+        (
+          omega (arith, M .multiply-block .kept, D .find-denominator .kept, L .lay-second .kept),
+          omega arith,
+          (λ j h lt. absurd (omega arith)),
+          (λ i. omega (arith, below i)),
+        ),
+        (omega arith, zeros-none 1088),
+      ),
+    )
+
+-- src/solve.rt:48:16
 slice-aggregate-store-rows : tie.Need-slice-aggregate-store-rows
 slice-aggregate-store-rows c = search needs
 
--- src/solve.rt:35:5
+-- src/solve.rt:48:5
 store-rows-requires : tie.Need-store-rows-requires
 store-rows-requires c κs =
-    let D = c .before .before .before .before in
-    let R = D .before .before .before .before in
-    let F = R .before .before .before .before .before in
-    let S = F .before .before .before .before .before .before .before in
-    (omega (arith, D .divide-by-transposed .kept), S .pre .0 .1, S .pre .1 .1 .1)
+    let Q = c .before .before .before .before in
+    let S = Q .before .before .before .before .before .before .before .before .before .before .before .before .before .before .before .before .before .before .before .before .before .before .before .before .before .before .before .before .before .before .before .before .before .before .before .before .before .before .before in
+    (omega (arith, Q .divide .kept), S .pre .0 .1, S .pre .1 .1 .1)
 
--- src/solve.rt:15:1
+-- src/solve.rt:18:1
 same-length : tie.Need-same-length
 same-length c = search needs
 
--- src/solve.rt:15:1
+-- src/solve.rt:18:1
 same-length-2 : tie.Need-same-length-2
 same-length-2 c = search needs
 
--- src/solve.rt:15:1
+-- src/solve.rt:18:1
 returns : tie.Need-returns
 returns c =
     let W = c .before .before in
-    let D = W .before .before .before .before .before in
-    let R = D .before .before .before .before in
-    let F = R .before .before .before .before .before in
-    let S = F .before .before .before .before .before .before .before in
-    second-solved (S .pre .0 .1) (S .pre .0 .2) (F .find-denominator .ensures) (R .scale-right-side .ensures)
-    (D .divide-by-transposed .ensures) _ (S .pre .1 .1 .1) _ (W .store-rows .ensures)
+    let Q = W .before .before .before .before .before in
+    let M = Q .before .before .before .before .before .before .before in
+    let D = M .before .before .before .before .before .before .before .before .before .before in
+    let F = D .before .before .before .before .before .before in
+    let L = F .before .before .before .before .before .before in
+    let S = L .before .before .before .before .before .before .before .before .before .before in
+    let m : ValidModulus (S .args .modulus) = S .pre .0 .0 in
+    let found = laid-denominator (S .args .modulus .p) (m .prime) (S .pre .0 .1) (S .pre .0 .2) (L .lay-second .ensures)
+    (F .find-leading .result) (F .find-leading .ensures .0) (F .find-leading .ensures .1) (D .find-denominator .ensures) in
+    let fits = scales-within (S .pre .0 .1) (S .pre .0 .2) (S .pre .1 .0) found in
+    let scaled = right-scaled fits (L .lay-second .ensures) _ (F .find-leading .ensures .0) (S .pre .0 .1) (M .multiply-block .ensures) in
+    let divided = laid-divided (S .pre .0 .1) (S .pre .0 .2) (L .lay-second .ensures) (Q .divide .ensures) in
+    second-solved (S .pre .0 .1) (S .pre .0 .2) found scaled divided _ (S .pre .1 .1 .1) _ (W .store-rows .ensures)
 
 pub solve-second-spec : {M : Type 1} → statement M
 solve-second-spec =
     tie.close
     (tie.spec
+    slice-aggregate-lay-second
+    slice-aggregate-lay-second-2
+    slice-aggregate-lay-second-3
+    slice-aggregate-lay-second-4
+    lay-second-requires
+    slice-aggregate-find-leading
+    find-leading-requires
+    slice-aggregate-find-denominator
+    slice-aggregate-find-denominator-2
+    slice-aggregate-find-denominator-3
+    slice-aggregate-find-denominator-4
     find-denominator-requires
-    slice-aggregate-scale-right-side
-    scale-right-side-requires
-    slice-aggregate-divide-by-transposed
-    slice-aggregate-divide-by-transposed-2
-    divide-by-transposed-requires
+    slice-aggregate-multiply-block
+    slice-aggregate-multiply-block-2
+    multiply-block-requires
+    slice-aggregate-divide
+    slice-aggregate-divide-2
+    slice-aggregate-divide-3
+    slice-aggregate-divide-4
+    slice-aggregate-divide-5
+    divide-requires
     slice-aggregate-store-rows
     store-rows-requires
     same-length

@@ -1,62 +1,60 @@
--- The loop keeps a `Storing`: one word a turn.
+-- The loop keeps what `Transposing` says of the slots so far.
 use mathlib.Core.Path.{refl, sym}
-use Prim.Native.Nat.{ℕ, _+_, _-_}
-use native.Mathlib.Nat.{zero-add}
+use Prim.Native.Nat.{_+_, _-_, _*_, _≤_}
 use native.Mathlib.Omega.{arith}
-use Rattle.second.specs.Words.{transposedWord}
-use Rattle.vector.proofs.Storing.{Storing, storing-start, storing-turn-at, storing-end}
+use lib.ListN.{length}
+use Rattle.second.specs.Filling.{filling-same}
+use Rattle.second.specs.TransposeFilling.{Transposing, transposing-start, transposing-end}
 use Rattle.second.proofs.transpose.transpose_slots.Statement.{statement}
 use Rattle.second.proofs.transpose.transpose_slots.Tie as tie
 use Rattle.second.proofs.transpose.transpose_slots.Reads as reads
 use Rattle.second.proofs.transpose.transpose_slots.Lts as lts
-use Rattle.second.proofs.transpose.transposed_word.Reads as transposed-word-reads
+use Rattle.second.proofs.transpose.transpose_slot.Reads as transpose-slot-reads
 
 abbrev Inv-loop : tie.InvT-loop
-Inv-loop slots sizes n out₀ x₀ out x = Storing (transposedWord slots sizes n) out₀ 0 2048 out x
+Inv-loop slots sizes n out₀ k₀ out k = (k ≤ n) × Transposing slots sizes n (length out₀) out (256 * k)
 
 abbrev μ-loop : tie.MeasureT-loop
-μ-loop slots sizes n out₀ x₀ out x = 2048 - x
+μ-loop slots sizes n out₀ k₀ out k = n - k
 
--- src/transpose.rt:36:5
+-- src/transpose.rt:73:5
 loop-holds : tie.Need-loop-holds Inv-loop μ-loop
 loop-holds c =
-    storing-start _ _ _ _
+    let S = c .before .before .before in
+    (omega arith, transposing-start (S .args .slots .now) (S .args .sizes .now) (S .args .n) (S .args .out .now) (S .pre .2) (S .pre .3))
 
--- src/transpose.rt:37:18
-transposed-word-requires : tie.Need-transposed-word-requires Inv-loop μ-loop
-transposed-word-requires c κs =
-    let S = c .before .before .before .before .before in
-    (S .pre .0, S .pre .1, omega arith)
+-- src/transpose.rt:74:9
+transpose-slot-requires : tie.Need-transpose-slot-requires Inv-loop μ-loop
+transpose-slot-requires c κs =
+    let L = c .before .before in
+    let S = L .before .before .before .before in
+    let inv = L .loop .inv in
+    ((S .pre .0, S .pre .1, omega arith), filling-same (inv .1) (sym (inv .1 .same-length)) refl)
 
--- src/transpose.rt:37:9
-mul-out : tie.Need-mul-out Inv-loop μ-loop
-mul-out c = omega arith
+-- src/transpose.rt:75:9
+add-k : tie.Need-add-k Inv-loop μ-loop
+add-k c = omega arith
 
--- src/transpose.rt:37:9
-slice-write-out : tie.Need-slice-write-out Inv-loop μ-loop
-slice-write-out c = omega arith
-
--- src/transpose.rt:38:9
-add-x : tie.Need-add-x Inv-loop μ-loop
-add-x c = omega arith
-
--- src/transpose.rt:36:5
+-- src/transpose.rt:73:5
 loop-less : tie.Need-loop-less Inv-loop μ-loop
 loop-less c = omega arith
 
--- src/transpose.rt:36:5
+-- src/transpose.rt:73:5
 loop-again : tie.Need-loop-again Inv-loop μ-loop
 loop-again c =
-    let L = c .before .before in
-    storing-turn-at (L .loop .inv) _ (sym (zero-add (L .loop .x))) _ (omega arith) (c .transposed-word .ensures)
+    let L = c .before .before .before .before .before in
+    (omega arith, filling-same (c .before .before .transpose-slot .ensures) (L .loop .inv .1 .same-length) refl)
 
--- src/transpose.rt:31:1
+-- src/transpose.rt:68:1
 same-length : tie.Need-same-length Inv-loop μ-loop
-same-length c = c .before .loop .inv .same-length
+same-length c = c .before .loop .inv .1 .same-length
 
--- src/transpose.rt:31:1
+-- src/transpose.rt:68:1
 returns : tie.Need-returns Inv-loop μ-loop
-returns c = storing-end (c .before .loop .inv) (c .loop-test .left)
+returns c =
+    let S = c .before .before .before .before .before in
+    let inv = c .before .loop .inv in
+    transposing-end (S .args .slots .now) (S .args .sizes .now) (S .args .n) (filling-same (inv .1) refl (omega (arith, inv .0))) (S .args .out .now) refl (S .pre .3) (S .pre .1)
 
 pub transpose-slots-spec : {M : Type 1} → statement M
 transpose-slots-spec =
@@ -65,10 +63,8 @@ transpose-slots-spec =
     Inv-loop
     μ-loop
     loop-holds
-    transposed-word-requires
-    mul-out
-    slice-write-out
-    add-x
+    transpose-slot-requires
+    add-k
     loop-less
     loop-again
     same-length
