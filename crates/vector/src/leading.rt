@@ -15,7 +15,8 @@ pub struct Leading {
     pub value: u64,
 }
 
-// Size and leading coefficient of the polynomial that h[0] .. h[n - 1] stand for modulo p.
+// Size and leading coefficient of the polynomial that h[0] .. h[n - 1] stand for modulo p. Words that are 0, of which there may be
+// many, take no reduction.
 pub fn find_leading(h: &[u64], n: usize, modulus: Modulus) -> Leading
     requires { ⌜ ValidModulus modulus × (n ≤ length (now h)) ⌝ }
     requires sums { ⌜ Reducible (modulus .p) (now h) n ⌝ }
@@ -25,9 +26,11 @@ pub fn find_leading(h: &[u64], n: usize, modulus: Modulus) -> Leading
     let mut k = n;
     while 0 < k {
         let i = k - 1;
-        let value = modulus.reduce(h[i]);
-        if value != 0 {
-            return Leading { size: k, value };
+        if h[i] != 0 {
+            let value = modulus.reduce(h[i]);
+            if value != 0 {
+                return Leading { size: k, value };
+            }
         }
         k = i;
     }

@@ -1,6 +1,7 @@
 -- `vector::leading::find_leading` meets its contract: what lies from k on is 0 modulo p. Assumes nothing.
 use mathlib.Core.Path.{_≡_, refl, sym, ap, _∙_}
 use Prim.Native.Nat.{_+_, _-_, _%_, _≤_}
+use native.Mathlib.Nat.{zero-mod}
 use native.Mathlib.Omega.{arith}
 use lib.ListN.{length, getD}
 use Rattle.algebra.specs.Coefficients.{leading}
@@ -22,6 +23,12 @@ loop-holds c = (omega arith, refl)
 sub-i : tie.Need-sub-i Inv-loop μ-loop
 sub-i c = omega arith
 
+mul-if1 : tie.Need-mul-if1 Inv-loop μ-loop
+mul-if1 c = omega arith
+
+shared-slice-read-if1 : tie.Need-shared-slice-read-if1 Inv-loop μ-loop
+shared-slice-read-if1 c = omega arith
+
 mul-reduce : tie.Need-mul-reduce Inv-loop μ-loop
 mul-reduce c = omega arith
 
@@ -30,16 +37,16 @@ shared-slice-read-reduce c = omega arith
 
 reduce-requires : tie.Need-reduce-requires Inv-loop μ-loop
 reduce-requires c κs =
-    let L = c .before .before in
+    let L = c .before .before .before .before in
     let given = L .before .before .pre in
     (given .0 .0, given .1 (L .loop .k - 1) (omega arith))
 
 returns : tie.Need-returns Inv-loop μ-loop
 returns c =
-    let L = c .before .before .before .before in
+    let L = c .before .before .before .before .before .before in
     let A = L .before .before .args in
     let value = c .before .reduce .ensures in
-    let counts : getD (A .h .now) (L .loop .k - 1) 0 % A .modulus .p ≡ 0 → ⊥ = λ z. c .if1 .taken (value ∙ z) in
+    let counts : getD (A .h .now) (L .loop .k - 1) 0 % A .modulus .p ≡ 0 → ⊥ = λ z. c .if2 .taken (value ∙ z) in
     let next : L .loop .k ≡ L .loop .k - 1 + 1 = omega arith in
     let inside : L .loop .k ≤ length (A .h .now) = omega arith in (
       sym (ap length (L .loop .inv .1) ∙ size-take (A .modulus .p) (A .h .now) _ _ next inside counts),
@@ -51,9 +58,20 @@ loop-less c = omega arith
 
 loop-again : tie.Need-loop-again Inv-loop μ-loop
 loop-again c =
-    let L = c .before .before .before .before in
+    let L = c .before .before .before .before .before .before in
     let A = L .before .before .args in
-    let zero = sym (c .before .reduce .ensures) ∙ c .if1 .left in
+    let zero = sym (c .before .reduce .ensures) ∙ c .if2 .left in
+    let next : L .loop .k ≡ L .loop .k - 1 + 1 = omega arith in
+    (omega arith, L .loop .inv .1 ∙ reduced-take-zero (A .modulus .p) (A .h .now) _ _ next (omega arith) zero)
+
+loop-less-2 : tie.Need-loop-less-2 Inv-loop μ-loop
+loop-less-2 c = omega arith
+
+loop-again-2 : tie.Need-loop-again-2 Inv-loop μ-loop
+loop-again-2 c =
+    let L = c .before .before .before in
+    let A = L .before .before .args in
+    let zero = ap (λ w. w % A .modulus .p) (c .if1 .left) ∙ zero-mod (A .modulus .p) in
     let next : L .loop .k ≡ L .loop .k - 1 + 1 = omega arith in
     (omega arith, L .loop .inv .1 ∙ reduced-take-zero (A .modulus .p) (A .h .now) _ _ next (omega arith) zero)
 
@@ -73,10 +91,14 @@ find-leading-spec =
     μ-loop
     loop-holds
     sub-i
+    mul-if1
+    shared-slice-read-if1
     mul-reduce
     shared-slice-read-reduce
     reduce-requires
     returns
     loop-less
     loop-again
+    loop-less-2
+    loop-again-2
     returns-2)
