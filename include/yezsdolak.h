@@ -57,7 +57,7 @@ enum {
 //   35  q·A is not zero; place is the first such column
 //   36  q·b is zero; place 0
 // The certificate's file, after 10 and before all others:
-//   63  it is not whole words, or has more than 8,796 bytes, which is one word more than the longest has; place 0
+//   63  it is not whole words; place 0
 static inline unsigned yezsdolak_number(uint64_t result)
 {
     return (unsigned)(result % 64);

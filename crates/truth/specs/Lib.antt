@@ -10,3 +10,4 @@ pub mod Demand
 pub mod Denominators
 pub mod Cases
 pub mod Places
+pub mod Prefix

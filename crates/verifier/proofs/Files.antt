@@ -14,41 +14,11 @@ use Rattle.words.specs.LimitsLaws.{LimitsFit, office-fits}
 use Rattle.words.specs.Outcome.{Outcome, followedBy}
 use Rattle.words.specs.Outcome.Outcome.{accepted, refused}
 use Rattle.words.specs.Bytes.{wordsOf, broken, tooLong}
-use Rattle.words.specs.System.{System, shape, readSystem}
-use Rattle.words.specs.SystemLaws.{system-written-of-read}
-use Rattle.words.specs.Certificate.{readCertificate}
-use Rattle.words.specs.PrefixLaws.{certificate-prefix}
 use Rattle.reader.specs.Unpacking.{Unpacked}
-use Rattle.truth.specs.Verdict.{verdict, certificateVerdict}
+use Rattle.truth.specs.Verdict.{verdict}
+use Rattle.truth.specs.Prefix.{verdict-room}
 use Rattle.verifier.specs.File.{firstOf, fileVerdict}
 use Rattle.verifier.specs.File.FileOutcome.{told, notCertificate}
-
--- ---- a certificate's words, cut behind more than any certificate has
-
-module _ (limits : Limits) (fit : LimitsFit limits) (ws cs : List ℕ) (count : ℕ) (long : longestCertificate limits < count) where
-  verdict-prefix : count ≤ length cs → verdict limits ws (take count cs) ≡ verdict limits ws cs
-  unfolding verdict
-  verdict-prefix more = go (readSystem limits ws) refl
-    where
-      on : List ℕ → System → Outcome (Unit {0})
-      on vs s = followedBy (readCertificate limits (shape s) vs) (certificateVerdict s)
-
-      go : (o : Outcome System) → readSystem limits ws ≡ o → followedBy o (on (take count cs)) ≡ followedBy o (on cs)
-      go (accepted s) e =
-          let within = system-written-of-read limits fit ws s e .1 .shape in
-          ap (λ o. followedBy o (certificateVerdict s)) (certificate-prefix limits fit (shape s) within count long cs more)
-      go (refused number place) e = refl
-
-  verdict-room : verdict limits ws (take (min (length cs) count) cs) ≡ verdict limits ws cs
-  verdict-room = go (leb (length cs) count) refl
-    where
-      go : (b : Bool) → leb (length cs) count ≡ b → verdict limits ws (take (min (length cs) count) cs) ≡ verdict limits ws cs
-      go true e =
-          ap (λ (n : ℕ). verdict limits ws (take n cs)) (min-eq-left (leb-true (length cs) count e))
-          ∙ ap (verdict limits ws) (take-length cs)
-      go false e =
-          let more : count ≤ length cs = omega (arith, leb-false (length cs) count e) in
-          ap (λ (n : ℕ). verdict limits ws (take n cs)) (min-eq-right more) ∙ verdict-prefix more
 
 module _ (bytes before after : List ℕ) (count : ℕ) (h : Unpacked bytes before after count) where
   known : count ≤ length (wordsOf bytes)

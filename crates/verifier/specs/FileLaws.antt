@@ -1,12 +1,13 @@
 -- Places of what is said of two files: at most one more than the number of words of the longest certificate.
-use Prim.Native.Nat.{ℕ, _+_, _*_, _/_, _≤_}
-use mathlib.Core.Path.{_≡_, refl}
-use mathlib.Core.Bool.{Bool, true, false, not, _&&_, _||_}
+use Prim.Native.Nat.{ℕ, _+_, _*_, _/_, _≤_, min}
+use native.Mathlib.Nat.{min-le-left, min-le-right}
+use mathlib.Core.Path.{_≡_, refl, _∙_}
+use mathlib.Core.Bool.{Bool, true, false, _||_}
 use mathlib.Core.List.{List}
 use native.Mathlib.Omega.{arith}
-use lib.ListN.{length}
-use lib.Dec.{ltb, leb}
-use borrow.Author.Tests.{ltb-false, leb-true}
+use lib.ListN.{length, take, length-take}
+use lib.Dec.{ltb}
+use borrow.Author.Tests.{ltb-false}
 use Rattle.words.specs.Limits.{Limits, longestSystem, longestCertificate}
 use Rattle.words.specs.LimitsLaws.{LimitsFit}
 use Rattle.words.specs.Outcome.{Outcome}
@@ -15,7 +16,8 @@ use Rattle.words.specs.Bytes.{wordsOf, broken, tooLong}
 use Rattle.words.specs.BytesLaws.{length-wordsOf}
 use Rattle.truth.specs.Verdict.{verdict}
 use Rattle.truth.specs.Places.{verdict-place}
-use Rattle.verifier.specs.File.{FileOutcome, certificateFile?, firstOf, fileVerdict}
+use Rattle.truth.specs.Prefix.{verdict-room}
+use Rattle.verifier.specs.File.{FileOutcome, firstOf, fileVerdict}
 use Rattle.verifier.specs.File.FileOutcome.{told, notCertificate}
 
 -- a refusal's place is at most so much
@@ -28,27 +30,36 @@ passed-short true t most n e h = absurd (let z : _≡_ {A = ℕ} 0 1 = cc in ome
 passed-short false true most n e h = absurd (let z : _≡_ {A = ℕ} 0 1 = cc in omega arith)
 passed-short false false most n e h = omega (arith, ltb-false (4 * most) n e)
 
-certificate-short : (b : Bool) (most n : ℕ) → not b && leb n (4 * most) ≡ true → n / 4 ≤ most
-certificate-short true most n h = absurd (let z : _≡_ {A = ℕ} 0 1 = cc in omega arith)
-certificate-short false most n h = omega (arith, leb-true n (4 * most) h)
-
 module _ (limits : Limits) (fit : LimitsFit limits) (system certificate : List ℕ) (b : ℕ)
     (longest-system : longestSystem limits ≤ b) (longest-certificate : longestCertificate limits + 1 ≤ b)
     (rows : limits .rows ≤ b) (columns : limits .columns ≤ b) where
-  by-tests : (x y : Bool) {number place : ℕ} → broken system || tooLong limits system ≡ x → certificateFile? limits certificate ≡ y
+  -- as many of the certificate's words as decide
+  first-words : List ℕ
+  first-words = take (min (length (wordsOf certificate)) (longestCertificate limits + 1)) (wordsOf certificate)
+
+  few-words : length first-words ≤ longestCertificate limits + 1
+  unfolding first-words
+  few-words = omega (
+    arith,
+    length-take (min (length (wordsOf certificate)) (longestCertificate limits + 1)) (wordsOf certificate),
+    min-le-right (length (wordsOf certificate)) (longestCertificate limits + 1),
+    min-le-left (min (length (wordsOf certificate)) (longestCertificate limits + 1)) (length (wordsOf certificate)),
+  )
+
+  by-tests : (x y : Bool) {number place : ℕ} → broken system || tooLong limits system ≡ x → broken certificate ≡ y
       → firstOf x y (verdict limits (wordsOf system) (wordsOf certificate)) ≡ told (refused number place) → place ≤ b
-  unfolding certificateFile?
+  unfolding first-words
   by-tests true y {place = place} long whole e = let same : place ≡ 0 = cc in omega arith
-  by-tests false false long whole e = absurd (let z : _≡_ {A = ℕ} 0 1 = cc in omega arith)
-  by-tests false true {number} {place} long whole e =
+  by-tests false true long whole e = absurd (let z : _≡_ {A = ℕ} 0 1 = cc in omega arith)
+  by-tests false false {number} {place} long whole e =
       let words : verdict limits (wordsOf system) (wordsOf certificate) ≡ refused number place = cc in
       let short = passed-short (broken system) (tooLong limits system) (longestSystem limits) (length system) refl long in
-      let short′ = certificate-short (broken certificate) (longestCertificate limits + 1) (length certificate) whole in
-      verdict-place limits fit (wordsOf system) (wordsOf certificate) b (omega (arith, length-wordsOf system, short))
-      (omega (arith, length-wordsOf certificate, short′)) rows columns (omega arith) words
+      verdict-place limits fit (wordsOf system) first-words b (omega (arith, length-wordsOf system, short))
+      (omega (arith, few-words)) rows columns (omega arith)
+      (verdict-room limits fit (wordsOf system) (wordsOf certificate) (longestCertificate limits + 1) (omega arith) ∙ words)
 
   pub file-verdict-most : VerdictMost b (fileVerdict limits system certificate)
   unfolding fileVerdict
   file-verdict-most = record {
-    places = λ number place e. by-tests (broken system || tooLong limits system) (certificateFile? limits certificate) refl refl e;
+    places = λ number place e. by-tests (broken system || tooLong limits system) (broken certificate) refl refl e;
   }
