@@ -9,7 +9,8 @@ use lib.ListN.{length, getD, set}
 use Rattle.vector.specs.Bound.{AtMost}
 use Rattle.vector.specs.Stored.{stored}
 use Rattle.lattice.specs.Memory.{Level, ValidLevel}
-use Rattle.second.specs.Words.{reversed, lift, tailWord, rightWord, right-beside, right-empty, right-low, right-far, right-value}
+use Rattle.second.specs.Words.{reversed, lift, tailWord, rightWord}
+use Rattle.second.specs.Words.{right-beside, right-empty, right-low, right-far, right-value}
 use Rattle.second.specs.Filling.{Filling, filling-start, filling-skip, filling-put, filling-end}
 
 -- behind their sizes the tails of a level are 0

@@ -6,7 +6,8 @@ use native.Mathlib.Omega.{arith}
 use lib.ListN.{length, getD, set}
 use Rattle.vector.specs.Bound.{AtMost}
 use Rattle.vector.specs.Stored.{stored}
-use Rattle.second.specs.Words.{reversed, lift, blockWord, transposedSize, size-beyond, size-empty, size-filled, transposedWord}
+use Rattle.second.specs.Words.{reversed, lift, blockWord, transposedWord}
+use Rattle.second.specs.Words.{transposedSize, size-beyond, size-empty, size-filled}
 use Rattle.second.specs.Words.{transposed-beyond, transposed-beside, transposed-tail, transposed-low, transposed-value}
 use Rattle.second.specs.Filling.{Filling, filling-start, filling-skip, filling-put, filling-end}
 
@@ -34,9 +35,11 @@ turn-slot x k low high = go (x % 256 / 8) (7 - x % 8) (x / 256) (omega arith) (o
     go c b a hc hb l h = omega arith
 
 turn-lane : (x k i : ℕ) → i < 8 → 256 * k + 32 * i ≤ transposeRank x → transposeRank x < 256 * k + 32 * i + 32 → 7 - x % 8 ≡ i
-turn-lane x k i hi low high = go (x % 256 / 8) (7 - x % 8) (x / 256) (omega arith) (turn-slot x k (omega arith) (omega arith)) low high
+turn-lane x k i hi low high =
+    go (x % 256 / 8) (7 - x % 8) (x / 256) (omega arith) (turn-slot x k (omega arith) (omega arith)) low high
   where
-    go : (c b a : ℕ) → c < 32 → a ≡ k → 256 * k + 32 * i ≤ a * 256 + b * 32 + c → a * 256 + b * 32 + c < 256 * k + 32 * i + 32 → b ≡ i
+    go : (c b a : ℕ) → c < 32 → a ≡ k → 256 * k + 32 * i ≤ a * 256 + b * 32 + c
+        → a * 256 + b * 32 + c < 256 * k + 32 * i + 32 → b ≡ i
     go c b a hc e l h = omega arith
 
 place-of : (x k i e : ℕ) → x / 256 ≡ k → 7 - x % 8 ≡ i → x % 256 / 8 ≡ e → x ≡ 256 * k + 8 * e + (7 - i)
@@ -60,7 +63,8 @@ module _ (s z : List ℕ) (n : ℕ) {size : ℕ} {w : List ℕ} where
 
   module _ (k : ℕ) (slot : k < n) where
     -- slot k is empty
-    pub transposing-empty : Transposing s z n size w (256 * k) → ¬ (0 < getD z (reversed n k) 0) → Transposing s z n size w (256 * (k + 1))
+    pub transposing-empty : Transposing s z n size w (256 * k) → ¬ (0 < getD z (reversed n k) 0)
+        → Transposing s z n size w (256 * (k + 1))
     transposing-empty so-far none = filling-skip so-far (256 * (k + 1)) (omega arith) rest
       where
         rest : (x : ℕ) → x < 2048 → 256 * k ≤ transposeRank x → transposeRank x < 256 * (k + 1) → transposedWord s z n x ≡ 0

@@ -13,7 +13,7 @@ use Rattle.reduction.specs.Transpose.{back}
 use Rattle.vector.specs.Stored.{stored, stored-inside, stored-outside, length-stored, below-or-not}
 use Rattle.lattice.specs.Memory.{row, height, ZeroFrom, Ends, Level, slotSize, tailSize, ValidSlot, ValidLevel}
 use Rattle.second.specs.Words.{when, when-yes, when-no, reversed, lift, blockWord, transposedWord, transposedSize}
-use Rattle.second.specs.Words.{size-beyond, size-empty, size-filled, size-inside}
+use Rattle.second.specs.Words.{size-beyond, size-empty, size-filled}
 use Rattle.second.specs.Cells.{weight, cell-empty, cell-low, cell-value, cell-tail}
 use Rattle.second.specs.Transposed.{size-stored}
 

@@ -56,13 +56,6 @@ module _ (z : List ℕ) (n k : ℕ) where
     pub size-filled : 0 < getD z (reversed n k) 0 → transposedSize z n k ≡ 128 - k
     size-filled some = when-yes (decLt k n) _ slot ∙ when-yes (decLt 0 (getD z (reversed n k) 0)) (128 - k) some
 
-  size-within : Dec (k < n) → 0 < transposedSize z n k → k < n
-  size-within (yes h) some = h
-  size-within (no h) some = absurd (omega (arith, size-beyond h))
-
-  pub size-inside : 0 < transposedSize z n k → k < n
-  size-inside = size-within (decLt k n)
-
 -- slot k has at coordinate i what slot n - 1 - i of the level has at coordinate n - 1 - k; empty slots and tails are 0
 abbrev pub transposedWord : (s z : List ℕ) (n x : ℕ) → ℕ
 transposedWord s z n x =

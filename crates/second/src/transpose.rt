@@ -67,7 +67,8 @@ pub fn transpose_slot(slots: &[u64], sizes: &[usize], n: usize, k: usize, out: &
 // Stores the transposed slots, their tails 0, into cleared memory: only the slots that are filled.
 pub fn transpose_slots(slots: &[u64], sizes: &[usize], n: usize, out: &mut [u64])
     requires { ⌜ InRoom (now slots) (now sizes) × (n ≤ 8) × (2048 ≤ length (now out)) × AtMost 0 (now out) ⌝ }
-    ensures { λ _. ⌜ now (out .exit) ≡ stored (transposedWord (now (slots .entry)) (now (sizes .entry)) n) (now (out .entry)) 0 2048 ⌝ }
+    ensures { λ _. ⌜ now (out .exit) ≡ stored (transposedWord (now (slots .entry)) (now (sizes .entry)) n)
+        (now (out .entry)) 0 2048 ⌝ }
 {
     let mut k = 0;
     while k < n {

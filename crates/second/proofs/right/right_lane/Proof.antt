@@ -140,8 +140,8 @@ loop-again c =
     let S = L .before .before .before .before .before .before .before .before in
     let some : 0 < getD (S .args .sizes .now) (reversed (S .args .n) (S .args .i)) 0 = omega arith in
     let short = S .pre .0 .1 .short (S .args .n - 1 - S .args .i) (omega arith) in
-    right-turn (S .args .slots .now) (S .args .sizes .now) (S .args .n) (S .args .i) (S .pre .0 .3) some (S .pre .0 .2) (L .loop .inv) (omega arith) (omega (arith, short)) _
-    (c .before .place-in-right .ensures .0) _ refl
+    right-turn (S .args .slots .now) (S .args .sizes .now) (S .args .n) (S .args .i) (S .pre .0 .3) some (S .pre .0 .2)
+    (L .loop .inv) (omega arith) (omega (arith, short)) _ (c .before .place-in-right .ensures .0) _ refl
 
 -- src/right.rt:20:1
 same-length : tie.Need-same-length Inv-loop μ-loop
@@ -152,7 +152,8 @@ returns-2 : tie.Need-returns-2 Inv-loop μ-loop
 returns-2 c =
     let S = c .before .before .before .before .before .before .before .before .before in
     let some : 0 < getD (S .args .sizes .now) (reversed (S .args .n) (S .args .i)) 0 = omega arith in
-    right-end (S .args .slots .now) (S .args .sizes .now) (S .args .n) (S .args .i) (S .pre .0 .3) some (S .pre .0 .2) (S .pre .0 .1) (c .before .loop .inv) (omega arith)
+    right-end (S .args .slots .now) (S .args .sizes .now) (S .args .n) (S .args .i) (S .pre .0 .3) some (S .pre .0 .2)
+    (S .pre .0 .1) (c .before .loop .inv) (omega arith)
 
 pub right-lane-spec : {M : Type 1} → statement M
 right-lane-spec =

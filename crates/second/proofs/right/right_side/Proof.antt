@@ -21,7 +21,8 @@ abbrev μ-loop : tie.MeasureT-loop
 loop-holds : tie.Need-loop-holds Inv-loop μ-loop
 loop-holds c =
     let S = c .before .before .before in
-    (omega arith, righting-start (S .args .slots .now) (S .args .sizes .now) (S .args .n) (S .args .out .now) (S .pre .3) (S .pre .4))
+    let start = righting-start (S .args .slots .now) (S .args .sizes .now) (S .args .n) (S .args .out .now) (S .pre .3) (S .pre .4) in
+    (omega arith, start)
 
 -- src/right.rt:48:9
 right-lane-requires : tie.Need-right-lane-requires Inv-loop μ-loop
@@ -54,7 +55,8 @@ returns : tie.Need-returns Inv-loop μ-loop
 returns c =
     let S = c .before .before .before .before .before in
     let inv = c .before .loop .inv in
-    righting-end (S .args .slots .now) (S .args .sizes .now) (S .args .n) (filling-same (inv .1) refl (omega (arith, inv .0))) (S .args .out .now) refl (S .pre .4) (S .pre .2)
+    righting-end (S .args .slots .now) (S .args .sizes .now) (S .args .n)
+    (filling-same (inv .1) refl (omega (arith, inv .0))) (S .args .out .now) refl (S .pre .4) (S .pre .2)
 
 pub right-side-spec : {M : Type 1} → statement M
 right-side-spec =

@@ -21,7 +21,8 @@ abbrev μ-loop : tie.MeasureT-loop
 loop-holds : tie.Need-loop-holds Inv-loop μ-loop
 loop-holds c =
     let S = c .before .before .before in
-    (omega arith, transposing-start (S .args .slots .now) (S .args .sizes .now) (S .args .n) (S .args .out .now) (S .pre .2) (S .pre .3))
+    let start = transposing-start (S .args .slots .now) (S .args .sizes .now) (S .args .n) (S .args .out .now) (S .pre .2) (S .pre .3) in
+    (omega arith, start)
 
 -- src/transpose.rt:74:9
 transpose-slot-requires : tie.Need-transpose-slot-requires Inv-loop μ-loop
@@ -54,7 +55,8 @@ returns : tie.Need-returns Inv-loop μ-loop
 returns c =
     let S = c .before .before .before .before .before in
     let inv = c .before .loop .inv in
-    transposing-end (S .args .slots .now) (S .args .sizes .now) (S .args .n) (filling-same (inv .1) refl (omega (arith, inv .0))) (S .args .out .now) refl (S .pre .3) (S .pre .1)
+    transposing-end (S .args .slots .now) (S .args .sizes .now) (S .args .n)
+    (filling-same (inv .1) refl (omega (arith, inv .0))) (S .args .out .now) refl (S .pre .3) (S .pre .1)
 
 pub transpose-slots-spec : {M : Type 1} → statement M
 transpose-slots-spec =
