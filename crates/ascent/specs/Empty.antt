@@ -15,12 +15,6 @@ use Rattle.areas.specs.Input.{Equations, HoldsSystem}
 use Rattle.ascent.specs.Ascended.{HoldsLevels, HasLevels}
 use Rattle.ascent.specs.Certifies.{HasSystem}
 
--- a new array
-pub zeros-at-most : (n : ℕ) → AtMost 0 (replicate n 0)
-zeros-at-most zero i = omega arith
-zeros-at-most (suc n) zero = omega arith
-zeros-at-most (suc n) (suc i) = zeros-at-most n i
-
 -- no slot filled
 abbrev empty : {p : ℕ} (prime : Prime p) → Slots (Polynomial (residues p prime))
 empty {p} prime = record { at = λ q k. polynomials (residues p prime) .zero; size = λ q. 0 }

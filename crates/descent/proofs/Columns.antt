@@ -22,7 +22,7 @@ use Rattle.vector.specs.Stored.{stored, length-stored, stored-inside, stored-ou
 use Rattle.reduction.specs.Holds.{Holds, read, read-at, read-beyond}
 use Rattle.reduction.specs.Flat.{Flat, flat}
 use Rattle.lattice.specs.Memory.{ZeroFrom, Ends}
-use Rattle.lattice.specs.Word.{residue, residue-mod, residue-neg, residue-zero}
+use Rattle.lattice.specs.Word.{residue, residue-minus, residue-zero}
 use Rattle.lattice.specs.Word.{zero-residue, words, words-inside, words-behind, words-first}
 use Rattle.lattice.specs.Range.{words-same, words-zero}
 use Rattle.lattice.specs.Reading.{flat-same}
@@ -35,17 +35,10 @@ module _ {p : ℕ} (prime₀ : Prime p) where
   positive : 0 < p
   positive = omega (arith, prime₀ .large)
 
-  negated : (prime : Prime p) (w : ℕ) → residue p prime (modulo p .neg (w % p)) ≡ residues p prime .ring .neg (residue p prime w)
-  unfolding modulo
-  negated prime w =
-      residue-mod p prime (p - w % p)
-      ∙ residue-neg p prime (w % p) (mod-lt w positive)
-      ∙ ap (residues p prime .ring .neg) (residue-mod p prime w)
-
   -- minus w is zero where w is, and only there
   neg-zero-word : (w : ℕ) → w % p ≡ 0 → modulo p .neg (w % p) % p ≡ 0
   neg-zero-word w e = zero-residue p prime₀ _
-      (negated prime₀ w ∙ ap (residues p prime₀ .ring .neg) (residue-zero p prime₀ w e) ∙ neg-zero (residues p prime₀ .ring))
+      (residue-minus p prime₀ w ∙ ap (residues p prime₀ .ring .neg) (residue-zero p prime₀ w e) ∙ neg-zero (residues p prime₀ .ring))
 
   neg-positive : (w : ℕ) → 0 < w % p → 0 < modulo p .neg (w % p) % p
   unfolding modulo
@@ -102,7 +95,7 @@ module _ {p : ℕ} (prime₀ : Prime p) where
       word-is : (j : ℕ) → j < 128 → residue p prime (getD h′ (a + j) 0) ≡ coefficients (residues p prime) x j
       word-is j lt =
           ap (residue p prime) (stored-word j lt)
-          ∙ negated prime (getD y j 0)
+          ∙ residue-minus p prime (getD y j 0)
           ∙ ap (residues p prime .ring .neg) (sym (words-first p prime y 256 j (omega arith)))
           ∙ sym (coefficient-is j)
 

@@ -62,6 +62,13 @@ module _ (p : ℕ) (prime : Prime p) where
   unfolding reduce residues residueRing
   residue-neg a h = residue-ext _ _ (ap (λ x. (p - x) % p) (sym (mod-eq-of-lt h)))
 
+  pub residue-minus : (w : ℕ) → residue (modulo p .neg (w % p)) ≡ ⊝ residue w
+  unfolding modulo
+  residue-minus w =
+      residue-mod (p - w % p)
+      ∙ residue-neg (w % p) (mod-lt w (let large = prime .large in omega arith))
+      ∙ ap ⊝_ (residue-mod w)
+
   pub residue-inverse : (a : ℕ) → a < p → residue (modulo p .inverse a) ≡ F .inverse (residue a)
   unfolding reduce residues residueRing modulo
   residue-inverse a h = residue-ext _ _

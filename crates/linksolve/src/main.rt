@@ -12,7 +12,7 @@ use solver::file::solve_file;
 // A byte more than the longest sheet has: what fills it is refused, like all that is longer.
 const INPUT: usize = Office::FILE_BYTES + 1;
 
-const CARD: usize = 4 * Office::CERTIFICATE_WORDS;
+const OUTPUT: usize = 4 * Office::CERTIFICATE_WORDS;
 
 // The report of a file that is refused is the refusal.
 fn refuse(file: &[u8]) {
@@ -22,11 +22,11 @@ fn refuse(file: &[u8]) {
 }
 
 fn answer(file: &[u8]) {
-    let mut card = [0u8; CARD];
-    let solved = solve_file(file, &mut card);
+    let mut certificate = [0u8; OUTPUT];
+    let solved = solve_file(file, &mut certificate);
     match solved {
         Solved::Count(n) => {
-            io::write_all(STDOUT_FILENO, &card[0..n]);
+            io::write_all(STDOUT_FILENO, &certificate[0..n]);
         }
         Solved::Refused(_, _) => refuse(file),
     }

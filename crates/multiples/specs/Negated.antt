@@ -15,14 +15,8 @@ use Rattle.residue.specs.Below.{neg-below}
 use Rattle.vector.specs.Bound.{AtMost, at-most-stored}
 use Rattle.vector.specs.Stored.{stored, length-stored, stored-inside}
 use Rattle.reduction.specs.Holds.{Holds, read, read-at, read-beyond}
-use Rattle.lattice.specs.Word.{residue, residue-mod, residue-neg, words, words-behind, words-first}
+use Rattle.lattice.specs.Word.{residue, residue-minus, words, words-behind, words-first}
 use Rattle.descent.specs.Product.{strided}
-
--- an array that was just made
-pub zeros : (n : ℕ) → AtMost 0 (replicate n 0)
-zeros zero i = omega arith
-zeros (suc n) zero = omega arith
-zeros (suc n) (suc i) = zeros n i
 
 module _ {p : ℕ} (prime₀ : Prime p) (h h′ f : List ℕ) (n : ℕ)
     (stores : h′ ≡ stored (λ j. modulo p .neg (getD f j 0 % p)) h 0 n) where
@@ -40,13 +34,6 @@ module _ {p : ℕ} (prime₀ : Prime p) (h h′ f : List ℕ) (n : ℕ)
 
   module _ (room : n ≤ length h) (prime : Prime p) (x : Polynomial (residues p prime))
       (A : Holds (residues p prime) (words p prime f 0 n) x) where
-    negated : (w : ℕ) → residue p prime (modulo p .neg (w % p)) ≡ residues p prime .ring .neg (residue p prime w)
-    unfolding modulo
-    negated w =
-        residue-mod p prime (p - w % p)
-        ∙ residue-neg p prime (w % p) (mod-lt w (omega (arith, prime .large)))
-        ∙ ap (residues p prime .ring .neg) (residue-mod p prime w)
-
     coefficient : (j : ℕ) → Dec (j < n)
         → coefficients (residues p prime) (read (residues p prime) n (strided p prime h′ 0 1)) j
         ≡ residues p prime .ring .neg (words p prime f 0 n j)
@@ -56,7 +43,7 @@ module _ {p : ℕ} (prime₀ : Prime p) (h h′ f : List ℕ) (n : ℕ)
         ∙ ap (λ i. residue p prime (getD h′ i 0)) place
         ∙ ap (λ l. residue p prime (getD l (0 + j) 0)) stores
         ∙ ap (residue p prime) (stored-inside _ h 0 n j (omega arith) lt)
-        ∙ negated (getD f j 0)
+        ∙ residue-minus p prime (getD f j 0)
         ∙ ap (residues p prime .ring .neg) (sym (words-first p prime f n j lt))
     coefficient j (no ge) =
         read-beyond (residues p prime) n (strided p prime h′ 0 1) j (omega arith)

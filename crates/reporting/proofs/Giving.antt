@@ -47,12 +47,6 @@ module _ {entry exit : List ℕ} {count : ℕ} where
 
 -- ---- a certificate in memory
 
--- a cleared area
-pub zeros-none : (n : ℕ) → AtMost 0 (replicate n 0)
-zeros-none zero i = omega arith
-zeros-none (suc n) zero = omega arith
-zeros-none (suc n) (suc i) = zeros-none n i
-
 module _ {h : Shape} {ws : List ℕ} (R : Read h ws) (output : List ℕ) (solved : Bool)
     (certified : (s : System) → readSystem office ws ≡ accepted s → Certified s output solved) where
   pub output-valid : (p : ℕ) × ValidOutput p output × (p ≤ 65521)

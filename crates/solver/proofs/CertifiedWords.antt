@@ -24,12 +24,6 @@ use Rattle.meaning.specs.TakenRight.{taken-right, taken-within}
 use Rattle.meaning.specs.Answers.{right-answers}
 use Rattle.solver.specs.Certified.{Read, Certified}
 
--- cleared words
-pub zeros-none : (n : ℕ) → AtMost 0 (replicate n 0)
-zeros-none zero i = omega arith
-zeros-none (suc n) zero = omega arith
-zeros-none (suc n) (suc i) = zeros-none n i
-
 module _ (ws : List ℕ) {s : System} (read : readSystem office ws ≡ accepted s) where
   written : (ws ≡ systemWords s) × SystemWithin office s
   written = system-written-of-read office office-fits ws s read

@@ -3,7 +3,7 @@
 use mathlib.Core.List.{List, [], _∷_}
 use Prim.Native.Nat.{ℕ, zero, suc, _+_, _*_, _≤_, _<_}
 use native.Mathlib.Omega.{arith}
-use lib.ListN.{getD, set}
+use lib.ListN.{getD, set, replicate}
 use Rattle.vector.specs.Stored.{stored}
 use Rattle.vector.specs.Multiple.{sumAt}
 
@@ -14,6 +14,12 @@ Reducible p l n = (j : ℕ) → j < n → getD l j 0 < 4294967296 * p
 -- every word is at most b
 abbrev pub AtMost : ℕ → List ℕ → Type 0
 AtMost b l = (i : ℕ) → getD l i 0 ≤ b
+
+-- an array that was just made
+pub zeros-none : (n : ℕ) → AtMost 0 (replicate n 0)
+zeros-none zero i = omega arith
+zeros-none (suc n) zero = omega arith
+zeros-none (suc n) (suc i) = zeros-none n i
 
 pub at-most-reducible : (b p : ℕ) (l : List ℕ) (n : ℕ) → b < 4294967296 * p → AtMost b l → Reducible p l n
 at-most-reducible b p l n small h j lt = omega (arith, h j)

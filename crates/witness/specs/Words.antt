@@ -15,7 +15,7 @@ use Rattle.modular.specs.Residue.{residues}
 use Rattle.vector.specs.Stored.{stored, stored-inside, below-or-not}
 use Rattle.vector.specs.Bound.{at-most-stored}
 use Rattle.reduction.specs.Holds.{Holds}
-use Rattle.lattice.specs.Word.{residue, residue-mod, residue-neg, words, words-inside, words-behind}
+use Rattle.lattice.specs.Word.{residue-minus, words, words-inside, words-behind}
 use Rattle.lattice.specs.Memory.{ZeroFrom}
 use Rattle.lattice.specs.Range.{words-same, words-zero, zero-word}
 
@@ -58,13 +58,6 @@ module _ (p : ℕ) (prime : Prime p) where
         ∙ sym (ap (λ k. getD copied k 0 % p) target
         ∙ ap (λ w. w % p) (stored-inside (λ j. getD s (a + j) 0) l d m (c - d + x) room (omega arith))))
 
-  negated : (w : ℕ) → residue p prime (modulo p .neg (w % p)) ≡ residues p prime .ring .neg (residue p prime w)
-  unfolding modulo
-  negated w =
-      residue-mod p prime (p - w % p)
-      ∙ residue-neg p prime (w % p) (mod-lt w (omega (arith, prime .large)))
-      ∙ ap (residues p prime .ring .neg) (residue-mod p prime w)
-
   -- the first m words of s are negated, to the same places of l: n of them, from i on
   module _ (s l : List ℕ) (m : ℕ) where
     abbrev opposite : List ℕ
@@ -87,7 +80,7 @@ module _ (p : ℕ) (prime : Prime p) where
             ∙ sym (words-inside p prime opposite i n j lt
             ∙ ap (λ k. residue p prime (getD opposite k 0)) place
             ∙ ap (residue p prime) (stored-inside (λ j. modulo p .neg (getD s j 0 % p)) l 0 m (i + j) (omega arith) (omega arith))
-            ∙ negated (getD s (i + j) 0)))
+            ∙ residue-minus p prime (getD s (i + j) 0)))
             (λ ge.
             ap (residues p prime .ring .neg) (words-behind p prime s i n j ge)
             ∙ neg-zero (residues p prime .ring)

@@ -4,7 +4,8 @@ use native.Mathlib.Omega.{arith}
 use lib.ListN.{replicate}
 use borrow.Author.Needs.{needs}
 use Rattle.lattice.specs.Memory.{Level, level}
-use Rattle.ascent.specs.Empty.{zeros-at-most, empty-valid, has-empty}
+use Rattle.vector.specs.Bound.{zeros-none}
+use Rattle.ascent.specs.Empty.{empty-valid, has-empty}
 use Rattle.ascent.specs.Bottom.{certifies}
 use Rattle.ascent.proofs.certify.Statement.{statement}
 use Rattle.ascent.proofs.certify.Tie as tie
@@ -31,8 +32,8 @@ ascend-requires c κs =
     let have = given .0 in (
       (have .0, have .1, have .2, omega arith, have .3),
       (
-        empty-valid first (zeros-at-most 2048) (zeros-at-most 16) (have .0 .prime) refl refl refl,
-        (has-empty first (zeros-at-most 2048) (zeros-at-most 16) (given .1 .0), (refl, given .1 .1)),
+        empty-valid first (zeros-none 2048) (zeros-none 16) (have .0 .prime) refl refl refl,
+        (has-empty first (zeros-none 2048) (zeros-none 16) (given .1 .0), (refl, given .1 .1)),
       ),
     )
 
@@ -41,7 +42,7 @@ same-length c = search needs
 
 returns : tie.Need-returns
 returns c =
-    certifies (c .before .before .before .before .before .before .before .before .before .before .before .pre .0 .1) _ _ (zeros-at-most 2048) (zeros-at-most 16) (c .before .before .before .ascend .ensures)
+    certifies (c .before .before .before .before .before .before .before .before .before .before .before .pre .0 .1) _ _ (zeros-none 2048) (zeros-none 16) (c .before .before .before .ascend .ensures)
 
 pub certify-spec : {M : Type 1} → statement M
 certify-spec =

@@ -1,6 +1,7 @@
 -- What is certified is reported (`Giving`).
 use mathlib.Core.Path.{refl}
-use Rattle.reporting.proofs.Giving.{zeros-none, output-valid, given-solution, given-none}
+use Rattle.vector.specs.Bound.{zeros-none}
+use Rattle.reporting.proofs.Giving.{output-valid, given-solution, given-none}
 use borrow.Author.Needs.{needs}
 use Rattle.reporting.proofs.report_read.Statement.{statement}
 use Rattle.reporting.proofs.report_read.Tie as tie

@@ -1,6 +1,7 @@
 -- What was certified is written (`Writing`).
 use mathlib.Core.Path.{refl}
-use Rattle.solver.proofs.CertifiedWords.{zeros-none, read-shape}
+use Rattle.vector.specs.Bound.{zeros-none}
+use Rattle.solver.proofs.CertifiedWords.{read-shape}
 use Rattle.solver.proofs.Writing.{output-valid, gives}
 use borrow.Author.Needs.{needs}
 use Rattle.solver.proofs.solve_read.Statement.{statement}

@@ -10,7 +10,7 @@ use Rattle.witness.proofs.find_witness.Reads as find-witness-reads
 use Rattle.ascent.specs.Rising.{has-raised}
 use Rattle.ascent.specs.Top.{has-last, witnessed}
 use Rattle.ascent.specs.Falling.{ascended-turn, ascended-none}
-use Rattle.ascent.specs.Empty.{zeros-at-most}
+use Rattle.vector.specs.Bound.{zeros-none}
 use Rattle.ascent.proofs.ascending.ascend.Reads as ascend
 use Rattle.ascent.proofs.ascending.ascend.Kinds as ascend-kinds
 use Rattle.ascent.proofs.ascending.+ascend.Lts-ascend as ascend-lts
@@ -82,7 +82,7 @@ next-level-requires t c κs =
       (given .0 .0, given .1 .0),
       (
         (omega (arith, input .room), input .below),
-        ((refl, refl, refl, refl), (zeros-at-most 2048, zeros-at-most 16)),
+        ((refl, refl, refl, refl), (zeros-none 2048, zeros-none 16)),
       ),
     )
 

@@ -2,7 +2,7 @@
 use mathlib.Core.Path.{refl}
 use native.Mathlib.Omega.{arith}
 use borrow.Author.Needs.{needs}
-use Rattle.ascent.specs.Empty.{zeros-at-most}
+use Rattle.vector.specs.Bound.{zeros-none}
 use Rattle.ascent.proofs.descending.descend.Statement.{statement}
 use Rattle.ascent.proofs.descending.descend.Tie as tie
 
@@ -34,7 +34,7 @@ descend-column-requires c κs =
         given .1 .1 .0,
         (
           (omega (arith, input .room), input .below),
-          (given .1 .1 .1 .0, ((omega (arith, output .room), output .below), ((refl, refl, refl), (zeros-at-most 1088, zeros-at-most 256)))),
+          (given .1 .1 .1 .0, ((omega (arith, output .room), output .below), ((refl, refl, refl), (zeros-none 1088, zeros-none 256)))),
         ),
       ),
     )

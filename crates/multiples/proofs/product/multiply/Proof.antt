@@ -2,7 +2,8 @@
 use native.Mathlib.Omega.{arith}
 use borrow.Author.Needs.{needs}
 use Rattle.residue.specs.Modulus.{ValidModulus}
-use Rattle.multiples.specs.Negated.{zeros, negated-length, negated-below}
+use Rattle.vector.specs.Bound.{zeros-none}
+use Rattle.multiples.specs.Negated.{negated-length, negated-below}
 use Rattle.multiples.specs.ProductLaws.{cleared-length, cleared-none, product-reducible, multiplied}
 use Rattle.multiples.proofs.product.multiply.Statement.{statement}
 use Rattle.multiples.proofs.product.multiply.Tie as tie
@@ -33,7 +34,7 @@ subtract-product-requires c κs =
       (
         (
           omega (arith, negated-length (m .prime) _ _ (S .args .f .now) (S .args .n) stores),
-          negated-below (m .prime) _ _ (S .args .f .now) (S .args .n) stores (zeros 128),
+          negated-below (m .prime) _ _ (S .args .f .now) (S .args .n) stores (zeros-none 128),
         ),
         ((λ i. omega (arith, cleared-none 128 (S .args .out .now) _ clears (S .pre .0 .5) i)), S .pre .1 .1),
       ),

@@ -1,6 +1,7 @@
 -- The words are laid out, and certified (`CertifiedWords`).
 use mathlib.Core.Path.{refl}
-use Rattle.solver.proofs.CertifiedWords.{zeros-none, read-shape, read-words, lays-valid, lays-system, lays-room, certified}
+use Rattle.vector.specs.Bound.{zeros-none}
+use Rattle.solver.proofs.CertifiedWords.{read-shape, read-words, lays-valid, lays-system, lays-room, certified}
 use borrow.Author.Needs.{needs}
 use Rattle.solver.proofs.certifying.certify_words.Statement.{statement}
 use Rattle.solver.proofs.certifying.certify_words.Tie as tie
