@@ -1,10 +1,11 @@
 -- The invariant of `insert`: memory is in order and holds a state that the insertion has come to.
-use Prim.Native.Nat.{ℕ, _<_}
+use Prim.Native.Nat.{ℕ, _+_, _<_, _≤_}
 use mathlib.Core.Path.{_≡_, refl, _∙_}
+use native.Mathlib.Omega.{arith}
 use lib.ListN.{length}
 use Rattle.modular.specs.Prime.{Prime}
 use Rattle.lattice.specs.Memory.{row, slotSize, Memory, Valid}
-use Rattle.lattice.specs.Moves.{GoesOn, Moved, Stepped}
+use Rattle.lattice.specs.Moves.{Short, GoesOn, Moved, Stepped}
 use Rattle.lattice.specs.Leading.{leads-none, leads-then}
 use Rattle.lattice.specs.Insertion.{Starts, Inserts, starts-room}
 
@@ -19,12 +20,14 @@ pub record SameLengths (M M′ : Memory) : Type 0 where
 pub record Inserting (p : ℕ) (M M′ : Memory) : Type 0 where
   pub lengths : SameLengths M M′
   pub moved : Moved p M M′
+  pub short : Short M′
 
 module _ {p : ℕ} where
-  pub inserting-start : {M : Memory} → Valid p M → Inserting p M M
-  inserting-start {M} valid = record {
+  pub inserting-start : {M : Memory} → Valid p M → Starts p M → Inserting p M M
+  inserting-start {M} valid starts = record {
     lengths = record { slots = refl; sizes = refl; inverses = refl; block = refl; tail = refl };
     moved = record { valid = valid; leads = leads-none M };
+    short = λ q h. omega (arith, starts .tails q h, valid .hand .block .within);
   }
 
   pub inserting-turn : {M M′ M″ : Memory} → Inserting p M M′ → SameLengths M′ M″ → Stepped p M′ M″ → Inserting p M M″
@@ -40,6 +43,7 @@ module _ {p : ℕ} where
       valid = next .moved .valid;
       leads = leads-then M M′ M″ (so-far .moved .leads) (next .moved .leads);
     };
+    short = next .short;
   }
 
   module _ (prime : Prime p) {M M′ : Memory} (valid : Valid p M) (starts : Starts p M) (so-far : Inserting p M M′) where
@@ -48,6 +52,7 @@ module _ {p : ℕ} where
       some = some;
       filled = filled;
       tail = starts-room p prime valid starts (so-far .moved .leads);
+      short = so-far .short;
     }
 
     pub inserting-end : (0 < M′ .hand .size → slotSize (M′ .level) (row (M′ .hand .size)) ≡ 0) → Inserts p M M′

@@ -1,6 +1,6 @@
 -- A step of an insertion: the multiple of the slot at the pivot is taken off the hand, block and tail. It is a `Step` of
 -- `reduction`.
-use Prim.Native.Nat.{ℕ, _+_, _-_, _*_, _/_, _%_, _<_, _≤_, max, min}
+use Prim.Native.Nat.{ℕ, _+_, _-_, _*_, _/_, _%_, _<_, _≤_, max}
 use mathlib.Core.Path.{_≡_, refl, ap}
 use mathlib.Core.List.{List}
 use native.Mathlib.Omega.{arith}
@@ -93,20 +93,20 @@ module _ {p : ℕ} (prime₀ : Prime p) {M : Memory} (valid : Valid p M) (fits :
       )
 
   -- words that `add_scaled` takes of the slot's tail
-  module _ (words : ℕ) (smaller : words ≡ min (height size * 8) (256 - shift)) where
+  module _ (words : ℕ) (rounded : words ≡ height size * 8) where
     pub taking-fits : words ≤ 128
     taking-fits = omega (arith, slot .tail-within)
 
     pub taking-room : shift + words ≤ 256
-    taking-room = omega (arith, taking-inside)
+    taking-room = omega (arith, whole, fits .filled, fits .short (row (M .hand .size)) (omega arith))
 
     pub taking-slot-room : 256 * q + 128 + words ≤ length (L .slots)
     taking-slot-room = omega (arith, valid .level .room, taking-fits)
 
     taking-none : ZeroFrom p (L .slots) (256 * q + 128) 128 words
-    taking-none j h lt = slot .tail j (omega (arith, taking-inside)) lt
+    taking-none j h lt = slot .tail j (omega arith) lt
 
-  module _ (taken : ℕ) (smaller : taken ≡ min (height size * 8) (256 - shift)) (tail′ : List ℕ)
+  module _ (taken : ℕ) (rounded : taken ≡ height size * 8) (tail′ : List ℕ)
       (stores : tail′ ≡ stored (sumAt (M .tail) shift (L .slots) (256 * q + 128) (p - r .factor)) (M .tail) shift taken)
       (t : ℕ) (larger : t ≡ max (M .hand .tail) (shift + size)) where
     abbrev M′ : Memory
@@ -114,7 +114,7 @@ module _ {p : ℕ} (prime₀ : Prime p) {M : Memory} (valid : Valid p M) (fits :
 
     behind : ZeroFrom p tail′ 0 256 t
     behind = zero-kept p prime₀ (M .tail) tail′ (L .slots) shift (256 * q + 128) taken 128 256 (r .factor) stores factor-below
-        (taking-room taken smaller) (valid .hand .tail-room) (taking-none taken smaller) (taking-fits taken smaller)
+        (taking-room taken rounded) (valid .hand .tail-room) (taking-none taken rounded) (taking-fits taken rounded)
         size t (slot .tail) (omega arith) (λ j h lt. valid .hand .tail j (omega arith) lt)
 
     taken-valid : Valid p M′
@@ -189,15 +189,19 @@ module _ {p : ℕ} (prime₀ : Prime p) {M : Memory} (valid : Valid p M) (fits :
               (Stepping.step-upper p prime S (r .factor) (T .factor) block′ (T .words))
               (Stepping.step-lower p prime S (r .factor) (T .factor) block′ (T .words))
               (words-upper p prime (M .tail) tail′ (L .slots) shift (256 * q + 128) taken 128 256 (r .factor) stores
-              factor-below (taking-room taken smaller) (valid .hand .tail-room) (taking-none taken smaller)
-              (taking-fits taken smaller))
+              factor-below (taking-room taken rounded) (valid .hand .tail-room) (taking-none taken rounded)
+              (taking-fits taken rounded))
               (words-lower p prime (M .tail) tail′ (L .slots) shift (256 * q + 128) taken 128 256 (r .factor) stores
-              factor-below (taking-room taken smaller) (valid .hand .tail-room) (taking-none taken smaller)
-              (taking-fits taken smaller));
+              factor-below (taking-room taken rounded) (valid .hand .tail-room) (taking-none taken rounded)
+              (taking-fits taken rounded));
           size = refl;
         };
         trace = step start made;
       }
 
     pub taking-stepped : Stepped p M M′
-    taking-stepped = record { moved = record { valid = taken-valid; leads = reached }; falls = omega (arith, T .fewer) }
+    taking-stepped = record {
+      moved = record { valid = taken-valid; leads = reached };
+      falls = omega (arith, T .fewer);
+      short = λ q h. omega (arith, T .fewer, fits .short q h);
+    }

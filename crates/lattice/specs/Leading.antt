@@ -34,6 +34,12 @@ module _ {p : ℕ} where
       some = omega (arith, x .hand-size);
       filled = rw same (omega (arith, x .slot-size));
       shorter = rw same (omega (arith, x .slot-size, x .hand-size));
+      short = λ q h. omega (
+        arith,
+        x .hand-size,
+        x .valid .level .slot q h .tail-within,
+        valid .level .slot (row (M .hand .size)) (omega arith) .block .within,
+      );
     }
       where
         same : row (M′ .hand .size) ≡ row (M .hand .size)
@@ -43,4 +49,5 @@ module _ {p : ℕ} where
     swapped-stepped {M″} y = record {
       moved = record { valid = y .moved .valid; leads = leads-then M M′ M″ (x .leads (omega arith)) (y .moved .leads) };
       falls = omega (arith, x .places-kept, y .falls);
+      short = y .short;
     }

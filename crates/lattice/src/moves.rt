@@ -8,7 +8,7 @@ use vector::add_scaled;
 use vector::exchange;
 use vector::find_leading;
 ghost use mathlib.Core.Path.{_≡_};
-ghost use Prim.Native.Nat.{max, min};
+ghost use Prim.Native.Nat.{max};
 ghost use Rattle.residue.specs.Modulus.{ValidModulus};
 ghost use Rattle.lattice.specs.Memory.{level, memory, Valid};
 ghost use Rattle.lattice.specs.Moves.{Fits, HasRoom, Stepped, Swapped};
@@ -17,12 +17,6 @@ pub fn larger(a: usize, b: usize) -> usize
     ensures { λ r. ⌜ r ≡ max a b ⌝ }
 {
     if a < b { b } else { a }
-}
-
-pub fn smaller(a: usize, b: usize) -> usize
-    ensures { λ r. ⌜ r ≡ min a b ⌝ }
-{
-    if a < b { a } else { b }
 }
 
 // Takes the multiple of the slot at the pivot off the hand, block and tail, that takes its leading word away.
@@ -55,8 +49,8 @@ pub fn take_from_hand(
     let left = take_multiple(slots, sizes, inverses, block, found, modulus);
     let rest = find_rest(block, left.size, left.leading, modulus);
     let minus = modulus.p - left.factor;
-    // as many words as `take_multiple` would take, where there is room for them
-    let words = smaller((size + 7) / 8 * 8, 256 - shift);
+    // all words of its degrees, as in `take_multiple`
+    let words = (size + 7) / 8 * 8;
     add_scaled(tail, shift, slots, 256 * q + 128, words, minus);
     Hand {
         size: rest.size,

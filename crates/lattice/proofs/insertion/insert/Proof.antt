@@ -18,7 +18,7 @@ abbrev μ-loop : tie.MeasureT-loop
 loop-holds : tie.Need-loop-holds Inv-loop μ-loop
 loop-holds c =
     let S = c .before .before .before .before .before in
-    inserting-start (S .pre .1 .0)
+    inserting-start (S .pre .1 .0) (S .pre .1 .1)
 
 sub-q : tie.Need-sub-q Inv-loop μ-loop
 sub-q c = search needs

@@ -62,7 +62,7 @@ take-from-hand-requires-2 : tie.Need-take-from-hand-requires-2
 take-from-hand-requires-2 c κs =
     let S = c .before .before .before .before .before .before .before .before .before .before .before .before in
     let on = S .pre .1 .1 in
-    (S .pre .0, (S .pre .1 .0, record { some = on .some; filled = on .filled; shorter = omega arith }))
+    (S .pre .0, (S .pre .1 .0, record { some = on .some; filled = on .filled; shorter = omega arith; short = on .short }))
 
 same-length-6 : tie.Need-same-length-6
 same-length-6 c = search needs

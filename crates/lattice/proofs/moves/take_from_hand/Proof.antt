@@ -1,5 +1,6 @@
 -- The step on the block is that of `take_multiple`, and the same multiple is taken off the tail.
 use Prim.Native.Nat.{_+_, _*_, _≤_}
+use mathlib.Core.Path.{refl}
 use native.Mathlib.Omega.{arith}
 use borrow.Author.Needs.{needs}
 use Rattle.residue.specs.Modulus.{ValidModulus}
@@ -60,29 +61,15 @@ sub-minus c =
           (takes-left (S .pre .1 .1 .some) (A .take-multiple .ensures) (F .find-rest .ensures)),
     )
 
-add-smaller : tie.Need-add-smaller
-add-smaller c =
+add-words : tie.Need-add-words
+add-words c =
     let S = c .before .before .before .before .before .before .before .before .before .before .before .before .before .before .before in
     omega (arith, S .pre .1 .0 .level .slot (row (S .args .hand .size)) (omega arith) .tail-within)
 
-mul-smaller : tie.Need-mul-smaller
-mul-smaller c =
+mul-words : tie.Need-mul-words
+mul-words c =
     let S = c .before .before .before .before .before .before .before .before .before .before .before .before .before .before .before in
     omega (arith, S .pre .1 .0 .level .slot (row (S .args .hand .size)) (omega arith) .tail-within)
-
-sub-smaller : tie.Need-sub-smaller
-sub-smaller c =
-    let F = c .before .before in
-    let A = F .before .before .before .before in
-    let S = A .before .before .before .before .before .before .before .before .before in
-    omega (
-      arith,
-      Taking.taking-inside (S .pre .0 .prime) (S .pre .1 .0) (S .pre .1 .1)
-          (takes-left (S .pre .1 .1 .some) (A .take-multiple .ensures) (F .find-rest .ensures)),
-    )
-
-smaller-requires : tie.Need-smaller-requires
-smaller-requires c κs = search needs
 
 mul-add-scaled : tie.Need-mul-add-scaled
 mul-add-scaled c = search needs
@@ -92,19 +79,17 @@ add-add-scaled c = search needs
 
 add-scaled-requires : tie.Need-add-scaled-requires
 add-scaled-requires c κs =
-    let N = c .before in
-    let F = N .before .before .before in
+    let F = c .before .before .before in
     let A = F .before .before .before .before in
     let S = A .before .before .before .before .before .before .before .before .before in
     let m : ValidModulus (S .args .modulus) = S .pre .0 in
     let limit : S .args .modulus .p ≤ 65521 = m .limit in
     let valid = S .pre .1 .0 in
     let fits = S .pre .1 .1 in
-    let taken = takes-left (fits .some) (A .take-multiple .ensures) (F .find-rest .ensures) in
-    let words = N .smaller .ensures in (
+    let taken = takes-left (fits .some) (A .take-multiple .ensures) (F .find-rest .ensures) in (
       (
-        omega (arith, Taking.taking-room (m .prime) valid fits taken _ words, valid .hand .tail-room),
-        Taking.taking-slot-room (m .prime) valid fits taken _ words,
+        omega (arith, Taking.taking-room (m .prime) valid fits taken _ refl, valid .hand .tail-room),
+        Taking.taking-slot-room (m .prime) valid fits taken _ refl,
         omega arith,
       ),
       (
@@ -115,7 +100,7 @@ add-scaled-requires c κs =
 
 add-larger : tie.Need-add-larger
 add-larger c =
-    let F = c .before .before .before .before .before .before .before in
+    let F = c .before .before .before .before .before .before in
     let A = F .before .before .before .before in
     let S = A .before .before .before .before .before .before .before .before .before in
     omega (
@@ -136,13 +121,12 @@ same-length-2 c = search needs
 returns : tie.Need-returns
 returns c =
     let B = c .before .before .before in
-    let N = B .before .before in
-    let F = N .before .before .before in
+    let F = B .before .before .before .before in
     let A = F .before .before .before .before in
     let S = A .before .before .before .before .before .before .before .before .before in
     Taking.taking-stepped (S .pre .0 .prime) (S .pre .1 .0) (S .pre .1 .1)
     (takes-left (S .pre .1 .1 .some) (A .take-multiple .ensures) (F .find-rest .ensures))
-    _ (N .smaller .ensures) _ (B .add-scaled .ensures .0) _ (c .larger .ensures)
+    _ refl _ (B .add-scaled .ensures .0) _ (c .larger .ensures)
 
 pub take-from-hand-spec : {M : Type 1} → statement M
 take-from-hand-spec =
@@ -159,10 +143,8 @@ take-from-hand-spec =
     take-multiple-requires
     find-rest-requires
     sub-minus
-    add-smaller
-    mul-smaller
-    sub-smaller
-    smaller-requires
+    add-words
+    mul-words
     mul-add-scaled
     add-add-scaled
     add-scaled-requires

@@ -1,9 +1,6 @@
 -- The word that is known, or those that `find_leading` finds.
 use Prim.Native.Nat.{_<_}
-use mathlib.Core.Path.{_∙_, sym, ap, subst}
-use native.Mathlib.Nat.{zero-add}
 use native.Mathlib.Omega.{arith}
-use borrow.Author.Needs.{needs}
 use Rattle.residue.specs.Modulus.{ValidModulus}
 use Rattle.lattice.specs.Found.{found-ends, found-leading, found-within}
 use Rattle.lattice.proofs.Stepping.{early-left}

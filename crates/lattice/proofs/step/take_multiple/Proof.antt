@@ -1,4 +1,4 @@
--- The words are those of `add_scaled`, and what is left is found by `find_leading`.
+-- The words are those of `add_scaled`; the word before the leading one is known before it.
 use Prim.Native.Nat.{ℕ, _+_, _-_, _*_, _≤_, _<_}
 use mathlib.Core.Path.{refl}
 use native.Mathlib.Omega.{arith}
