@@ -15,7 +15,7 @@ use Rattle.modular.specs.Residue.{residues}
 use Rattle.vector.specs.Stored.{stored, stored-inside, below-or-not}
 use Rattle.vector.specs.Bound.{at-most-stored}
 use Rattle.reduction.specs.Holds.{Holds}
-use Rattle.lattice.specs.Word.{residue-minus, words, words-inside, words-behind}
+use Rattle.lattice.specs.Word.{residue, residue-minus, words, words-inside, words-behind}
 use Rattle.lattice.specs.Memory.{ZeroFrom}
 use Rattle.lattice.specs.Range.{words-same, words-zero, zero-word}
 

@@ -1,7 +1,7 @@
 -- `find_absence` meets its contract: the law is `absence-found`.
 use mathlib.Core.Path.{refl}
 use native.Mathlib.Omega.{arith}
-use Rattle.multiples.specs.Negated.{zeros}
+use Rattle.vector.specs.Bound.{zeros-none}
 use Rattle.witness.specs.Absence.{stuck-tops, absence-found}
 use borrow.Author.Needs.{needs}
 use Rattle.witness.proofs.absence.find_absence.Statement.{statement}
@@ -21,7 +21,7 @@ copy-with-row-requires c κs =
     let S = c .before .before .before .before .before .before .before in
     let valid = S .pre .0 .3 in (
       (S .pre .0 .2, valid .room, valid .all-sizes, valid .all-inverses),
-      ((λ q l. valid .slot q l .block .within), ((refl, refl, refl), (zeros 2048, zeros 16))),
+      ((λ q l. valid .slot q l .block .within), ((refl, refl, refl), (zeros-none 2048, zeros-none 16))),
     )
 
 slice-aggregate-solve-second : tie.Need-slice-aggregate-solve-second

@@ -1,7 +1,7 @@
 -- `find_denominator` meets its contract: a tail made monic, and its product with the right side.
 use native.Mathlib.Omega.{arith}
 use Rattle.residue.specs.Modulus.{ValidModulus}
-use Rattle.multiples.specs.Negated.{zeros}
+use Rattle.vector.specs.Bound.{zeros-none}
 use Rattle.witness.specs.Denominator.{right-below, monic-small, denominator-made}
 use borrow.Author.Needs.{needs}
 use Rattle.witness.proofs.solution.find_denominator.Statement.{statement}
@@ -32,7 +32,7 @@ multiply-block-requires c κs =
       (m, omega arith, omega (arith, made .make-monic .kept), omega (arith, copied .copy .kept), omega arith, S .pre .1 .1 .1 .1),
       (
         made .make-monic .ensures .below,
-        right-below (m .prime) (S .args .input .now) (S .args .m) _ (copied .copy .ensures) (S .pre .0 .2 .below) (zeros 128),
+        right-below (m .prime) (S .args .input .now) (S .args .m) _ (copied .copy .ensures) (S .pre .0 .2 .below) (zeros-none 128),
       ),
     )
 
