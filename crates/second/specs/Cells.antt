@@ -10,20 +10,21 @@ use Rattle.reduction.specs.Flat.{flat}
 use Rattle.reduction.specs.Transpose.{back}
 use Rattle.vector.specs.Stored.{stored, stored-inside}
 use Rattle.lattice.specs.Memory.{height}
+use Rattle.second.specs.Greatest.{greatest}
 use Rattle.second.specs.Words.{reversed, lift, transposedSize, blockWord, tailWord, transposedWord, transposed-beyond, transposed-beside}
 use Rattle.second.specs.Words.{transposed-tail, transposed-low, transposed-value}
 use Rattle.second.specs.Words.{rightWord, right-beside, right-empty, right-low, right-far, right-value}
 
 -- the weight of coordinate i, by the size of the slot that it comes from
 abbrev pub weight : (z : List ℕ) (n i : ℕ) → ℕ
-weight z n i = 16 - height (getD z (back n i) 0)
+weight z n i = greatest z n - height (getD z (back n i) 0)
 
 module _ (s z : List ℕ) (n : ℕ) where
   same : (i : ℕ) → reversed n i ≡ back n i
   same i = omega arith
 
   lift-weight : (i : ℕ) → lift z n i ≡ weight z n i
-  lift-weight i = ap (λ q. 16 - height (getD z q 0)) (same i)
+  lift-weight i = ap (λ q. greatest z n - height (getD z q 0)) (same i)
 
   -- slot k, coordinate i, degree e of the transposed slots
   module _ (o : List ℕ) (room : 2048 ≤ length o) (k i e : ℕ) (slot : k < 8) (lane : i < 8) (degree : e < 16) where
@@ -39,8 +40,8 @@ module _ (s z : List ℕ) (n : ℕ) where
     at-degree : x % 256 / 8 ≡ e
     at-degree = omega arith
 
-    in-block : x % 256 < 128
-    in-block = omega arith
+    in-block : e < greatest z n → x % 256 < 8 * greatest z n
+    in-block under = omega arith
 
     stored-word : getD (stored (transposedWord s z n) o 0 2048) (256 * k + flat 8 i e) 0 ≡ transposedWord s z n x
     stored-word =
@@ -61,16 +62,16 @@ module _ (s z : List ℕ) (n : ℕ) where
 
       pub cell-low : e < weight z n i → getD (stored (transposedWord s z n) o 0 2048) (256 * k + flat 8 i e) 0 ≡ 0
       cell-low low = stored-word
-          ∙ transposed-low s z n x at-filled (omega (arith, at-lane)) in-block
+          ∙ transposed-low s z n x at-filled (omega (arith, at-lane)) (in-block (omega arith))
           (λ (g : lift z n (7 - x % 8) ≤ x % 256 / 8).
           let g′ : lift z n i ≤ e = subst₂ (λ j m. lift z n j ≤ m) at-lane at-degree g in
           omega (arith, lift-weight i))
 
-      pub cell-value : weight z n i ≤ e → getD (stored (transposedWord s z n) o 0 2048) (256 * k + flat 8 i e) 0
+      pub cell-value : weight z n i ≤ e → e < greatest z n → getD (stored (transposedWord s z n) o 0 2048) (256 * k + flat 8 i e) 0
           ≡ getD s (256 * back n i + flat 8 (back n k) (e - weight z n i)) 0
-      cell-value here =
+      cell-value here under =
           stored-word
-          ∙ transposed-value s z n x at-filled (omega (arith, at-lane)) in-block
+          ∙ transposed-value s z n x at-filled (omega (arith, at-lane)) (in-block under)
           (subst₂ (λ j m. lift z n j ≤ m) (sym at-lane) (sym at-degree) (omega (arith, lift-weight i)))
           ∙ ap (λ j. blockWord s (reversed n j) (reversed n (x / 256)) (x % 256 / 8 - lift z n j)) at-lane
           ∙ ap (λ m. blockWord s (reversed n i) (reversed n m) (x % 256 / 8 - lift z n i)) at-slot
@@ -86,21 +87,29 @@ module _ (s z : List ℕ) (n : ℕ) where
                   → 256 * a + 8 * (e - weight z n i) + (7 - c) ≡ 256 * b + flat 8 d (e - weight z n i)
               places u v = omega arith
 
-  -- the tails of the transposed slots are 0
-  pub cell-tail : (o : List ℕ) → 2048 ≤ length o → (k j : ℕ) → k < 8 → j < 128
-      → getD (stored (transposedWord s z n) o 0 2048) (256 * k + 128 + j) 0 ≡ 0
-  cell-tail o room k j h lt =
+  -- behind the greatest height all words are 0
+  pub cell-behind : (o : List ℕ) → 2048 ≤ length o → (k j : ℕ) → k < 8 → 8 * greatest z n ≤ j → j < 256
+      → getD (stored (transposedWord s z n) o 0 2048) (256 * k + j) 0 ≡ 0
+  cell-behind o room k j h past lt =
       ap (λ y. getD (stored (transposedWord s z n) o 0 2048) y 0) (sym (zero-add y))
       ∙ stored-inside (transposedWord s z n) o 0 2048 y (omega arith) (omega arith)
       ∙ go (decLt 0 (transposedSize z n (y / 256))) (decLt (7 - y % 8) n)
     where
       y : ℕ
-      y = 256 * k + 128 + j
+      y = 256 * k + j
 
       go : Dec (0 < transposedSize z n (y / 256)) → Dec (7 - y % 8 < n) → transposedWord s z n y ≡ 0
-      go (yes f) (yes l) = transposed-tail s z n y f l (λ (g : y % 256 < 128). omega arith)
+      go (yes f) (yes l) = transposed-tail s z n y f l (λ (g : y % 256 < 8 * greatest z n). omega arith)
       go (yes f) (no l) = transposed-beside s z n y f l
       go (no f) l = transposed-beyond s z n y f
+
+  -- so the tails of the transposed slots are 0
+  pub cell-tail : greatest z n ≤ 16 → (o : List ℕ) → 2048 ≤ length o → (k j : ℕ) → k < 8 → j < 128
+      → getD (stored (transposedWord s z n) o 0 2048) (256 * k + 128 + j) 0 ≡ 0
+  cell-tail low o room k j h lt =
+      let here : 256 * k + 128 + j ≡ 256 * k + (128 + j) = omega arith in
+      ap (λ x. getD (stored (transposedWord s z n) o 0 2048) x 0) here
+      ∙ cell-behind o room k (128 + j) h (omega arith) (omega arith)
 
   -- coordinate i, degree e of the right side
   module _ (o : List ℕ) (room : 1088 ≤ length o) (i e : ℕ) (lane : i < 8) (degree : e < 136) where

@@ -23,6 +23,7 @@ use Rattle.lattice.specs.Sums.{sums-fewer}
 use Rattle.lattice.specs.Holding.{HoldsSlots}
 use Rattle.lattice.specs.Insertion.{Inserts}
 use Rattle.multiples.specs.Monic.{MadeMonic}
+use Rattle.second.specs.Greatest.{greatest}
 use Rattle.second.specs.RightInserted.{InsertedRight, RightInserted}
 use Rattle.second.specs.Laid.{Laid, startingMemory}
 use Rattle.second.specs.SecondReady.{ready-inserted}
@@ -34,10 +35,10 @@ pub record TailFound (p : ℕ) (M : Memory) (w : List ℕ) (count : ℕ) : Type 
   pub monic : MadeMonic p (after .tail) w count
 
 -- of slots U: how the insertion ended, and that w is its tail made monic
-pub record FoundDenominator (p : ℕ) (prime : Prime p) (n : ℕ) (U : Slots (Polynomial (residues p prime))) (w : List ℕ) : Type 0
+pub record FoundDenominator (p : ℕ) (prime : Prime p) (n D : ℕ) (U : Slots (Polynomial (residues p prime))) (w : List ℕ) : Type 0
   where
     pub memory : Memory
-    pub inserted : InsertedRight p prime n U memory
+    pub inserted : InsertedRight p prime n D U memory
     pub some : 0 < size (residues p prime) (inserted .run .now .hand n)
     pub holds : Holds (residues p prime) (words p prime w 0 128)
         (polynomials (residues p prime) .mul (associate (residues p prime) (inserted .run .now .hand n) some .unit)
@@ -48,7 +49,8 @@ pub record DenominatorFound (p n : ℕ) (L : Level) (w : List ℕ) (count : ℕ)
   pub below : (i : ℕ) → getD w i 0 < p
   pub ends : Ends p w 0 128 count
   pub found : (prime : Prime p) (B : ℕ) (U : Slots (Polynomial (residues p prime))) → HoldsSlots p prime n unweighted L U
-      → Tops (sized (residues p prime)) n B 16 U → FoundDenominator p prime n U w
+      → Tops (sized (residues p prime)) n B (greatest (L .sizes) n) U
+      → FoundDenominator p prime n (greatest (L .sizes) n) U w
 
 pub tail-reducible : {p : ℕ} {M : Memory} → Valid p M → Sums p 0 (M .tail)
 tail-reducible {p} {M} valid = sums-fewer p (M .tail) (places M) 0 (omega arith) (valid .hand .tail-sums)

@@ -13,6 +13,7 @@ use Rattle.reduction.specs.Transpose.{transposed, weights}
 use Rattle.lattice.specs.Memory.{Level, level, ValidLevel}
 use Rattle.lattice.specs.Holding.{HoldsSlots}
 use Rattle.lattice.specs.Quotients.{Divided}
+use Rattle.second.specs.Greatest.{greatest}
 use Rattle.second.specs.Transposed.{transposed-slots}
 use Rattle.second.specs.ValidTransposed.{transposed-valid}
 use Rattle.second.specs.Laid.{Laid, laid-level}
@@ -23,8 +24,8 @@ pub record DividedSecond (p n : ℕ) (L : Level) (block quotients : List ℕ) : 
   pub left : ℕ
   pub divided : Divided p slots block rest quotients left
   pub holds : (prime : Prime p) (U : Slots (Polynomial (residues p prime))) → HoldsSlots p prime n unweighted L U
-      → HoldsSlots p prime n (weights (polynomials (residues p prime)) n 16 U) slots
-      (cleared (polynomials (residues p prime)) n (transposed (polynomials (residues p prime)) n 16 U))
+      → HoldsSlots p prime n (weights (polynomials (residues p prime)) n (greatest (L .sizes) n) U) slots
+      (cleared (polynomials (residues p prime)) n (transposed (polynomials (residues p prime)) n (greatest (L .sizes) n) U))
 
 module _ {p n : ℕ} (small : n ≤ 8) {L : Level} (valid : ValidLevel p L) {s z i b : List ℕ} (laid : Laid n L (level s z i) b) where
   positive : 0 < p
@@ -43,7 +44,7 @@ module _ {p n : ℕ} (small : n ≤ 8) {L : Level} (valid : ValidLevel p L) {s z
     left = left;
     divided = done;
     holds = λ prime U holds. subst
-        (λ l. HoldsSlots p prime n (weights (polynomials (residues p prime)) n 16 U) l
-        (cleared (polynomials (residues p prime)) n (transposed (polynomials (residues p prime)) n 16 U))) (sym (laid-level laid))
+        (λ l. HoldsSlots p prime n (weights (polynomials (residues p prime)) n (greatest (L .sizes) n) U) l
+        (cleared (polynomials (residues p prime)) n (transposed (polynomials (residues p prime)) n (greatest (L .sizes) n) U))) (sym (laid-level laid))
         (transposed-slots p prime small valid holds (laid .o) (laid .room) (laid .oz) _ (laid .room-sizes));
   }

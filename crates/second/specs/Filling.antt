@@ -1,4 +1,4 @@
--- Cleared memory into which the words of f are stored in some order, zeros left out: `rank x` is the turn of the place x.
+-- Cleared memory into which the words of f are stored in some order, those that are 0 left out: `rank x` is the turn of the place x.
 use Prim.Native.Nat.{ℕ, _+_, _<_, _≤_}
 use mathlib.Core.Path.{_≡_, refl, sym, _∙_, subst, subst₂}
 use mathlib.Core.Logic.{_⊎_, inl, inr}

@@ -1,3 +1,4 @@
+pub mod Greatest
 pub mod Words
 pub mod Cells
 pub mod Transposed

@@ -9,8 +9,8 @@ use lib.ListN.{length, getD, set}
 use Rattle.vector.specs.Bound.{AtMost}
 use Rattle.vector.specs.Stored.{stored}
 use Rattle.lattice.specs.Memory.{Level, ValidLevel}
-use Rattle.second.specs.Words.{reversed, lift, tailWord, rightWord}
-use Rattle.second.specs.Words.{right-beside, right-empty, right-low, right-far, right-value}
+use Rattle.second.specs.Greatest.{greatest}
+use Rattle.second.specs.Words.{reversed, lift, tailWord, rightWord, right-beside, right-empty, right-low, right-far, right-value}
 use Rattle.second.specs.Filling.{Filling, filling-start, filling-skip, filling-put, filling-end}
 
 -- behind their sizes the tails of a level are 0
@@ -93,7 +93,7 @@ module _ (s z : List ℕ) (n : ℕ) {size : ℕ} {w : List ℕ} where
             right-empty s z n x (omega arith)
             (λ (g : 0 < getD z (reversed n (7 - x % 8)) 0). none (subst (λ j. 0 < getD z (reversed n j) 0) here g))
 
-    module _ (some : 0 < getD z (reversed n i) 0) (small : n ≤ 8) where
+    module _ (some : 0 < getD z (reversed n i) 0) (small : n ≤ 8) (top : greatest z n ≤ 16) where
       -- the degrees below the lift are 0
       pub right-start : Righting s z n size w (136 * i) → RightGoing s z n i size w 0
       right-start so-far = record {

@@ -36,22 +36,32 @@ use Rattle.lattice.specs.Range.{words-zero}
 use Rattle.lattice.specs.Reading.{holds-filled}
 use Rattle.lattice.specs.Found.{found-ends, found-leading}
 use Rattle.lattice.specs.Insertion.{Starts, Inserts, inserts-inserted}
+use Rattle.second.specs.Greatest.{greatest, greatest-high}
 use Rattle.second.specs.Words.{when, when-yes, when-no, rightWord}
 use Rattle.second.specs.Transposed.{size-stored, transposed-slots, right-held}
 use Rattle.second.specs.ValidTransposed.{transposedLevel, when-below, transposed-valid, transposed-tails}
 
--- of slots U of n rows: memory holds the last state of the insertion, with block zero
-pub record InsertedRight (p : ℕ) (prime : Prime p) (n : ℕ) (U : Slots (Polynomial (residues p prime))) (M : Memory) : Type 0 where
-  pub run : Inserting (sized (residues p prime)) n (weights (polynomials (residues p prime)) n 16 U)
-      (transposed (polynomials (residues p prime)) n 16 U) (rightSide (polynomials (residues p prime)) n 16 U)
-  pub holds : HoldsState p prime n (weights (polynomials (residues p prime)) n 16 U) M (run .now)
+-- of slots U of n rows, D high: memory holds the last state of the insertion, with block zero
+pub record InsertedRight (p : ℕ) (prime : Prime p) (n D : ℕ) (U : Slots (Polynomial (residues p prime))) (M : Memory) : Type 0 where
+  pub run : Inserting (sized (residues p prime)) n (weights (polynomials (residues p prime)) n D U)
+      (transposed (polynomials (residues p prime)) n D U) (rightSide (polynomials (residues p prime)) n D U)
+  pub holds : HoldsState p prime n (weights (polynomials (residues p prime)) n D U) M (run .now)
   pub ends : Vanishes (polynomials (residues p prime)) n (run .now .hand)
 
 pub record RightInserted (p n : ℕ) (L : Level) (M : Memory) : Type 0 where
   pub valid : Valid p M
   pub tail : ZeroFrom p (M .tail) 0 256 121
   pub inserted : (prime : Prime p) (U : Slots (Polynomial (residues p prime))) → HoldsSlots p prime n unweighted L U
-      → InsertedRight p prime n U M
+      → InsertedRight p prime n (greatest (L .sizes) n) U M
+
+-- slots are no higher than the greatest height in memory
+module _ {p : ℕ} {prime : Prime p} {n : ℕ} {L : Level} {U : Slots (Polynomial (residues p prime))}
+    (holds : HoldsSlots p prime n unweighted L U) where
+  pub holds-high : (q : ℕ) → q < n → U .size q ≤ greatest (L .sizes) n
+  holds-high q h = omega (arith, holds .size q h, greatest-high (L .sizes) n q h)
+
+  pub tops-lower : {B D : ℕ} → Tops (sized (residues p prime)) n B D U → Tops (sized (residues p prime)) n B (greatest (L .sizes) n) U
+  tops-lower tops = record { filled = tops .filled; tails = tops .tails; high = holds-high }
 
 sums-small : (p m : ℕ) (l : List ℕ) → AtMost p l → Sums p m l
 sums-small p m l h i = omega (arith, h i)
@@ -119,10 +129,10 @@ module _ (p : ℕ) (prime : Prime p) {n : ℕ} (small : n ≤ 8) {L : Level} (va
 
   module _ {U : Slots (Polynomial (residues p prime))} (holds : HoldsSlots p prime n unweighted L U) where
     abbrev C : Slots (Polynomial (residues p prime))
-    C = transposed (polynomials (residues p prime)) n 16 U
+    C = transposed (polynomials (residues p prime)) n (greatest (L .sizes) n) U
 
     abbrev g : ℕ → Polynomial (residues p prime)
-    g = rightSide (polynomials (residues p prime)) n 16 U
+    g = rightSide (polynomials (residues p prime)) n (greatest (L .sizes) n) U
 
     tail-one : Holds (residues p prime) (words p prime (set ot 0 1) 0 256) (polynomials (residues p prime) .one)
     tail-one = record { at = λ k. coefficients-one (residues p prime) k ∙ at k }
@@ -131,16 +141,16 @@ module _ (p : ℕ) (prime : Prime p) {n : ℕ} (small : n ≤ 8) {L : Level} (va
         at zero = sym (words-first p prime (set ot 0 1) 256 0 (omega arith) ∙ residue-one p prime _ (first-starts .one))
         at (suc k) = sym (words-zero p prime (set ot 0 1) 0 256 1 (first-valid .hand .tail) (suc k) (omega arith))
 
-    pub first-holds : HoldsState p prime n (weights (polynomials (residues p prime)) n 16 U) firstMemory
-        (begin (polynomials (residues p prime)) n (transposed (polynomials (residues p prime)) n 16 U)
-        (rightSide (polynomials (residues p prime)) n 16 U) (height found))
+    pub first-holds : HoldsState p prime n (weights (polynomials (residues p prime)) n (greatest (L .sizes) n) U) firstMemory
+        (begin (polynomials (residues p prime)) n (transposed (polynomials (residues p prime)) n (greatest (L .sizes) n) U)
+        (rightSide (polynomials (residues p prime)) n (greatest (L .sizes) n) U) (height found))
     first-holds = record {
       slots = transposed-slots p prime small valid holds o room oz _ room-sizes;
       hand = record {
         block = record {
           lanes = B .lanes;
           lane = λ i h. subst (λ v. Holds (residues p prime) (λ e. words p prime b′ 0 1088 (flat 8 i e))
-              (shift (residues p prime) (weights (polynomials (residues p prime)) n 16 U i) v))
+              (shift (residues p prime) (weights (polynomials (residues p prime)) n (greatest (L .sizes) n) U i) v))
               (sym (extend-below n g (polynomials (residues p prime) .one) i h)) (B .lane i h);
           beside = B .beside;
         };
@@ -149,18 +159,18 @@ module _ (p : ℕ) (prime : Prime p) {n : ℕ} (small : n ≤ 8) {L : Level} (va
       size = refl;
     }
       where
-        B : Flat (residues p prime) n 8 (weights (polynomials (residues p prime)) n 16 U) (words p prime b′ 0 1088) g
+        B : Flat (residues p prime) n 8 (weights (polynomials (residues p prime)) n (greatest (L .sizes) n) U) (words p prime b′ 0 1088) g
         B = right-held p prime small valid holds ob room-block
 
     -- some bound on the tails is always there: they have at most 121 coefficients
     low : (q : ℕ) → q < n → U .size q ≤ 16
     low q h = omega (arith, holds .size q h, valid .slot q (omega arith) .block .within)
 
-    tops : Tops (sized (residues p prime)) n 241 16 U
+    tops : Tops (sized (residues p prime)) n 241 (greatest (L .sizes) n) U
     tops = record {
       filled = holds-filled p prime valid holds;
       tails = λ q h f y. omega (arith, degrees-small, tail-size q h f);
-      high = low;
+      high = holds-high holds;
     }
       where
         degrees-small : degrees n (U .size) ≤ 120
@@ -172,13 +182,13 @@ module _ (p : ℕ) (prime : Prime p) {n : ℕ} (small : n ≤ 8) {L : Level} (va
             (omega (arith, valid .slot q (omega arith) .tail-within)))
 
     abbrev ω : ℕ → ℕ
-    ω = weights (polynomials (residues p prime)) n 16 U
+    ω = weights (polynomials (residues p prime)) n (greatest (L .sizes) n) U
 
     abbrev Last : Memory → Type 0
     Last M′ = (i : Inserted (sized (residues p prime)) n ω (begin (polynomials (residues p prime)) n C g (height found)))
         × HoldsState p prime n ω M′ (i .last)
 
-    ended : {M′ : Memory} → Last M′ → InsertedRight p prime n U M′
+    ended : {M′ : Memory} → Last M′ → InsertedRight p prime n (greatest (L .sizes) n) U M′
     ended {M′} last = record { run = X; holds = last .1; ends = go (last .0 .stop) }
       where
         X : Inserting (sized (residues p prime)) n ω C g
@@ -188,5 +198,5 @@ module _ (p : ℕ) (prime : Prime p) {n : ℕ} (small : n ≤ 8) {L : Level} (va
         go (inl z) = z
         go (inr K) = absurd (not-stuck tops X K)
 
-    pub right-ends : {M′ : Memory} → Inserts p firstMemory M′ → InsertedRight p prime n U M′
+    pub right-ends : {M′ : Memory} → Inserts p firstMemory M′ → InsertedRight p prime n (greatest (L .sizes) n) U M′
     right-ends done = ended (inserts-inserted p prime done first-holds)

@@ -12,7 +12,7 @@ use Rattle.modular.specs.Prime.{Prime}
 use Rattle.modular.specs.Residue.{residues}
 use Rattle.reduction.specs.Pivot.{Pivot}
 use Rattle.reduction.specs.Slots.{Slots, unweighted}
-use Rattle.reduction.specs.Transpose.{rightSide, weights}
+use Rattle.reduction.specs.Transpose.{Tops, rightSide, weights}
 use Rattle.reduction.specs.Second.{second-room}
 use Rattle.reduction.specs.Polynomials.{associate}
 use Rattle.reduction.specs.Holds.{Holds, holds-size-exact}
@@ -26,10 +26,12 @@ use Rattle.lattice.specs.Range.{words-zero, zero-word}
 use Rattle.lattice.specs.Reading.{flat-same, ends-pivot}
 use Rattle.lattice.specs.Found.{found-ends}
 use Rattle.multiples.specs.Product.{BlockMultiplied}
+use Rattle.second.specs.Greatest.{greatest, greatest-small}
 use Rattle.second.specs.Words.{rightWord}
 use Rattle.second.specs.Transposed.{right-held}
 use Rattle.second.specs.ValidTransposed.{when-below}
 use Rattle.second.specs.First.{stored-first}
+use Rattle.second.specs.RightInserted.{tops-lower}
 use Rattle.second.specs.Laid.{Laid}
 use Rattle.second.specs.Solved.{HasTops}
 use Rattle.second.specs.Denominator.{FoundDenominator, DenominatorFound}
@@ -46,8 +48,8 @@ pub record RightScaled (p n : ℕ) (L : Level) (w : List ℕ) (count : ℕ) (out
   pub below : (i : ℕ) → getD out i 0 < p
   pub holds : (prime : Prime p) (U : Slots (Polynomial (residues p prime))) (x : Polynomial (residues p prime))
       → ValidLevel p L → HoldsSlots p prime n unweighted L U → Holds (residues p prime) (words p prime w 0 count) x
-      → Flat (residues p prime) n 8 (weights (polynomials (residues p prime)) n 16 U) (words p prime out 0 1088)
-      (λ i. polynomials (residues p prime) .mul x (rightSide (polynomials (residues p prime)) n 16 U i))
+      → Flat (residues p prime) n 8 (weights (polynomials (residues p prime)) n (greatest (L .sizes) n) U) (words p prime out 0 1088)
+      (λ i. polynomials (residues p prime) .mul x (rightSide (polynomials (residues p prime)) n (greatest (L .sizes) n) U i))
 
 -- words that are 0 modulo p may be left out
 pub words-cut : (p : ℕ) (prime : Prime p) (l : List ℕ) (N k : ℕ) → k ≤ N → ZeroFrom p l 0 N k
@@ -96,11 +98,11 @@ module _ {p n : ℕ} {L T : Level} {w : List ℕ} {count : ℕ} (fits : ScalesWi
       pub right-scaled : n ≤ 8 → {out : List ℕ} → BlockMultiplied p w count b m out → RightScaled p n L w count out
       right-scaled small {out} done = record {
         below = done .below;
-        holds = λ prime U x valid holds factor. done .holds prime n (weights (polynomials (residues p prime)) n 16 U) x
-            (rightSide (polynomials (residues p prime)) n 16 U) factor
+        holds = λ prime U x valid holds factor. done .holds prime n (weights (polynomials (residues p prime)) n (greatest (L .sizes) n) U) x
+            (rightSide (polynomials (residues p prime)) n (greatest (L .sizes) n) U) factor
             (flat-same (words-cut p prime b 1088 m (right-ends .within) (right-ends .behind))
-            (subst (λ l. Flat (residues p prime) n 8 (weights (polynomials (residues p prime)) n 16 U) (words p prime l 0 1088)
-            (rightSide (polynomials (residues p prime)) n 16 U)) (sym (laid .right)) (right-held p prime small valid holds (laid .ob) (laid .room-block))));
+            (subst (λ l. Flat (residues p prime) n 8 (weights (polynomials (residues p prime)) n (greatest (L .sizes) n) U) (words p prime l 0 1088)
+            (rightSide (polynomials (residues p prime)) n (greatest (L .sizes) n) U)) (sym (laid .right)) (right-held p prime small valid holds (laid .ob) (laid .room-block))));
       }
 
 -- an array of so many words up to the last that is not 0 holds a polynomial of that size
@@ -118,17 +120,20 @@ module _ {p n : ℕ} {L : Level} {w : List ℕ} {count : ℕ} (small : n ≤ 8) 
     (found : DenominatorFound p n L w count) where
   module _ (o : List ℕ) (room : 1088 ≤ length o) (m : ℕ)
       (ends : Ends p (stored (rightWord (L .slots) (L .sizes) n) o 0 1088) 0 1088 m) (some : 0 < m) (nonzero : 0 < count) where
-    abbrev F : FoundDenominator p (has .prime) n (has .slots) w
-    F = found .found (has .prime) (has .bound) (has .slots) (has .holds) (has .tops)
+    tops : Tops (sized (residues p (has .prime))) n (has .bound) (greatest (L .sizes) n) (has .slots)
+    tops = tops-lower (has .holds) (has .tops)
+
+    abbrev F : FoundDenominator p (has .prime) n (greatest (L .sizes) n) (has .slots) w
+    F = found .found (has .prime) (has .bound) (has .slots) (has .holds) tops
 
     abbrev x : Polynomial (residues p (has .prime))
     x = polynomials (residues p (has .prime)) .mul
         (associate (residues p (has .prime)) (F .inserted .run .now .hand n) (F .some) .unit) (F .inserted .run .now .hand n)
 
     abbrev g : ℕ → Polynomial (residues p (has .prime))
-    g = rightSide (polynomials (residues p (has .prime))) n 16 (has .slots)
+    g = rightSide (polynomials (residues p (has .prime))) n (greatest (L .sizes) n) (has .slots)
 
-    P : Pivot (sized (residues p (has .prime))) n (weights (polynomials (residues p (has .prime))) n 16 (has .slots))
+    P : Pivot (sized (residues p (has .prime))) n (weights (polynomials (residues p (has .prime))) n (greatest (L .sizes) n) (has .slots))
         g (row m) (height m)
     P = ends-pivot p (has .prime) ends (right-held p (has .prime) small valid (has .holds) o room) some
 
@@ -142,9 +147,10 @@ module _ {p n : ℕ} {L : Level} {w : List ℕ} {count : ℕ} (small : n ≤ 8) 
       P .reached,
       P .positive,
       size-mul (residues p (has .prime)) x (g (row m)) (omega (arith, long)) (P .positive),
-      second-room (has .tops) (F .inserted .run) (F .inserted .ends)
+      second-room tops (F .inserted .run) (F .inserted .ends)
           (associate (residues p (has .prime)) (F .inserted .run .now .hand n) (F .some)) (row m) (P .inside),
       has .small,
+      greatest-small (L .sizes) n small (λ q h. valid .slot q h .block .within),
     )
 
   pub scales-within : ScalesWithin p n L w count

@@ -48,51 +48,51 @@ module _ {A : Type 0} (R : Ring A) (n : ℕ) (U : Slots A) where
   }
 
 -- lane 7 - (n - 1 - k) of the quotients holds Y k
-pub record HoldsDual (p : ℕ) (prime : Prime p) (n B : ℕ) (U : Slots (Polynomial (residues p prime)))
+pub record HoldsDual (p : ℕ) (prime : Prime p) (n B D : ℕ) (U : Slots (Polynomial (residues p prime)))
     (w : Polynomial (residues p prime)) (quotients : List ℕ) : Type 0 where
   pub Y : ℕ → Polynomial (residues p prime)
-  pub holds : (k : ℕ) → k < n → HoldsQuotient p prime n (weights (polynomials (residues p prime)) n 16 U) quotients (back n k) (Y k)
+  pub holds : (k : ℕ) → k < n → HoldsQuotient p prime n (weights (polynomials (residues p prime)) n D U) quotients (back n k) (Y k)
   pub dual : Dual (sized (residues p prime)) n B U w Y
 
-module _ (p : ℕ) (prime : Prime p) {n B : ℕ} {U : Slots (Polynomial (residues p prime))} (O : Tops (sized (residues p prime)) n B 16 U)
-    {M : Memory} (I : InsertedRight p prime n U M) {Monic : Polynomial (residues p prime) → Type 0}
+module _ (p : ℕ) (prime : Prime p) {n B D : ℕ} {U : Slots (Polynomial (residues p prime))} (O : Tops (sized (residues p prime)) n B D U)
+    {M : Memory} (I : InsertedRight p prime n D U M) {Monic : Polynomial (residues p prime) → Type 0}
     (m : Associate (sized (residues p prime)) Monic (I .run .now .hand n)) where
   abbrev R : Ring (Polynomial (residues p prime))
   R = polynomials (residues p prime)
 
   abbrev C : Slots (Polynomial (residues p prime))
-  C = transposed (polynomials (residues p prime)) n 16 U
+  C = transposed (polynomials (residues p prime)) n D U
 
   abbrev w : Polynomial (residues p prime)
   w = polynomials (residues p prime) .mul (m .unit) (I .run .now .hand n)
 
   abbrev pub product : ℕ → Polynomial (residues p prime)
   product i = polynomials (residues p prime) .mul (polynomials (residues p prime) .mul (m .unit) (I .run .now .hand n))
-      (rightSide (polynomials (residues p prime)) n 16 U i)
+      (rightSide (polynomials (residues p prime)) n D U i)
 
   pub divided-dual : {L : Level} {block block′ quotients : List ℕ} {left : ℕ}
-      → HoldsSlots p prime n (weights (polynomials (residues p prime)) n 16 U) L (cleared (polynomials (residues p prime)) n
-      (transposed (polynomials (residues p prime)) n 16 U))
-      → Flat (residues p prime) n 8 (weights (polynomials (residues p prime)) n 16 U) (words p prime block 0 1088) product
+      → HoldsSlots p prime n (weights (polynomials (residues p prime)) n D U) L (cleared (polynomials (residues p prime)) n
+      (transposed (polynomials (residues p prime)) n D U))
+      → Flat (residues p prime) n 8 (weights (polynomials (residues p prime)) n D U) (words p prime block 0 1088) product
       → Divided p L block block′ quotients left
-      → HoldsDual p prime n B U (polynomials (residues p prime) .mul (m .unit) (I .run .now .hand n)) quotients
+      → HoldsDual p prime n B D U (polynomials (residues p prime) .mul (m .unit) (I .run .now .hand n)) quotients
   divided-dual {L} {block} {block′} {quotients} {left} slots flat done = record {
-    Y = λ k. quotient R n (cleared R n C) (D .trace) (back n k);
-    holds = λ k h. D .holds-quotient (back n k) (omega arith);
+    Y = λ k. quotient R n (cleared R n C) (Q .trace) (back n k);
+    holds = λ k h. Q .holds-quotient (back n k) (omega arith);
     dual = second-dual O (I .run) (I .ends) m
         (span-uncleared R n C (record {
-          coefficient = quotient R n (cleared R n C) (D .trace);
-          empty = quotient-empty R n (cleared R n C) (D .trace);
-          equal = division-quotients R n (cleared R n C) (D .trace) (ends-zero p prime (done .ends) (D .holds-rest) none);
-        })) (λ k. quotient R n (cleared R n C) (D .trace) (back n k)) (λ k h. refl);
+          coefficient = quotient R n (cleared R n C) (Q .trace);
+          empty = quotient-empty R n (cleared R n C) (Q .trace);
+          equal = division-quotients R n (cleared R n C) (Q .trace) (ends-zero p prime (done .ends) (Q .holds-rest) none);
+        })) (λ k. quotient R n (cleared R n C) (Q .trace) (back n k)) (λ k h. refl);
   }
     where
-      f : Dividend p prime n (weights (polynomials (residues p prime)) n 16 U) L block
+      f : Dividend p prime n (weights (polynomials (residues p prime)) n D U) L block
       f = record { slots = cleared R n C; vector = product; holds-slots = slots; holds = flat }
 
-      D : Divides p prime n (weights (polynomials (residues p prime)) n 16 U) (cleared R n C) product block′ quotients
-      D = done .divides prime n (weights (polynomials (residues p prime)) n 16 U) f
+      Q : Divides p prime n (weights (polynomials (residues p prime)) n D U) (cleared R n C) product block′ quotients
+      Q = done .divides prime n (weights (polynomials (residues p prime)) n D U) f
 
       none : left ≡ 0
-      none = done .whole prime n (weights (polynomials (residues p prime)) n 16 U) f
+      none = done .whole prime n (weights (polynomials (residues p prime)) n D U) f
           (span-cleared R n C (second-span O (I .run) (I .ends) m))

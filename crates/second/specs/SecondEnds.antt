@@ -21,6 +21,8 @@ use Rattle.lattice.specs.Word.{residue, words, words-inside, words-behind, word
 use Rattle.lattice.specs.Memory.{Level, ValidLevel}
 use Rattle.lattice.specs.Holding.{HoldsSlots}
 use Rattle.lattice.specs.Quotients.{HoldsQuotient}
+use Rattle.second.specs.Greatest.{greatest}
+use Rattle.second.specs.RightInserted.{tops-lower}
 use Rattle.second.specs.SecondDual.{HoldsDual, divided-dual}
 use Rattle.second.specs.Solved.{HoldsSecond, SecondSolved}
 use Rattle.second.specs.Denominator.{FoundDenominator, DenominatorFound}
@@ -49,8 +51,8 @@ module _ {p n : ℕ} (small : n ≤ 8) {L : Level} (valid : ValidLevel p L) {w :
 
   module _ (prime : Prime p) (B : ℕ) (U : Slots (Polynomial (residues p prime))) (bound : B ≤ 120)
       (holds : HoldsSlots p prime n unweighted L U) (tops : Tops (sized (residues p prime)) n B 16 U) where
-    F : FoundDenominator p prime n U w
-    F = found .found prime B U holds tops
+    F : FoundDenominator p prime n (greatest (L .sizes) n) U w
+    F = found .found prime B U holds (tops-lower holds tops)
 
     abbrev m : Associate (sized (residues p prime)) (Monic (residues p prime)) (F .inserted .run .now .hand n)
     m = associate (residues p prime) (F .inserted .run .now .hand n) (F .some)
@@ -61,8 +63,8 @@ module _ {p n : ℕ} (small : n ≤ 8) {L : Level} (valid : ValidLevel p L) {w :
     factor : Holds (residues p prime) (words p prime w 0 count) x
     factor = record { at = λ e. F .holds .at e ∙ words-cut p prime w 128 count (found .ends .within) (found .ends .behind) e }
 
-    D : HoldsDual p prime n B U x quotients
-    D = divided-dual p prime tops (F .inserted) m (divided .holds prime U holds)
+    D : HoldsDual p prime n B (greatest (L .sizes) n) U x quotients
+    D = divided-dual p prime (tops-lower holds tops) (F .inserted) m (divided .holds prime U holds)
         (scaled .holds prime U x valid holds factor) (divided .divided)
 
     holds-second : HoldsSecond p prime n B U w rows
@@ -72,7 +74,7 @@ module _ {p n : ℕ} (small : n ≤ 8) {L : Level} (valid : ValidLevel p L) {w :
       monic = m .monic;
       dual = D .dual;
       holds-w = F .holds;
-      holds-Y = λ k h. row-holds prime (weights (polynomials (residues p prime)) n 16 U) k h (D .Y k)
+      holds-Y = λ k h. row-holds prime (weights (polynomials (residues p prime)) n (greatest (L .sizes) n) U) k h (D .Y k)
           (omega (arith, D .dual .row-small k h)) (D .holds k h);
     }
 

@@ -32,9 +32,8 @@ module _ (p : ℕ) (prime : Prime p) {n : ℕ} (small : n ≤ 8) {L : Level} (va
       (omega (
         arith,
         prime .large,
-        block-small p prime small valid (laid .o) (laid .oz) (laid .oi) (laid .ob) (replicate 256 0) (laid .room)
-            (laid .room-sizes) (laid .room-inverses) (laid .room-block) (zeros-room 256) (laid .none) (laid .none-block)
-            (zeros-none 256) _ _ refl refl j,
+        block-small p prime small valid (laid .o) (laid .oz) (laid .oi) (laid .ob) (replicate 256 0) (laid .room) (laid .room-sizes)
+            (laid .room-inverses) (laid .room-block) (zeros-room 256) (laid .none) (laid .none-block) (zeros-none 256) _ _ refl refl j,
       ))
 
   module _ (found : Leading) (size : found .size ≡ length (polynomial p b 0 1088))
@@ -46,24 +45,24 @@ module _ (p : ℕ) (prime : Prime p) {n : ℕ} (small : n ≤ 8) {L : Level} (va
     last′ = last ∙ ap (λ l. leading (modulo p) (polynomial p l 0 1088)) (laid .right)
 
     abbrev first : Memory
-    first = firstMemory p prime small valid (laid .o) (laid .oz) (laid .oi) (laid .ob) (replicate 256 0) (laid .room)
-        (laid .room-sizes) (laid .room-inverses) (laid .room-block) (zeros-room 256) (laid .none) (laid .none-block)
-        (zeros-none 256) (found .size) (found .value) size′ last′
+    first = firstMemory p prime small valid (laid .o) (laid .oz) (laid .oi) (laid .ob) (replicate 256 0) (laid .room) (laid .room-sizes)
+        (laid .room-inverses) (laid .room-block) (zeros-room 256) (laid .none) (laid .none-block) (zeros-none 256)
+        (found .size) (found .value) size′ last′
 
     same : startingMemory (level s z i) b found ≡ first
     same = ap (λ T. startingMemory T b found) (laid-level laid) ∙ ap (λ l. startingMemory (first .level) l found) (laid .right)
 
     pub ready-valid : Valid p (startingMemory (level s z i) b found)
     ready-valid = subst (Valid p) (sym same)
-        (first-valid p prime small valid (laid .o) (laid .oz) (laid .oi) (laid .ob) (replicate 256 0) (laid .room)
-        (laid .room-sizes) (laid .room-inverses) (laid .room-block) (zeros-room 256) (laid .none) (laid .none-block)
-        (zeros-none 256) (found .size) (found .value) size′ last′)
+        (first-valid p prime small valid (laid .o) (laid .oz) (laid .oi) (laid .ob) (replicate 256 0) (laid .room) (laid .room-sizes)
+        (laid .room-inverses) (laid .room-block) (zeros-room 256) (laid .none) (laid .none-block) (zeros-none 256)
+        (found .size) (found .value) size′ last′)
 
     pub ready-starts : Starts p (startingMemory (level s z i) b found)
     ready-starts = subst (Starts p) (sym same)
-        (first-starts p prime small valid (laid .o) (laid .oz) (laid .oi) (laid .ob) (replicate 256 0) (laid .room)
-        (laid .room-sizes) (laid .room-inverses) (laid .room-block) (zeros-room 256) (laid .none) (laid .none-block)
-        (zeros-none 256) (found .size) (found .value) size′ last′)
+        (first-starts p prime small valid (laid .o) (laid .oz) (laid .oi) (laid .ob) (replicate 256 0) (laid .room) (laid .room-sizes)
+        (laid .room-inverses) (laid .room-block) (zeros-room 256) (laid .none) (laid .none-block) (zeros-none 256)
+        (found .size) (found .value) size′ last′)
 
     pub ready-inserted : (M′ : Memory) → Inserts p (startingMemory (level s z i) b found) M′ → RightInserted p n L M′
     ready-inserted M′ done = record {

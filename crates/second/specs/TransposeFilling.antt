@@ -6,8 +6,8 @@ use native.Mathlib.Omega.{arith}
 use lib.ListN.{length, getD, set}
 use Rattle.vector.specs.Bound.{AtMost}
 use Rattle.vector.specs.Stored.{stored}
-use Rattle.second.specs.Words.{reversed, lift, blockWord, transposedWord}
-use Rattle.second.specs.Words.{transposedSize, size-beyond, size-empty, size-filled}
+use Rattle.second.specs.Greatest.{greatest, greatest-positive}
+use Rattle.second.specs.Words.{reversed, lift, blockWord, transposedSize, size-beyond, size-empty, size-filled, transposedWord}
 use Rattle.second.specs.Words.{transposed-beyond, transposed-beside, transposed-tail, transposed-low, transposed-value}
 use Rattle.second.specs.Filling.{Filling, filling-start, filling-skip, filling-put, filling-end}
 
@@ -24,7 +24,7 @@ transposing-start s z n = filling-start
 -- lane i of slot k up to degree e
 pub record LaneGoing (s z : List ℕ) (n k i size : ℕ) (w : List ℕ) (e : ℕ) : Type 0 where
   pub low : lift z n i ≤ e
-  pub high : e ≤ 16
+  pub high : e ≤ greatest z n
   pub words : Transposing s z n size w (256 * k + 32 * i + e)
 
 -- the slot and the lane that a turn is in
@@ -35,11 +35,9 @@ turn-slot x k low high = go (x % 256 / 8) (7 - x % 8) (x / 256) (omega arith) (o
     go c b a hc hb l h = omega arith
 
 turn-lane : (x k i : ℕ) → i < 8 → 256 * k + 32 * i ≤ transposeRank x → transposeRank x < 256 * k + 32 * i + 32 → 7 - x % 8 ≡ i
-turn-lane x k i hi low high =
-    go (x % 256 / 8) (7 - x % 8) (x / 256) (omega arith) (turn-slot x k (omega arith) (omega arith)) low high
+turn-lane x k i hi low high = go (x % 256 / 8) (7 - x % 8) (x / 256) (omega arith) (turn-slot x k (omega arith) (omega arith)) low high
   where
-    go : (c b a : ℕ) → c < 32 → a ≡ k → 256 * k + 32 * i ≤ a * 256 + b * 32 + c
-        → a * 256 + b * 32 + c < 256 * k + 32 * i + 32 → b ≡ i
+    go : (c b a : ℕ) → c < 32 → a ≡ k → 256 * k + 32 * i ≤ a * 256 + b * 32 + c → a * 256 + b * 32 + c < 256 * k + 32 * i + 32 → b ≡ i
     go c b a hc e l h = omega arith
 
 place-of : (x k i e : ℕ) → x / 256 ≡ k → 7 - x % 8 ≡ i → x % 256 / 8 ≡ e → x ≡ 256 * k + 8 * e + (7 - i)
@@ -48,7 +46,7 @@ place-of x k i e slot lane degree = omega arith
 module _ (z : List ℕ) (n : ℕ) where
   filled : (k : ℕ) → k < n → n ≤ 8 → 0 < getD z (reversed n k) 0 → (x : ℕ) → x / 256 ≡ k → 0 < transposedSize z n (x / 256)
   filled k slot small some x here = subst (λ q. 0 < transposedSize z n q) (sym here)
-      (omega (arith, size-filled z n k slot some))
+      (omega (arith, size-filled z n k slot some, greatest-positive z n (reversed n k) (omega arith) some))
 
 module _ (s z : List ℕ) (n : ℕ) {size : ℕ} {w : List ℕ} where
   -- the slots from n on are empty
@@ -63,8 +61,7 @@ module _ (s z : List ℕ) (n : ℕ) {size : ℕ} {w : List ℕ} where
 
   module _ (k : ℕ) (slot : k < n) where
     -- slot k is empty
-    pub transposing-empty : Transposing s z n size w (256 * k) → ¬ (0 < getD z (reversed n k) 0)
-        → Transposing s z n size w (256 * (k + 1))
+    pub transposing-empty : Transposing s z n size w (256 * k) → ¬ (0 < getD z (reversed n k) 0) → Transposing s z n size w (256 * (k + 1))
     transposing-empty so-far none = filling-skip so-far (256 * (k + 1)) (omega arith) rest
       where
         rest : (x : ℕ) → x < 2048 → 256 * k ≤ transposeRank x → transposeRank x < 256 * (k + 1) → transposedWord s z n x ≡ 0
@@ -84,16 +81,17 @@ module _ (s z : List ℕ) (n : ℕ) {size : ℕ} {w : List ℕ} where
               let at : x / 256 ≡ k = turn-slot x k (omega arith) high in
               transposed-beside s z n x (filled z n k slot small some x at) (λ (g : 7 - x % 8 < n). omega arith)
 
-      module _ (i : ℕ) (lane : i < n) where
+      module _ (top : greatest z n ≤ 16) (i : ℕ) (lane : i < n) where
         -- the degrees below the lift are 0
-        pub lane-start : Transposing s z n size w (256 * k + 32 * i) → LaneGoing s z n k i size w (lift z n i)
-        lane-start so-far = record {
+        pub lane-start : Transposing s z n size w (256 * k + 32 * i) → (e : ℕ) → e ≡ lift z n i
+            → LaneGoing s z n k i size w e
+        lane-start so-far e start = record {
           low = omega arith;
           high = omega arith;
-          words = filling-skip so-far (256 * k + 32 * i + lift z n i) (omega arith) rest;
+          words = filling-skip so-far (256 * k + 32 * i + e) (omega arith) rest;
         }
           where
-            rest : (x : ℕ) → x < 2048 → 256 * k + 32 * i ≤ transposeRank x → transposeRank x < 256 * k + 32 * i + lift z n i
+            rest : (x : ℕ) → x < 2048 → 256 * k + 32 * i ≤ transposeRank x → transposeRank x < 256 * k + 32 * i + e
                 → transposedWord s z n x ≡ 0
             rest x h low high =
                 let at : x / 256 ≡ k = turn-slot x k (omega arith) (omega arith) in
@@ -103,7 +101,7 @@ module _ (s z : List ℕ) (n : ℕ) {size : ℕ} {w : List ℕ} where
                 (λ (g : lift z n (7 - x % 8) ≤ x % 256 / 8). omega (arith, ap (lift z n) here))
 
         -- the tail is 0
-        pub lane-end : {e : ℕ} → LaneGoing s z n k i size w e → 16 ≤ e → Transposing s z n size w (256 * k + 32 * (i + 1))
+        pub lane-end : {e : ℕ} → LaneGoing s z n k i size w e → greatest z n ≤ e → Transposing s z n size w (256 * k + 32 * (i + 1))
         lane-end {e} so-far past = filling-skip (so-far .words) (256 * k + 32 * (i + 1)) (omega (arith, so-far .high)) rest
           where
             rest : (x : ℕ) → x < 2048 → 256 * k + 32 * i + e ≤ transposeRank x → transposeRank x < 256 * k + 32 * (i + 1)
@@ -111,10 +109,10 @@ module _ (s z : List ℕ) (n : ℕ) {size : ℕ} {w : List ℕ} where
             rest x h low high =
                 let at : x / 256 ≡ k = turn-slot x k (omega arith) (omega arith) in
                 let here : 7 - x % 8 ≡ i = turn-lane x k i (omega arith) (omega arith) (omega arith) in
-                let degree : 16 ≤ x % 256 / 8 = omega arith in
-                transposed-tail s z n x (filled z n k slot small some x at) (omega arith) (λ (g : x % 256 < 128). omega arith)
+                let degree : greatest z n ≤ x % 256 / 8 = omega arith in
+                transposed-tail s z n x (filled z n k slot small some x at) (omega arith) (λ (g : x % 256 < 8 * greatest z n). omega arith)
 
-        pub lane-turn : {e : ℕ} → LaneGoing s z n k i size w e → e < 16 → (x : ℕ) → x ≡ 256 * k + 8 * e + (7 - i) → (v : ℕ)
+        pub lane-turn : {e : ℕ} → LaneGoing s z n k i size w e → e < greatest z n → (x : ℕ) → x ≡ 256 * k + 8 * e + (7 - i) → (v : ℕ)
             → v ≡ blockWord s (reversed n i) (reversed n k) (e - lift z n i) → LaneGoing s z n k i size (set w x v) (e + 1)
         lane-turn {e} so-far lt x place v ev = record {
           low = omega (arith, so-far .low);
@@ -147,5 +145,5 @@ module _ (s z : List ℕ) (n : ℕ) {size : ℕ} {w : List ℕ} where
                 ∙ ap (λ m. blockWord s (reversed n i) (reversed n m) (x % 256 / 8 - lift z n i)) at-slot
                 ∙ ap (λ m. blockWord s (reversed n i) (reversed n k) (m - lift z n i)) at-degree
 
-pub fewer : (e : ℕ) → e < 16 → 16 - (e + 1) < 16 - e
-fewer e lt = omega arith
+pub fewer : (top e : ℕ) → e < top → top - (e + 1) < top - e
+fewer top e lt = omega arith

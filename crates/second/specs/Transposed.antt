@@ -1,5 +1,5 @@
 -- L8 in memory: the words that `transpose_slots`, `transpose_sizes` and `right_side` store hold the transposed slots of
--- `reduction`, tails 0, and its right side. Every weighted size is 16; the weights show only as lifted lanes.
+-- `reduction`, tails 0, and its right side. Every weighted size is the greatest height; the weights show only as lifted lanes.
 use Prim.Native.Nat.{ℕ, suc, _+_, _-_, _*_, _/_, _%_, _<_, _≤_}
 use mathlib.Core.Path.{_≡_, refl, sym, _∙_, ap, subst}
 use mathlib.Core.List.{List}
@@ -24,8 +24,9 @@ use Rattle.lattice.specs.Word.{residue, residue-zero, words, words-inside, word
 use Rattle.lattice.specs.Memory.{height, Level, slotSize, tailSize, ValidLevel}
 use Rattle.lattice.specs.Holding.{HoldsSlots}
 use Rattle.lattice.specs.Range.{words-zero}
+use Rattle.second.specs.Greatest.{greatest, greatest-high, greatest-small, greatest-positive}
 use Rattle.second.specs.Words.{reversed, transposedWord, rightWord, transposedSize, size-beyond, size-empty, size-filled}
-use Rattle.second.specs.Cells.{weight, cell-beside, cell-low, cell-value, cell-tail}
+use Rattle.second.specs.Cells.{weight, cell-beside, cell-low, cell-value, cell-behind, cell-tail}
 use Rattle.second.specs.Cells.{right-cell-beside, right-cell-empty, right-cell-low, right-cell-far, right-cell-value}
 
 -- the sizes that are stored
@@ -59,13 +60,17 @@ module _ (p : ℕ) (prime : Prime p) where
     z = L .sizes
 
     abbrev ω : ℕ → ℕ
-    ω = weights (polynomials (residues p prime)) n 16 U
+    ω = weights (polynomials (residues p prime)) n (greatest (L .sizes) n) U
 
     size-of : (i : ℕ) → i < n → U .size (back n i) ≡ height (getD z (back n i) 0)
     size-of i h = holds .size (back n i) (omega arith)
 
     weight-is : (i : ℕ) → i < n → ω i ≡ weight z n i
-    weight-is i h = ap (λ d. 16 - d) (size-of i h)
+    weight-is i h = ap (λ d. greatest z n - d) (size-of i h)
+
+    -- the greatest height
+    top-low : greatest z n ≤ 16
+    top-low = greatest-small z n small (λ q h. valid .slot q h .block .within)
 
     -- coordinate r of slot q of the level, with no weight
     lane-of : (q r : ℕ) → q < n → r < n → 0 < U .size q
@@ -82,10 +87,14 @@ module _ (p : ℕ) (prime : Prime p) where
             → words p prime s′ (256 * k) 128 (flat 8 i e) ≡ residues p prime .ring .zero
         cell-zero i e l g = zero-inside s′ (256 * k) 128 (flat 8 i e) (λ lt. g (omega arith))
 
+        cell-past : (i e : ℕ) → i < 8 → greatest z n ≤ e → words p prime s′ (256 * k) 128 (flat 8 i e) ≡ residues p prime .ring .zero
+        cell-past i e l past = zero-inside s′ (256 * k) 128 (flat 8 i e)
+            (λ lt. cell-behind s z n o room k (flat 8 i e) (omega arith) (omega arith) (omega arith))
+
         lifted : (i : ℕ) → i < n → 0 < U .size (back n i) → (j : ℕ)
             → words p prime (L .slots) (256 * back n i) 128 (flat 8 (back n k) j)
             ≡ words p prime s′ (256 * k) 128 (flat 8 i (ω i + j))
-        lifted i l g j = go (decLt (ω i + j) 16)
+        lifted i l g j = go (decLt (ω i + j) (greatest z n))
           where
             q : ℕ
             q = back n i
@@ -93,37 +102,38 @@ module _ (p : ℕ) (prime : Prime p) where
             d : ℕ
             d = height (getD z (back n i) 0)
 
-            high : d ≤ 16
-            high = omega (arith, valid .slot (back n i) (omega arith) .block .within)
+            high : d ≤ greatest z n
+            high = greatest-high z n (back n i) (omega arith)
 
-            go : Dec (ω i + j < 16)
+            go : Dec (ω i + j < greatest z n)
                 → words p prime s (256 * back n i) 128 (flat 8 (back n k) j) ≡ words p prime s′ (256 * k) 128 (flat 8 i (ω i + j))
             go (yes lt) =
-                let less : j < 16 = omega arith in
+                let less : j < 16 = omega (arith, top-low) in
                 let same : ω i + j - weight z n i ≡ j = omega (arith, weight-is i l) in
                 words-inside p prime s (256 * back n i) 128 (flat 8 (back n k) j) (omega arith)
                 ∙ ap (λ m. residue p prime (getD s (256 * back n i + flat 8 (back n k) m) 0)) (sym same)
-                ∙ ap (residue p prime) (sym (cell-value s z n o room k i (ω i + j) (omega arith) (omega arith) lt f l (omega (arith, weight-is i l))))
-                ∙ sym (words-inside p prime s′ (256 * k) 128 (flat 8 i (ω i + j)) (omega arith))
+                ∙ ap (residue p prime) (sym (cell-value s z n o room k i (ω i + j) (omega arith) (omega arith) (omega (arith, top-low)) f l
+                (omega (arith, weight-is i l)) lt))
+                ∙ sym (words-inside p prime s′ (256 * k) 128 (flat 8 i (ω i + j)) (omega (arith, top-low)))
             go (no ge) =
                 let above : d ≤ j = omega (arith, size-of i l, high) in
                 words-zero p prime s (256 * back n i) 128 (slotSize L (back n i)) (valid .slot (back n i) (omega arith) .block .behind)
                 (flat 8 (back n k) j) (omega arith)
-                ∙ sym (words-behind p prime s′ (256 * k) 128 (flat 8 i (ω i + j)) (omega arith))
+                ∙ sym (cell-past i (ω i + j) (omega arith) (omega arith))
 
         coordinate : (i : ℕ) → i < n → Dec (U .size (back n i) ≡ 0)
             → Holds (residues p prime) (λ j. words p prime s′ (256 * k) 128 (flat 8 i (ω i + j)))
-            (transposed (polynomials (residues p prime)) n 16 U .at k i)
+            (transposed (polynomials (residues p prime)) n (greatest (L .sizes) n) U .at k i)
         coordinate i l (yes none) = subst (Holds F _) (sym (masked-empty (U .size (back n i)) _ (U .at (back n i) (back n k)) none))
-            (holds-none (λ j. words-behind p prime s′ (256 * k) 128 (flat 8 i (ω i + j)) (omega arith)))
+            (holds-none (λ j. cell-past i (ω i + j) (omega arith) (omega arith)))
         coordinate i l (no some) =
             subst (Holds F _) (sym (masked-filled (U .size (back n i)) _ (U .at (back n i) (back n k)) (omega arith)))
             (record { at = λ j. lane-of (back n i) (back n k) (omega arith) (omega arith) (omega arith) .at j ∙ lifted i l (omega arith) j })
 
-        pub transposed-held : Held (residues p prime) n 8 (weights (polynomials (residues p prime)) n 16 U)
+        pub transposed-held : Held (residues p prime) n 8 (weights (polynomials (residues p prime)) n (greatest (L .sizes) n) U)
             (words p prime (stored (transposedWord (L .slots) (L .sizes) n) o 0 2048) (256 * k) 128)
             (words p prime (stored (transposedWord (L .slots) (L .sizes) n) o 0 2048) (256 * k + 128) 128)
-            (cleared (polynomials (residues p prime)) n (transposed (polynomials (residues p prime)) n 16 U) .at k)
+            (cleared (polynomials (residues p prime)) n (transposed (polynomials (residues p prime)) n (greatest (L .sizes) n) U) .at k)
         transposed-held = record {
           block = record {
             lanes = small;
@@ -134,38 +144,39 @@ module _ (p : ℕ) (prime : Prime p) where
             beside = λ i e out l. cell-zero i e l (λ lt. cell-beside s z n o room k i e (omega arith) l lt f out);
           };
           tail = subst (Holds F _) (sym (extend-at n (C .at k) (polynomials F .zero)))
-              (holds-none (λ j. zero-inside s′ (256 * k + 128) 128 j (λ lt. cell-tail s z n o room k j (omega arith) lt)));
+              (holds-none (λ j. zero-inside s′ (256 * k + 128) 128 j (λ lt. cell-tail s z n top-low o room k j (omega arith) lt)));
         }
           where
             C : Slots (Polynomial (residues p prime))
-            C = transposed (polynomials (residues p prime)) n 16 U
+            C = transposed (polynomials (residues p prime)) n (greatest (L .sizes) n) U
 
       -- with the sizes, all the slots
-      pub transposed-slots : (oz i′ : List ℕ) → 16 ≤ length oz → HoldsSlots p prime n (weights (polynomials (residues p prime)) n 16 U)
+      pub transposed-slots : (oz i′ : List ℕ) → 16 ≤ length oz → HoldsSlots p prime n (weights (polynomials (residues p prime)) n (greatest (L .sizes) n) U)
           (record {
             slots = stored (transposedWord (L .slots) (L .sizes) n) o 0 2048;
             sizes = stored (transposedSize (L .sizes) n) oz 0 16;
             inverses = i′;
           })
-          (cleared (polynomials (residues p prime)) n (transposed (polynomials (residues p prime)) n 16 U))
+          (cleared (polynomials (residues p prime)) n (transposed (polynomials (residues p prime)) n (greatest (L .sizes) n) U))
       transposed-slots oz i′ enough = record { size = λ k h. size k h (ℕ-discrete (U .size (back n k)) 0); vector = λ k h f. transposed-held k h (some k h f) }
         where
           same : (k : ℕ) → getD z (reversed n k) 0 ≡ getD z (back n k) 0
           same k = ap (λ q. getD z q 0) (omega arith)
 
           size : (k : ℕ) → (h : k < n) → Dec (U .size (back n k) ≡ 0)
-              → transposed (polynomials F) n 16 U .size k ≡ height (getD (stored (transposedSize z n) oz 0 16) k 0)
+              → transposed (polynomials F) n (greatest (L .sizes) n) U .size k ≡ height (getD (stored (transposedSize z n) oz 0 16) k 0)
           size k h (yes none) =
-              masked-empty (U .size (back n k)) 0 16 none
+              masked-empty (U .size (back n k)) 0 (greatest z n) none
               ∙ sym (ap height (size-stored z oz n enough k (omega arith)
               ∙ size-empty z n k h (λ (g : 0 < getD z (reversed n k) 0). omega (arith, same k, size-of k h))))
           size k h (no some) =
-              let high : height (128 - k) ≡ 16 = omega arith in
-              masked-filled (U .size (back n k)) 0 16 (omega arith)
+              let tall : 0 < greatest z n = greatest-positive z n (back n k) (omega arith) (omega (arith, size-of k h)) in
+              let high : height (8 * greatest z n - k) ≡ greatest z n = omega arith in
+              masked-filled (U .size (back n k)) 0 (greatest z n) (omega arith)
               ∙ sym (ap height (size-stored z oz n enough k (omega arith)
               ∙ size-filled z n k h (omega (arith, same k, size-of k h))) ∙ high)
 
-          some : (k : ℕ) → k < n → 0 < transposed (polynomials F) n 16 U .size k → 0 < transposedSize z n k
+          some : (k : ℕ) → k < n → 0 < transposed (polynomials F) n (greatest (L .sizes) n) U .size k → 0 < transposedSize z n k
           some k h f =
               let e = size k h (ℕ-discrete (U .size (back n k)) 0) in
               omega (arith, size-stored z oz n enough k (omega arith))
@@ -204,11 +215,11 @@ module _ (p : ℕ) (prime : Prime p) where
                 (omega (arith, weight-is i l)) (omega (arith, same))))
             go (no ge) near =
                 words-zero p prime s (256 * back n i + 128) 128 (tailSize L (back n i)) (valid .slot (back n i) (omega arith) .tail) j
-                (omega (arith, valid .slot (back n i) (omega arith) .tail-within))
+                (omega (arith, top-low, valid .slot (back n i) (omega arith) .tail-within))
                 ∙ sym (words-behind p prime b′ 0 1088 (flat 8 i (ω i + j)) (omega arith))
 
         right-coordinate : Dec (U .size (back n i) ≡ 0) → Holds (residues p prime) (λ j. words p prime b′ 0 1088 (flat 8 i (ω i + j)))
-            (rightSide (polynomials (residues p prime)) n 16 U i)
+            (rightSide (polynomials (residues p prime)) n (greatest (L .sizes) n) U i)
         right-coordinate (yes none) = subst (Holds F _) (sym (masked-empty (U .size (back n i)) _ (U .at (back n i) n) none))
             (holds-none (λ j. right-zero i (ω i + j) (omega arith)
             (λ lt. right-cell-empty s z n o room i (ω i + j) (omega arith) lt l (omega (arith, size-of i l)))))
@@ -222,8 +233,8 @@ module _ (p : ℕ) (prime : Prime p) where
             go (yes none) lt = right-cell-empty s z n o room i e (omega arith) lt l none
             go (no some) lt = right-cell-low s z n o room i e (omega arith) lt l (omega arith) (omega (arith, weight-is i l))
 
-      pub right-held : Flat (residues p prime) n 8 (weights (polynomials (residues p prime)) n 16 U)
-          (words p prime (stored (rightWord (L .slots) (L .sizes) n) o 0 1088) 0 1088) (rightSide (polynomials (residues p prime)) n 16 U)
+      pub right-held : Flat (residues p prime) n 8 (weights (polynomials (residues p prime)) n (greatest (L .sizes) n) U)
+          (words p prime (stored (rightWord (L .slots) (L .sizes) n) o 0 1088) 0 1088) (rightSide (polynomials (residues p prime)) n (greatest (L .sizes) n) U)
       right-held = record {
         lanes = small;
         lane = λ i l. holds-shift F (ω i) (right-coordinate i l (ℕ-discrete (U .size (back n i)) 0)) (right-below i l);

@@ -12,9 +12,10 @@ use Rattle.reduction.specs.Flat.{flat}
 use Rattle.reduction.specs.Transpose.{back}
 use Rattle.vector.specs.Stored.{stored, stored-inside, stored-outside, length-stored, below-or-not}
 use Rattle.lattice.specs.Memory.{row, height, ZeroFrom, Ends, Level, slotSize, tailSize, ValidSlot, ValidLevel}
+use Rattle.second.specs.Greatest.{greatest, greatest-high, greatest-small, greatest-positive}
 use Rattle.second.specs.Words.{when, when-yes, when-no, reversed, lift, blockWord, transposedWord, transposedSize}
-use Rattle.second.specs.Words.{size-beyond, size-empty, size-filled}
-use Rattle.second.specs.Cells.{weight, cell-empty, cell-low, cell-value, cell-tail}
+use Rattle.second.specs.Words.{size-beyond, size-empty, size-filled, size-inside}
+use Rattle.second.specs.Cells.{weight, cell-empty, cell-low, cell-value, cell-behind, cell-tail}
 use Rattle.second.specs.Transposed.{size-stored}
 
 -- what the code stores for a level L of n rows, over the lists given
@@ -26,15 +27,17 @@ transposedLevel L n o oz oi = record {
 }
 
 -- the last word of a block, and the words of its highest degree in the lanes of coordinates before its pivot
-last-place : (size q : ℕ) → 0 < size → size ≤ 128 → row size ≡ q → flat 8 q (15 - (16 - height size)) ≡ size - 1
-last-place size q some most pivot =
-    let e : 15 - (16 - height size) ≡ (size - 1) / 8 = omega arith in
+last-place : (top size q : ℕ) → 0 < size → height size ≤ top → row size ≡ q
+    → flat 8 q (top - 1 - (top - height size)) ≡ size - 1
+last-place top size q some most pivot =
+    let e : top - 1 - (top - height size) ≡ (size - 1) / 8 = omega arith in
     ap (flat 8 q) e ∙ omega arith
 
-later-place : (size q r : ℕ) → 0 < size → size ≤ 128 → row size ≡ q → q < 8 → r < q → size ≤ flat 8 r (15 - (16 - height size))
-later-place size q r some most pivot lane before =
-    let e = last-place size q some most pivot in
-    let m : ℕ = 15 - (16 - height size) in
+later-place : (top size q r : ℕ) → 0 < size → height size ≤ top → row size ≡ q → q < 8 → r < q
+    → size ≤ flat 8 r (top - 1 - (top - height size))
+later-place top size q r some most pivot lane before =
+    let e = last-place top size q some most pivot in
+    let m : ℕ = top - 1 - (top - height size) in
     go m e
   where
     go : (m : ℕ) → flat 8 q m ≡ size - 1 → size ≤ flat 8 r m
@@ -59,6 +62,13 @@ module _ (p : ℕ) (positive : 0 < p) {n : ℕ} (small : n ≤ 8) {L : Level} (v
   abbrev s′ : List ℕ
   s′ = stored (transposedWord (L .slots) (L .sizes) n) o 0 2048
 
+  -- the height of the transposed slots
+  abbrev high : ℕ
+  high = greatest (L .sizes) n
+
+  low : greatest (L .sizes) n ≤ 16
+  low = greatest-small z n small (λ q h. valid .slot q h .block .within)
+
   word-below : (x : ℕ) → transposedWord (L .slots) (L .sizes) n x < p
   word-below x = when-below p positive _ _ (when-below p positive _ _ (when-below p positive _ _
       (when-below p positive _ _ (valid .below _))))
@@ -78,7 +88,7 @@ module _ (p : ℕ) (positive : 0 < p) {n : ℕ} (small : n ≤ 8) {L : Level} (v
     tail-at = size-stored z oz n room-sizes (8 + k) (omega arith) ∙ size-beyond z n (8 + k) (λ (h : 8 + k < n). omega arith)
 
     tail-zero : ZeroFrom p s′ (256 * k + 128) 128 (tailSize L′ k)
-    tail-zero j h lt = ap (λ w. w % p) (cell-tail s z n o room k j in-level lt) ∙ zero-mod p
+    tail-zero j h lt = ap (λ w. w % p) (cell-tail s z n low o room k j in-level lt) ∙ zero-mod p
 
     -- an empty slot
     module _ (none : transposedSize (L .sizes) n k ≡ 0) where
@@ -109,60 +119,68 @@ module _ (p : ℕ) (positive : 0 < p) {n : ℕ} (small : n ≤ 8) {L : Level} (v
       same : getD z (reversed n k) 0 ≡ getD z (back n k) 0
       same = ap (λ m. getD z m 0) (omega arith)
 
-      size-is : transposedSize (L .sizes) n k ≡ 128 - k
+      size-is : transposedSize (L .sizes) n k ≡ 8 * high - k
       size-is = size-filled z n k h some
 
+      tall : 0 < high
+      tall = greatest-positive z n (reversed n k) (omega arith) some
+
       full : 0 < transposedSize (L .sizes) n k
-      full = omega (arith, size-is)
+      full = omega (arith, size-is, tall)
 
       slot : ValidSlot p L (back n k)
       slot = valid .slot (back n k) (omega arith)
 
-      within : getD z (back n k) 0 ≤ 128
-      within = slot .block .within
+      within : height (getD z (back n k) 0) ≤ high
+      within = greatest-high z n (back n k) (omega arith)
 
       filled : 0 < slotSize L (back n k)
       filled = omega (arith, same)
 
       -- its leading word is that of slot n - 1 - k of the level
-      top : weight z n k ≤ 15
+      top : weight z n k ≤ high - 1
       top = omega (arith, filled)
 
-      leading-place : flat 8 (back n k) (15 - weight z n k) ≡ slotSize L (back n k) - 1
-      leading-place = last-place (slotSize L (back n k)) (back n k) filled within (slot .pivot filled)
+      leading-place : flat 8 (back n k) (high - 1 - weight z n k) ≡ slotSize L (back n k) - 1
+      leading-place = last-place high (slotSize L (back n k)) (back n k) filled within (slot .pivot filled)
 
       leading-word : getD s′ (256 * k + (slotSize L′ k - 1)) 0 ≡ getD s (256 * back n k + (slotSize L (back n k) - 1)) 0
       leading-word =
-          let here : slotSize L′ k - 1 ≡ flat 8 k 15 = omega (arith, size-at, size-is) in
+          let here : slotSize L′ k - 1 ≡ flat 8 k (high - 1) = omega (arith, size-at, size-is, tall) in
           ap (λ m. getD s′ (256 * k + m) 0) here
-          ∙ cell-value s z n o room k k 15 in-level in-level (omega arith) full h top
+          ∙ cell-value s z n o room k k (high - 1) in-level in-level (omega (arith, low)) full h top (omega (arith, tall))
           ∙ ap (λ m. getD s (256 * back n k + m) 0) leading-place
 
       -- coordinates before k are shorter: in the level they come behind the pivot of their slot
       behind : ZeroFrom p s′ (256 * k) 128 (slotSize L′ k)
-      behind j ge lt =
-          let here : j ≡ flat 8 (127 - j) 15 = omega (arith, size-at, size-is) in
-          ap (λ m. getD s′ (256 * k + m) 0 % p) here ∙ go (127 - j) (omega (arith, size-at, size-is)) (decLt 15 (weight z n (127 - j)))
+      behind j ge lt = ⊎-elim
+          (λ near.
+          let here : j ≡ flat 8 (8 * high - 1 - j) (high - 1) = omega (arith, size-at, size-is, tall) in
+          ap (λ m. getD s′ (256 * k + m) 0 % p) here
+          ∙ go (8 * high - 1 - j) (omega (arith, size-at, size-is)) (decLt (high - 1) (weight z n (8 * high - 1 - j))))
+          (λ past. ap (λ w. w % p) (cell-behind s z n o room k j in-level past (omega arith)) ∙ zero-mod p)
+          (below-or-not j (8 * high))
         where
-          go : (i : ℕ) → i < k → Dec (15 < weight z n i) → getD s′ (256 * k + flat 8 i 15) 0 % p ≡ 0
-          go i l (yes low) = ap (λ w. w % p) (cell-low s z n o room k i 15 in-level (omega arith) (omega arith) full (omega arith) low) ∙ zero-mod p
-          go i l (no high) =
+          go : (i : ℕ) → i < k → Dec (high - 1 < weight z n i) → getD s′ (256 * k + flat 8 i (high - 1)) 0 % p ≡ 0
+          go i l (yes short) = ap (λ w. w % p) (cell-low s z n o room k i (high - 1) in-level (omega arith) (omega (arith, low)) full (omega arith) short) ∙ zero-mod p
+          go i l (no long) =
               let other = valid .slot (back n i) (omega arith) in
-              let low : getD z (back n i) 0 ≤ 128 = other .block .within in
-              let some-there : 0 < slotSize L (back n i) = omega arith in
-              let place : slotSize L (back n i) ≤ flat 8 (back n k) (15 - weight z n i) =
-              later-place (slotSize L (back n i)) (back n i) (back n k) some-there low (other .pivot some-there) (omega arith) (omega arith) in
-              ap (λ w. w % p) (cell-value s z n o room k i 15 in-level (omega arith) (omega arith) full (omega arith) (omega arith))
-              ∙ other .block .behind (flat 8 (back n k) (15 - weight z n i)) place (omega arith)
+              let most : height (getD z (back n i) 0) ≤ high = greatest-high z n (back n i) (omega arith) in
+              let some-there : 0 < slotSize L (back n i) = omega (arith, tall) in
+              let place : slotSize L (back n i) ≤ flat 8 (back n k) (high - 1 - weight z n i) =
+              later-place high (slotSize L (back n i)) (back n i) (back n k) some-there most (other .pivot some-there) (omega arith) (omega arith) in
+              ap (λ w. w % p) (cell-value s z n o room k i (high - 1) in-level (omega arith) (omega (arith, low)) full (omega arith)
+              (omega arith) (omega (arith, tall)))
+              ∙ other .block .behind (flat 8 (back n k) (high - 1 - weight z n i)) place (omega (arith, low))
 
       slot-filled : ValidSlot p L′ k
       slot-filled = record {
         block = record {
-          within = omega (arith, size-at, size-is);
+          within = omega (arith, size-at, size-is, low);
           last = λ _. subst (λ w. 0 < w % p) (sym leading-word) (slot .block .last filled);
           behind = behind;
         };
-        pivot = λ _. omega (arith, size-at, size-is);
+        pivot = λ _. omega (arith, size-at, size-is, tall);
         inverse = λ _.
             ap (λ m. getD (stored (λ k. getD (L .inverses) (reversed n k) 0) oi 0 n) m 0) (sym (zero-add k))
             ∙ stored-inside (λ k. getD (L .inverses) (reversed n k) 0) oi 0 n k (omega arith) h

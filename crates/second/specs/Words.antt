@@ -1,5 +1,5 @@
 -- The words of the second system of a level with slots s and sizes z, of n rows. Its coordinate i is coordinate n - 1 - i of the
--- level, lifted by so many degrees that the block of slot n - 1 - i of the level would be 16 degrees high.
+-- level, lifted by so many degrees that the block of slot n - 1 - i of the level would be as high as the highest.
 use Prim.Native.Nat.{ℕ, suc, _+_, _-_, _*_, _/_, _%_, _<_, _≤_}
 use mathlib.Core.Path.{_≡_, refl, sym, _∙_, ap}
 use mathlib.Core.List.{List}
@@ -7,6 +7,7 @@ use native.Mathlib.Omega.{arith}
 use native.Mathlib.Decide.{decLt, decLe}
 use lib.ListN.{length, getD}
 use Rattle.lattice.specs.Memory.{height}
+use Rattle.second.specs.Greatest.{greatest}
 
 -- v where d holds, else 0
 unfoldable pub when : {P : Type 0} → Dec P → ℕ → ℕ
@@ -35,15 +36,15 @@ reversed n i = n - 1 - i
 
 -- by how many degrees coordinate i is lifted
 abbrev pub lift : (z : List ℕ) (n i : ℕ) → ℕ
-lift z n i = 16 - height (getD z (reversed n i) 0)
+lift z n i = greatest z n - height (getD z (reversed n i) 0)
 
 -- coefficient e of row r in the block of slot q
 abbrev pub blockWord : List ℕ → (q r e : ℕ) → ℕ
 blockWord s q r e = getD s (256 * q + 8 * e + (7 - r)) 0
 
--- the size of slot k, in words: it is empty where slot n - 1 - k of the level is, else 16 degrees high with its pivot at k
+-- the size of slot k, in words: it is empty where slot n - 1 - k of the level is, else as high as the highest block, its pivot at k
 abbrev pub transposedSize : (z : List ℕ) (n k : ℕ) → ℕ
-transposedSize z n k = when (decLt k n) (when (decLt 0 (getD z (reversed n k) 0)) (128 - k))
+transposedSize z n k = when (decLt k n) (when (decLt 0 (getD z (reversed n k) 0)) (8 * greatest z n - k))
 
 module _ (z : List ℕ) (n k : ℕ) where
   pub size-beyond : ¬ (k < n) → transposedSize z n k ≡ 0
@@ -51,17 +52,24 @@ module _ (z : List ℕ) (n k : ℕ) where
 
   module _ (slot : k < n) where
     pub size-empty : ¬ (0 < getD z (reversed n k) 0) → transposedSize z n k ≡ 0
-    size-empty out = when-yes (decLt k n) _ slot ∙ when-no (decLt 0 (getD z (reversed n k) 0)) (128 - k) out
+    size-empty out = when-yes (decLt k n) _ slot ∙ when-no (decLt 0 (getD z (reversed n k) 0)) (8 * greatest z n - k) out
 
-    pub size-filled : 0 < getD z (reversed n k) 0 → transposedSize z n k ≡ 128 - k
-    size-filled some = when-yes (decLt k n) _ slot ∙ when-yes (decLt 0 (getD z (reversed n k) 0)) (128 - k) some
+    pub size-filled : 0 < getD z (reversed n k) 0 → transposedSize z n k ≡ 8 * greatest z n - k
+    size-filled some = when-yes (decLt k n) _ slot ∙ when-yes (decLt 0 (getD z (reversed n k) 0)) (8 * greatest z n - k) some
+
+  size-within : Dec (k < n) → 0 < transposedSize z n k → k < n
+  size-within (yes h) some = h
+  size-within (no h) some = absurd (omega (arith, size-beyond h))
+
+  pub size-inside : 0 < transposedSize z n k → k < n
+  size-inside = size-within (decLt k n)
 
 -- slot k has at coordinate i what slot n - 1 - i of the level has at coordinate n - 1 - k; empty slots and tails are 0
 abbrev pub transposedWord : (s z : List ℕ) (n x : ℕ) → ℕ
 transposedWord s z n x =
     when (decLt 0 (transposedSize z n (x / 256)))
     (when (decLt (7 - x % 8) n)
-    (when (decLt (x % 256) 128)
+    (when (decLt (x % 256) (8 * greatest z n))
     (when (decLe (lift z n (7 - x % 8)) (x % 256 / 8))
     (blockWord s (reversed n (7 - x % 8)) (reversed n (x / 256)) (x % 256 / 8 - lift z n (7 - x % 8))))))
 
@@ -83,16 +91,16 @@ module _ (s z : List ℕ) (n x : ℕ) where
       inside : (v : ℕ) → when (decLt 0 (transposedSize z n (x / 256))) (when (decLt (7 - x % 8) n) v) ≡ v
       inside v = when-yes (decLt 0 (transposedSize z n (x / 256))) _ slot ∙ when-yes (decLt (7 - x % 8) n) _ lane
 
-      pub transposed-tail : ¬ (x % 256 < 128) → transposedWord s z n x ≡ 0
-      transposed-tail out = inside _ ∙ when-no (decLt (x % 256) 128) (when lifted value) out
+      pub transposed-tail : ¬ (x % 256 < 8 * greatest z n) → transposedWord s z n x ≡ 0
+      transposed-tail out = inside _ ∙ when-no (decLt (x % 256) (8 * greatest z n)) (when lifted value) out
 
-      module _ (block : x % 256 < 128) where
+      module _ (block : x % 256 < 8 * greatest z n) where
         pub transposed-low : ¬ (lift z n (7 - x % 8) ≤ x % 256 / 8) → transposedWord s z n x ≡ 0
-        transposed-low out = inside _ ∙ when-yes (decLt (x % 256) 128) (when lifted value) block ∙ when-no lifted value out
+        transposed-low out = inside _ ∙ when-yes (decLt (x % 256) (8 * greatest z n)) (when lifted value) block ∙ when-no lifted value out
 
         pub transposed-value : lift z n (7 - x % 8) ≤ x % 256 / 8 → transposedWord s z n x
             ≡ blockWord s (reversed n (7 - x % 8)) (reversed n (x / 256)) (x % 256 / 8 - lift z n (7 - x % 8))
-        transposed-value here = inside _ ∙ when-yes (decLt (x % 256) 128) (when lifted value) block ∙ when-yes lifted value here
+        transposed-value here = inside _ ∙ when-yes (decLt (x % 256) (8 * greatest z n)) (when lifted value) block ∙ when-yes lifted value here
 
 -- coefficient e of the tail of slot q
 abbrev pub tailWord : List ℕ → (q e : ℕ) → ℕ

@@ -1,4 +1,5 @@
 // The second system of a level laid out: its slots and its right side.
+use crate::height::greatest_height;
 use crate::right::right_side;
 use crate::transpose::transpose_inverses;
 use crate::transpose::transpose_sizes;
@@ -29,8 +30,9 @@ pub fn lay_second(
     ensures { λ _. ⌜ Laid n (level (now (slots .entry)) (now (sizes .entry)) (now (inverses .entry)))
         (level (now (transposed .exit)) (now (heights .exit)) (now (reciprocals .exit))) (now (right .exit)) ⌝ }
 {
-    transpose_slots(slots, sizes, n, transposed);
-    transpose_sizes(sizes, n, heights);
+    let top = greatest_height(sizes, n);
+    transpose_slots(slots, sizes, n, top, transposed);
+    transpose_sizes(sizes, n, top, heights);
     transpose_inverses(inverses, n, reciprocals);
-    right_side(slots, sizes, n, right);
+    right_side(slots, sizes, n, top, right);
 }

@@ -4,6 +4,7 @@ ghost use Prim.Native.Nat.{_+_, _-_, _*_, _<_, _≤_};
 ghost use lib.ListN.{length};
 ghost use Rattle.vector.specs.Bound.{AtMost};
 ghost use Rattle.vector.specs.Stored.{stored};
+ghost use Rattle.second.specs.Greatest.{greatest};
 ghost use Rattle.second.specs.Words.{InRoom, rightWord};
 ghost use Rattle.second.specs.RightFilling.{TailsEnd, Righting};
 
@@ -17,8 +18,9 @@ pub fn place_in_right(i: usize, d: usize) -> usize
 }
 
 // Stores lane i: the tail of slot n - 1 - i of the level, where that is filled.
-pub fn right_lane(slots: &[u64], sizes: &[usize], n: usize, i: usize, out: &mut [u64])
+pub fn right_lane(slots: &[u64], sizes: &[usize], n: usize, top: usize, i: usize, out: &mut [u64])
     requires { ⌜ InRoom (now slots) (now sizes) × TailsEnd (now slots) (now sizes) × (n ≤ 8) × (i < n) ⌝ }
+    requires height { ⌜ top ≡ greatest (now sizes) n ⌝ }
     requires before { ⌜ Righting (now slots) (now sizes) n (length (now out)) (now out) (136 * i) ⌝ }
     ensures { λ _. ⌜ Righting (now (slots .entry)) (now (sizes .entry)) n (length (now (out .entry))) (now (out .exit))
         (136 * (i + 1)) ⌝ }
@@ -27,7 +29,7 @@ pub fn right_lane(slots: &[u64], sizes: &[usize], n: usize, i: usize, out: &mut 
     if sizes[q] == 0 {
         return;
     }
-    let lift = 16 - (sizes[q] + 7) / 8;
+    let lift = top - (sizes[q] + 7) / 8;
     let count = sizes[8 + q];
     let mut e = 0;
     while e < count {
@@ -38,14 +40,15 @@ pub fn right_lane(slots: &[u64], sizes: &[usize], n: usize, i: usize, out: &mut 
 }
 
 // Stores the right side, 136 degrees of it, into cleared memory.
-pub fn right_side(slots: &[u64], sizes: &[usize], n: usize, out: &mut [u64])
+pub fn right_side(slots: &[u64], sizes: &[usize], n: usize, top: usize, out: &mut [u64])
     requires { ⌜ InRoom (now slots) (now sizes) × TailsEnd (now slots) (now sizes) × (n ≤ 8) × (1088 ≤ length (now out))
         × AtMost 0 (now out) ⌝ }
+    requires height { ⌜ top ≡ greatest (now sizes) n ⌝ }
     ensures { λ _. ⌜ now (out .exit) ≡ stored (rightWord (now (slots .entry)) (now (sizes .entry)) n) (now (out .entry)) 0 1088 ⌝ }
 {
     let mut i = 0;
     while i < n {
-        right_lane(slots, sizes, n, i, out);
+        right_lane(slots, sizes, n, top, i, out);
         i += 1;
     }
 }

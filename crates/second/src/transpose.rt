@@ -1,9 +1,11 @@
-// The slots of the second system: the blocks of a level transposed, coordinates in reversed order, every block 16 degrees high.
+// The slots of the second system: the blocks of a level transposed, coordinates in reversed order, every block as high as the
+// highest, `top` degrees.
 ghost use mathlib.Core.Path.{_≡_};
 ghost use Prim.Native.Nat.{_+_, _-_, _*_, _<_, _≤_};
 ghost use lib.ListN.{length, getD};
 ghost use Rattle.vector.specs.Bound.{AtMost};
 ghost use Rattle.vector.specs.Stored.{stored};
+ghost use Rattle.second.specs.Greatest.{greatest};
 ghost use Rattle.second.specs.Words.{InRoom, reversed, transposedWord, transposedSize};
 ghost use Rattle.second.specs.TransposeFilling.{Transposing};
 
@@ -17,29 +19,39 @@ pub fn place_in_block(q: usize, r: usize, e: usize) -> usize
 }
 
 // The size of slot k of the transposed slots.
-pub fn transposed_size(sizes: &[usize], n: usize, k: usize) -> usize
-    requires { ⌜ (16 ≤ length (now sizes)) × (n ≤ 8) ⌝ }
+pub fn transposed_size(sizes: &[usize], n: usize, top: usize, k: usize) -> usize
+    requires { ⌜ (16 ≤ length (now sizes)) × (n ≤ 8) × (top ≤ 16) ⌝ }
+    requires height { ⌜ top ≡ greatest (now sizes) n ⌝ }
     ensures { λ r. ⌜ r ≡ transposedSize (now (sizes .entry)) n k ⌝ }
 {
     if k < n {
         if 0 < sizes[n - 1 - k] {
-            return 128 - k;
+            return 8 * top - k;
         }
     }
     0
 }
 
 // Stores lane i of slot k: coordinate n - 1 - k of the block of slot n - 1 - i of the level.
-pub fn transpose_lane(slots: &[u64], sizes: &[usize], n: usize, k: usize, i: usize, out: &mut [u64])
+pub fn transpose_lane(
+    slots: &[u64],
+    sizes: &[usize],
+    n: usize,
+    top: usize,
+    k: usize,
+    i: usize,
+    out: &mut [u64],
+)
     requires { ⌜ InRoom (now slots) (now sizes) × (n ≤ 8) × (k < n) × (i < n) × (0 < getD (now sizes) (reversed n k) 0) ⌝ }
+    requires height { ⌜ top ≡ greatest (now sizes) n ⌝ }
     requires before { ⌜ Transposing (now slots) (now sizes) n (length (now out)) (now out) (256 * k + 32 * i) ⌝ }
     ensures { λ _. ⌜ Transposing (now (slots .entry)) (now (sizes .entry)) n (length (now (out .entry))) (now (out .exit))
         (256 * k + 32 * (i + 1)) ⌝ }
 {
     let q = n - 1 - i;
-    let lift = 16 - (sizes[q] + 7) / 8;
+    let lift = top - (sizes[q] + 7) / 8;
     let mut e = lift;
-    while e < 16 {
+    while e < top {
         let from = place_in_block(q, n - 1 - k, e - lift);
         let to = place_in_block(k, i, e);
         out[to] = slots[from];
@@ -48,8 +60,16 @@ pub fn transpose_lane(slots: &[u64], sizes: &[usize], n: usize, k: usize, i: usi
 }
 
 // Stores slot k, lane by lane, where it is filled.
-pub fn transpose_slot(slots: &[u64], sizes: &[usize], n: usize, k: usize, out: &mut [u64])
+pub fn transpose_slot(
+    slots: &[u64],
+    sizes: &[usize],
+    n: usize,
+    top: usize,
+    k: usize,
+    out: &mut [u64],
+)
     requires { ⌜ InRoom (now slots) (now sizes) × (n ≤ 8) × (k < n) ⌝ }
+    requires height { ⌜ top ≡ greatest (now sizes) n ⌝ }
     requires before { ⌜ Transposing (now slots) (now sizes) n (length (now out)) (now out) (256 * k) ⌝ }
     ensures { λ _. ⌜ Transposing (now (slots .entry)) (now (sizes .entry)) n (length (now (out .entry))) (now (out .exit))
         (256 * (k + 1)) ⌝ }
@@ -59,32 +79,33 @@ pub fn transpose_slot(slots: &[u64], sizes: &[usize], n: usize, k: usize, out: &
     }
     let mut i = 0;
     while i < n {
-        transpose_lane(slots, sizes, n, k, i, out);
+        transpose_lane(slots, sizes, n, top, k, i, out);
         i += 1;
     }
 }
 
 // Stores the transposed slots, their tails 0, into cleared memory: only the slots that are filled.
-pub fn transpose_slots(slots: &[u64], sizes: &[usize], n: usize, out: &mut [u64])
+pub fn transpose_slots(slots: &[u64], sizes: &[usize], n: usize, top: usize, out: &mut [u64])
     requires { ⌜ InRoom (now slots) (now sizes) × (n ≤ 8) × (2048 ≤ length (now out)) × AtMost 0 (now out) ⌝ }
-    ensures { λ _. ⌜ now (out .exit) ≡ stored (transposedWord (now (slots .entry)) (now (sizes .entry)) n)
-        (now (out .entry)) 0 2048 ⌝ }
+    requires height { ⌜ top ≡ greatest (now sizes) n ⌝ }
+    ensures { λ _. ⌜ now (out .exit) ≡ stored (transposedWord (now (slots .entry)) (now (sizes .entry)) n) (now (out .entry)) 0 2048 ⌝ }
 {
     let mut k = 0;
     while k < n {
-        transpose_slot(slots, sizes, n, k, out);
+        transpose_slot(slots, sizes, n, top, k, out);
         k += 1;
     }
 }
 
 // Stores the sizes of the transposed slots; those of their tails are 0.
-pub fn transpose_sizes(sizes: &[usize], n: usize, out: &mut [usize])
-    requires { ⌜ (16 ≤ length (now sizes)) × (n ≤ 8) × (16 ≤ length (now out)) ⌝ }
+pub fn transpose_sizes(sizes: &[usize], n: usize, top: usize, out: &mut [usize])
+    requires { ⌜ (16 ≤ length (now sizes)) × (n ≤ 8) × (16 ≤ length (now out)) × (top ≤ 16) ⌝ }
+    requires height { ⌜ top ≡ greatest (now sizes) n ⌝ }
     ensures { λ _. ⌜ now (out .exit) ≡ stored (transposedSize (now (sizes .entry)) n) (now (out .entry)) 0 16 ⌝ }
 {
     let mut k = 0;
     while k < 16 {
-        out[k] = transposed_size(sizes, n, k);
+        out[k] = transposed_size(sizes, n, top, k);
         k += 1;
     }
 }

@@ -1,8 +1,10 @@
 -- The loop keeps a `RightGoing`: one word a turn.
-use mathlib.Core.Path.{refl}
-use Prim.Native.Nat.{_-_, _<_}
+use mathlib.Core.Path.{refl, _∙_, ap}
+use Prim.Native.Nat.{_+_, _-_, _*_, _<_}
 use native.Mathlib.Omega.{arith}
 use lib.ListN.{length, getD}
+use Rattle.lattice.specs.Memory.{height}
+use Rattle.second.specs.Greatest.{greatest-high, greatest-small}
 use Rattle.second.specs.Words.{reversed}
 use Rattle.second.specs.RightFilling.{RightGoing, righting-empty, right-start, right-end, right-turn}
 use Rattle.second.proofs.right.right_lane.Statement.{statement}
@@ -12,10 +14,10 @@ use Rattle.second.proofs.right.right_lane.Lts as lts
 use Rattle.second.proofs.right.place_in_right.Reads as place-in-right-reads
 
 abbrev Inv-loop : tie.InvT-loop
-Inv-loop slots sizes n i out₀ q lift count e₀ out e = RightGoing slots sizes n i (length out₀) out e
+Inv-loop slots sizes n top i out₀ q lift count e₀ out e = RightGoing slots sizes n i (length out₀) out e
 
 abbrev μ-loop : tie.MeasureT-loop
-μ-loop slots sizes n i out₀ q lift count e₀ out e = count - e
+μ-loop slots sizes n top i out₀ q lift count e₀ out e = count - e
 
 -- src/right.rt:26:13
 sub-q : tie.Need-sub-q Inv-loop μ-loop
@@ -37,7 +39,7 @@ shared-slice-read-if1 c = omega arith
 returns : tie.Need-returns Inv-loop μ-loop
 returns c =
     let S = c .before .before .before .before .before in
-    righting-empty (S .args .slots .now) (S .args .sizes .now) (S .args .n) (S .args .i) (S .pre .0 .3) (S .pre .1)
+    righting-empty (S .args .slots .now) (S .args .sizes .now) (S .args .n) (S .args .i) (S .pre .0 .3) (S .pre .1 .1)
     (λ (h : 0 < getD (S .args .sizes .now) (reversed (S .args .n) (S .args .i)) 0). omega arith)
 
 -- src/right.rt:30:22
@@ -58,7 +60,7 @@ add-lift c =
 sub-lift : tie.Need-sub-lift Inv-loop μ-loop
 sub-lift c =
     let S = c .before .before .before .before .before .before in
-    omega (arith, S .pre .0 .0 .low (S .args .n - 1 - S .args .i) (omega arith))
+    omega (arith, S .pre .1 .0, greatest-high (S .args .sizes .now) (S .args .n) (S .args .n - 1 - S .args .i) (omega arith))
 
 -- src/right.rt:31:23
 add-count : tie.Need-add-count Inv-loop μ-loop
@@ -77,14 +79,16 @@ loop-holds : tie.Need-loop-holds Inv-loop μ-loop
 loop-holds c =
     let S = c .before .before .before .before .before .before .before in
     let some : 0 < getD (S .args .sizes .now) (reversed (S .args .n) (S .args .i)) 0 = omega arith in
-    right-start (S .args .slots .now) (S .args .sizes .now) (S .args .n) (S .args .i) (S .pre .0 .3) some (S .pre .0 .2) (S .pre .1)
+    right-start (S .args .slots .now) (S .args .sizes .now) (S .args .n) (S .args .i) (S .pre .0 .3) some (S .pre .0 .2)
+    (greatest-small (S .args .sizes .now) (S .args .n) (S .pre .0 .2) (S .pre .0 .0 .low)) (S .pre .1 .1)
 
 -- src/right.rt:34:36
 add-place-in-right : tie.Need-add-place-in-right Inv-loop μ-loop
 add-place-in-right c =
     let S = c .before .before .before .before .before .before .before .before .before in
     let short = S .pre .0 .1 .short (S .args .n - 1 - S .args .i) (omega arith) in
-    omega (arith, short)
+    let small = greatest-small (S .args .sizes .now) (S .args .n) (S .pre .0 .2) (S .pre .0 .0 .low) in
+    omega (arith, short, small, S .pre .1 .0)
 
 -- src/right.rt:34:13
 place-in-right-requires : tie.Need-place-in-right-requires Inv-loop μ-loop
@@ -92,7 +96,8 @@ place-in-right-requires c κs =
     let S = c .before .before .before .before .before .before .before .before .before in
     let short = S .pre .0 .1 .short (S .args .n - 1 - S .args .i) (omega arith) in
     let some : 0 < getD (S .args .sizes .now) (reversed (S .args .n) (S .args .i)) 0 = omega arith in
-    (omega arith, omega (arith, short, some))
+    let small = greatest-small (S .args .sizes .now) (S .args .n) (S .pre .0 .2) (S .pre .0 .0 .low) in
+    (omega arith, omega (arith, short, some, small, S .pre .1 .0))
 
 -- src/right.rt:35:25
 mul-out : tie.Need-mul-out Inv-loop μ-loop
@@ -141,7 +146,9 @@ loop-again c =
     let some : 0 < getD (S .args .sizes .now) (reversed (S .args .n) (S .args .i)) 0 = omega arith in
     let short = S .pre .0 .1 .short (S .args .n - 1 - S .args .i) (omega arith) in
     right-turn (S .args .slots .now) (S .args .sizes .now) (S .args .n) (S .args .i) (S .pre .0 .3) some (S .pre .0 .2)
-    (L .loop .inv) (omega arith) (omega (arith, short)) _ (c .before .place-in-right .ensures .0) _ refl
+    (greatest-small (S .args .sizes .now) (S .args .n) (S .pre .0 .2) (S .pre .0 .0 .low)) (L .loop .inv) (omega arith) (omega (arith, short)) _
+    (c .before .place-in-right .ensures .0
+    ∙ ap (λ t. 8 * (t - height (getD (S .args .sizes .now) (S .args .n - 1 - S .args .i) 0) + L .loop .e) + (7 - S .args .i)) (S .pre .1 .0)) _ refl
 
 -- src/right.rt:20:1
 same-length : tie.Need-same-length Inv-loop μ-loop
@@ -153,7 +160,7 @@ returns-2 c =
     let S = c .before .before .before .before .before .before .before .before .before in
     let some : 0 < getD (S .args .sizes .now) (reversed (S .args .n) (S .args .i)) 0 = omega arith in
     right-end (S .args .slots .now) (S .args .sizes .now) (S .args .n) (S .args .i) (S .pre .0 .3) some (S .pre .0 .2)
-    (S .pre .0 .1) (c .before .loop .inv) (omega arith)
+    (greatest-small (S .args .sizes .now) (S .args .n) (S .pre .0 .2) (S .pre .0 .0 .low)) (S .pre .0 .1) (c .before .loop .inv) (omega arith)
 
 pub right-lane-spec : {M : Type 1} → statement M
 right-lane-spec =

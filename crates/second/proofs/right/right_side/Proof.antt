@@ -12,17 +12,16 @@ use Rattle.second.proofs.right.right_side.Lts as lts
 use Rattle.second.proofs.right.right_lane.Reads as right-lane-reads
 
 abbrev Inv-loop : tie.InvT-loop
-Inv-loop slots sizes n out₀ i₀ out i = (i ≤ n) × Righting slots sizes n (length out₀) out (136 * i)
+Inv-loop slots sizes n top out₀ i₀ out i = (i ≤ n) × Righting slots sizes n (length out₀) out (136 * i)
 
 abbrev μ-loop : tie.MeasureT-loop
-μ-loop slots sizes n out₀ i₀ out i = n - i
+μ-loop slots sizes n top out₀ i₀ out i = n - i
 
 -- src/right.rt:47:5
 loop-holds : tie.Need-loop-holds Inv-loop μ-loop
 loop-holds c =
     let S = c .before .before .before in
-    let start = righting-start (S .args .slots .now) (S .args .sizes .now) (S .args .n) (S .args .out .now) (S .pre .3) (S .pre .4) in
-    (omega arith, start)
+    (omega arith, righting-start (S .args .slots .now) (S .args .sizes .now) (S .args .n) (S .args .out .now) (S .pre .0 .3) (S .pre .0 .4))
 
 -- src/right.rt:48:9
 right-lane-requires : tie.Need-right-lane-requires Inv-loop μ-loop
@@ -30,7 +29,7 @@ right-lane-requires c κs =
     let L = c .before .before in
     let S = L .before .before .before .before in
     let inv = L .loop .inv in
-    ((S .pre .0, S .pre .1, S .pre .2, omega arith), filling-same (inv .1) (sym (inv .1 .same-length)) refl)
+    ((S .pre .0 .0, S .pre .0 .1, S .pre .0 .2, omega arith), (S .pre .1, filling-same (inv .1) (sym (inv .1 .same-length)) refl))
 
 -- src/right.rt:49:9
 add-i : tie.Need-add-i Inv-loop μ-loop
@@ -55,8 +54,8 @@ returns : tie.Need-returns Inv-loop μ-loop
 returns c =
     let S = c .before .before .before .before .before in
     let inv = c .before .loop .inv in
-    righting-end (S .args .slots .now) (S .args .sizes .now) (S .args .n)
-    (filling-same (inv .1) refl (omega (arith, inv .0))) (S .args .out .now) refl (S .pre .4) (S .pre .2)
+    righting-end (S .args .slots .now) (S .args .sizes .now) (S .args .n) (filling-same (inv .1) refl (omega (arith, inv .0))) (S .args .out .now) refl (S .pre .0 .4)
+    (S .pre .0 .2)
 
 pub right-side-spec : {M : Type 1} → statement M
 right-side-spec =

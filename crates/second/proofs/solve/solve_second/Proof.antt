@@ -53,10 +53,7 @@ find-leading-requires : tie.Need-find-leading-requires
 find-leading-requires c κs =
     let L = c .before .before .before .before .before in
     let S = L .before .before .before .before .before .before .before .before .before .before in
-    let m : ValidModulus (S .args .modulus) = S .pre .0 .0 in (
-      (m, omega (arith, L .lay-second .kept)),
-      block-reducible (S .args .modulus .p) (m .prime) (S .pre .0 .1) (S .pre .0 .2) (L .lay-second .ensures),
-    )
+    ((S .pre .0 .0, omega (arith, L .lay-second .kept)), block-reducible (S .args .modulus .p) (S .pre .0 .0 .prime) (S .pre .0 .1) (S .pre .0 .2) (L .lay-second .ensures))
 
 -- src/solve.rt:44:34
 slice-aggregate-find-denominator : tie.Need-slice-aggregate-find-denominator
@@ -81,10 +78,10 @@ find-denominator-requires c κs =
     let L = F .before .before .before .before .before .before in
     let S = L .before .before .before .before .before .before .before .before .before .before in
     let m : ValidModulus (S .args .modulus) = S .pre .0 .0 in
-    let valid = ready-valid (S .args .modulus .p) (m .prime) (S .pre .0 .1) (S .pre .0 .2) (L .lay-second .ensures)
-    (F .find-leading .result) (F .find-leading .ensures .0) (F .find-leading .ensures .1) in
-    let starts = ready-starts (S .args .modulus .p) (m .prime) (S .pre .0 .1) (S .pre .0 .2) (L .lay-second .ensures)
-    (F .find-leading .result) (F .find-leading .ensures .0) (F .find-leading .ensures .1) in
+    let valid = ready-valid (S .args .modulus .p) (m .prime) (S .pre .0 .1) (S .pre .0 .2) (L .lay-second .ensures) (F .find-leading .result)
+    (F .find-leading .ensures .0) (F .find-leading .ensures .1) in
+    let starts = ready-starts (S .args .modulus .p) (m .prime) (S .pre .0 .1) (S .pre .0 .2) (L .lay-second .ensures) (F .find-leading .result)
+    (F .find-leading .ensures .0) (F .find-leading .ensures .1) in
     ((m, S .pre .1 .1 .0), (valid, starts))
 
 -- src/solve.rt:45:30
@@ -166,10 +163,7 @@ slice-aggregate-store-rows c = search needs
 store-rows-requires : tie.Need-store-rows-requires
 store-rows-requires c κs =
     let Q = c .before .before .before .before in
-    let M = Q .before .before .before .before .before .before .before in
-    let D = M .before .before .before .before .before .before .before .before .before .before in
-    let L = D .before .before .before .before .before .before .before .before .before .before .before .before in
-    let S = L .before .before .before .before .before .before .before .before .before .before in
+    let S = Q .before .before .before .before .before .before .before .before .before .before .before .before .before .before .before .before .before .before .before .before .before .before .before .before .before .before .before .before .before .before .before .before .before .before .before .before .before .before .before in
     (omega (arith, Q .divide .kept), S .pre .0 .1, S .pre .1 .1 .1)
 
 -- src/solve.rt:18:1
@@ -194,8 +188,7 @@ returns c =
     let found = laid-denominator (S .args .modulus .p) (m .prime) (S .pre .0 .1) (S .pre .0 .2) (L .lay-second .ensures)
     (F .find-leading .result) (F .find-leading .ensures .0) (F .find-leading .ensures .1) (D .find-denominator .ensures) in
     let fits = scales-within (S .pre .0 .1) (S .pre .0 .2) (S .pre .1 .0) found in
-    let scaled = right-scaled fits (L .lay-second .ensures) _ (F .find-leading .ensures .0) (S .pre .0 .1)
-    (M .multiply-block .ensures) in
+    let scaled = right-scaled fits (L .lay-second .ensures) _ (F .find-leading .ensures .0) (S .pre .0 .1) (M .multiply-block .ensures) in
     let divided = laid-divided (S .pre .0 .1) (S .pre .0 .2) (L .lay-second .ensures) (Q .divide .ensures) in
     second-solved (S .pre .0 .1) (S .pre .0 .2) found scaled divided _ (S .pre .1 .1 .1) _ (W .store-rows .ensures)
 

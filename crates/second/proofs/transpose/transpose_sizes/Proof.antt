@@ -13,10 +13,10 @@ use Rattle.second.proofs.transpose.transpose_sizes.Lts as lts
 use Rattle.second.proofs.transpose.transposed_size.Reads as transposed-size-reads
 
 abbrev Inv-loop : tie.InvT-loop
-Inv-loop sizes n out₀ k₀ out k = Storing (transposedSize sizes n) out₀ 0 16 out k
+Inv-loop sizes n top out₀ k₀ out k = Storing (transposedSize sizes n) out₀ 0 16 out k
 
 abbrev μ-loop : tie.MeasureT-loop
-μ-loop sizes n out₀ k₀ out k = 16 - k
+μ-loop sizes n top out₀ k₀ out k = 16 - k
 
 -- src/transpose.rt:71:5
 loop-holds : tie.Need-loop-holds Inv-loop μ-loop
@@ -26,7 +26,7 @@ loop-holds c = storing-start _ _ _ _
 transposed-size-requires : tie.Need-transposed-size-requires Inv-loop μ-loop
 transposed-size-requires c κs =
     let S = c .before .before .before .before in
-    (S .pre .0, S .pre .1)
+    ((S .pre .0 .0, S .pre .0 .1, S .pre .0 .3), S .pre .1)
 
 -- src/transpose.rt:72:9
 mul-out : tie.Need-mul-out Inv-loop μ-loop

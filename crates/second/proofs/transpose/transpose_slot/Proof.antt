@@ -13,10 +13,10 @@ use Rattle.second.proofs.transpose.transpose_slot.Lts as lts
 use Rattle.second.proofs.transpose.transpose_lane.Reads as transpose-lane-reads
 
 abbrev Inv-loop : tie.InvT-loop
-Inv-loop slots sizes n k out₀ i₀ out i = (i ≤ n) × Transposing slots sizes n (length out₀) out (256 * k + 32 * i)
+Inv-loop slots sizes n top k out₀ i₀ out i = (i ≤ n) × Transposing slots sizes n (length out₀) out (256 * k + 32 * i)
 
 abbrev μ-loop : tie.MeasureT-loop
-μ-loop slots sizes n k out₀ i₀ out i = n - i
+μ-loop slots sizes n top k out₀ i₀ out i = n - i
 
 -- src/transpose.rt:57:14
 sub-if1 : tie.Need-sub-if1 Inv-loop μ-loop
@@ -38,12 +38,12 @@ shared-slice-read-if1 c = omega arith
 returns : tie.Need-returns Inv-loop μ-loop
 returns c =
     let S = c .before .before .before .before .before in
-    transposing-empty (S .args .slots .now) (S .args .sizes .now) (S .args .n) (S .args .k) (S .pre .0 .2) (S .pre .1)
+    transposing-empty (S .args .slots .now) (S .args .sizes .now) (S .args .n) (S .args .k) (S .pre .0 .2) (S .pre .1 .1)
     (λ (h : 0 < getD (S .args .sizes .now) (reversed (S .args .n) (S .args .k)) 0). omega arith)
 
 -- src/transpose.rt:61:5
 loop-holds : tie.Need-loop-holds Inv-loop μ-loop
-loop-holds c = (omega arith, filling-same (c .before .before .before .before .before .pre .1) refl (omega arith))
+loop-holds c = (omega arith, filling-same (c .before .before .before .before .before .pre .1 .1) refl (omega arith))
 
 -- src/transpose.rt:62:9
 transpose-lane-requires : tie.Need-transpose-lane-requires Inv-loop μ-loop
@@ -52,7 +52,7 @@ transpose-lane-requires c κs =
     let S = L .before .before .before .before .before .before in
     let some : 0 < getD (S .args .sizes .now) (reversed (S .args .n) (S .args .k)) 0 = omega arith in
     let inv = L .loop .inv in
-    ((S .pre .0 .0, S .pre .0 .1, S .pre .0 .2, omega arith, some), filling-same (inv .1) (sym (inv .1 .same-length)) refl)
+    ((S .pre .0 .0, S .pre .0 .1, S .pre .0 .2, omega arith, some), (S .pre .1 .0, filling-same (inv .1) (sym (inv .1 .same-length)) refl))
 
 -- src/transpose.rt:63:9
 add-i : tie.Need-add-i Inv-loop μ-loop

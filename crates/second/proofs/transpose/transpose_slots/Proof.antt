@@ -12,17 +12,16 @@ use Rattle.second.proofs.transpose.transpose_slots.Lts as lts
 use Rattle.second.proofs.transpose.transpose_slot.Reads as transpose-slot-reads
 
 abbrev Inv-loop : tie.InvT-loop
-Inv-loop slots sizes n out₀ k₀ out k = (k ≤ n) × Transposing slots sizes n (length out₀) out (256 * k)
+Inv-loop slots sizes n top out₀ k₀ out k = (k ≤ n) × Transposing slots sizes n (length out₀) out (256 * k)
 
 abbrev μ-loop : tie.MeasureT-loop
-μ-loop slots sizes n out₀ k₀ out k = n - k
+μ-loop slots sizes n top out₀ k₀ out k = n - k
 
 -- src/transpose.rt:73:5
 loop-holds : tie.Need-loop-holds Inv-loop μ-loop
 loop-holds c =
     let S = c .before .before .before in
-    let start = transposing-start (S .args .slots .now) (S .args .sizes .now) (S .args .n) (S .args .out .now) (S .pre .2) (S .pre .3) in
-    (omega arith, start)
+    (omega arith, transposing-start (S .args .slots .now) (S .args .sizes .now) (S .args .n) (S .args .out .now) (S .pre .0 .2) (S .pre .0 .3))
 
 -- src/transpose.rt:74:9
 transpose-slot-requires : tie.Need-transpose-slot-requires Inv-loop μ-loop
@@ -30,7 +29,7 @@ transpose-slot-requires c κs =
     let L = c .before .before in
     let S = L .before .before .before .before in
     let inv = L .loop .inv in
-    ((S .pre .0, S .pre .1, omega arith), filling-same (inv .1) (sym (inv .1 .same-length)) refl)
+    ((S .pre .0 .0, S .pre .0 .1, omega arith), (S .pre .1, filling-same (inv .1) (sym (inv .1 .same-length)) refl))
 
 -- src/transpose.rt:75:9
 add-k : tie.Need-add-k Inv-loop μ-loop
@@ -55,8 +54,8 @@ returns : tie.Need-returns Inv-loop μ-loop
 returns c =
     let S = c .before .before .before .before .before in
     let inv = c .before .loop .inv in
-    transposing-end (S .args .slots .now) (S .args .sizes .now) (S .args .n)
-    (filling-same (inv .1) refl (omega (arith, inv .0))) (S .args .out .now) refl (S .pre .3) (S .pre .1)
+    transposing-end (S .args .slots .now) (S .args .sizes .now) (S .args .n) (filling-same (inv .1) refl (omega (arith, inv .0))) (S .args .out .now) refl (S .pre .0 .3)
+    (S .pre .0 .1)
 
 pub transpose-slots-spec : {M : Type 1} → statement M
 transpose-slots-spec =

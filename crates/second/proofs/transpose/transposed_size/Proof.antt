@@ -1,8 +1,9 @@
 -- One law of `Words` for each way out of the function.
-use mathlib.Core.Path.{sym}
-use Prim.Native.Nat.{ℕ, _-_, _<_}
+use mathlib.Core.Path.{sym, _∙_, ap}
+use Prim.Native.Nat.{_-_, _*_, _<_}
 use native.Mathlib.Omega.{arith}
 use lib.ListN.{getD}
+use Rattle.second.specs.Greatest.{greatest-positive}
 use Rattle.second.specs.Words.{reversed, size-beyond, size-empty, size-filled}
 use borrow.Author.Needs.{needs}
 use Rattle.second.proofs.transpose.transposed_size.Statement.{statement}
@@ -27,14 +28,22 @@ shared-slice-read-if2 : tie.Need-shared-slice-read-if2
 shared-slice-read-if2 c = search needs
 
 -- src/transpose.rt:59:20
+mul-result : tie.Need-mul-result
+mul-result c = search needs
+
+-- src/transpose.rt:59:20
 sub-result : tie.Need-sub-result
-sub-result c = search needs
+sub-result c =
+    let S = c .before .before .before in
+    let tall = greatest-positive (S .args .sizes .now) (S .args .n) (S .args .n - 1 - S .args .k) (omega arith) (omega arith) in
+    omega (arith, tall, S .pre .1)
 
 -- src/transpose.rt:59:13
 returns : tie.Need-returns
 returns c =
     let S = c .before .before .before in
-    sym (size-filled (S .args .sizes .now) (S .args .n) (S .args .k) (omega arith) (omega arith))
+    ap (λ t. 8 * t - S .args .k) (S .pre .1)
+    ∙ sym (size-filled (S .args .sizes .now) (S .args .n) (S .args .k) (omega arith) (omega arith))
 
 -- src/transpose.rt:53:1
 returns-2 : tie.Need-returns-2
@@ -56,6 +65,7 @@ transposed-size-spec =
     sub-if2-2
     mul-if2
     shared-slice-read-if2
+    mul-result
     sub-result
     returns
     returns-2
