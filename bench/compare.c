@@ -1,6 +1,6 @@
 // Times the check and the solver against their rivals on the systems of a folder, and prints a table: compare FOLDER.
-// All contestants take turns within one run; a time is the median of many, of processor time, which other work on the machine
-// disturbs little. What they answer is compared before it is timed.
+// All contestants take turns, in several passes over all rows, so that what disturbs the machine for some seconds falls on all alike;
+// a time is the median of all passes, of processor time. What they answer is compared before it is timed.
 #include <stdio.h>
 #include <stdlib.h>
 #include <string.h>
@@ -10,7 +10,8 @@
 #include "rivals/reading.h"
 #include "rivals/writing.h"
 
-enum { REPETITIONS = 51, FEWER_REPETITIONS = 11, NOT_DONE = 63 };
+enum { PASSES = 5, REPETITIONS = 15, FEWER_REPETITIONS = 3, NOT_DONE = 63 };
+enum { ROWS = PRIMES + SHAPES * PRIMES + LOADS - SHAPES };
 
 static const double least_time = 100e-6; // seconds that one measurement takes at least
 
@@ -33,9 +34,18 @@ static const char *const labels[CONTESTANTS] = {"ours", "C -O2", "C -O3", "share
 static check_function *const checks[CONTESTANTS] = {yezsdolak_check, check_O2, check_O3, NULL, NULL, NULL};
 static solve_function *const solvers[CONTESTANTS] = {solve_ours, NULL, solve_O3, solve_shared, flint_solve, pari_solve};
 
-// the systems of one row of the table, with certificates where these are what is checked
-struct batch {
+// a row of a table: seconds for one system
+struct row {
+    const char *load;
+    uint32_t p;
     bool check, not_done[CONTESTANTS];
+    double times[CONTESTANTS][PASSES * REPETITIONS], median[CONTESTANTS]; // 0 for those that do not take part
+};
+
+// the systems of a row, with certificates where these are what is checked
+struct batch {
+    struct row *row;
+    bool check;
     int systems;
     size_t system_bytes[SYSTEMS], certificate_bytes[SYSTEMS];
     uint8_t system[SYSTEMS][4 * LONGEST_SYSTEM], certificate[SYSTEMS][4 * LONGEST_CERTIFICATE];
@@ -43,7 +53,7 @@ struct batch {
 
 static bool takes_part(const struct batch *b, int contestant)
 {
-    return b->check ? checks[contestant] != NULL : solvers[contestant] != NULL && !b->not_done[contestant];
+    return b->check ? checks[contestant] != NULL : solvers[contestant] != NULL && !b->row->not_done[contestant];
 }
 
 static uint64_t run(struct batch *b, int contestant, int i)
@@ -75,22 +85,25 @@ static int repetitions(int contestant)
     return contestant == BY_PARI ? FEWER_REPETITIONS : REPETITIONS;
 }
 
-// the median seconds that each contestant takes for one system of the batch, 0 for those that do not take part
-static void measure(struct batch *b, double *result)
+static void measure(struct batch *b, int pass)
 {
-    static double times[CONTESTANTS][REPETITIONS];
     int turns[CONTESTANTS];
     for (int k = 0; k < CONTESTANTS; k++)
         turns[k] = takes_part(b, k) ? 1 + (int)(least_time / run_all(b, k, 1)) : 0;
     for (int r = 0; r < REPETITIONS; r++)
         for (int k = 0; k < CONTESTANTS; k++) {
             int c = (k + r) % CONTESTANTS;
-            if (r < repetitions(c))
-                times[c][r] = turns[c] == 0 ? 0 : run_all(b, c, turns[c]) / (turns[c] * b->systems);
+            if (turns[c] > 0 && r < repetitions(c))
+                b->row->times[c][pass * repetitions(c) + r] = run_all(b, c, turns[c]) / (turns[c] * b->systems);
         }
+}
+
+static void take_medians(struct row *r)
+{
     for (int k = 0; k < CONTESTANTS; k++) {
-        qsort(times[k], (size_t)repetitions(k), sizeof times[k][0], by_value);
-        result[k] = times[k][repetitions(k) / 2];
+        int count = PASSES * repetitions(k);
+        qsort(r->times[k], (size_t)count, sizeof r->times[k][0], by_value);
+        r->median[k] = r->times[k][count / 2];
     }
 }
 
@@ -125,19 +138,19 @@ static uint64_t verdict(struct batch *b, int contestant, int i, uint64_t result)
 }
 
 // Every check accepts the certificates; every solver's certificate is right, which leaves no choice of kind and d.
-static void compare(struct batch *b, const char *name)
+static void compare(struct batch *b)
 {
     for (int k = 0; k < CONTESTANTS; k++)
         for (int i = 0; takes_part(b, k) && i < b->systems; i++) {
             uint64_t result = run(b, k, i);
             if (k == BY_PARI && result == NOT_DONE) {
-                b->not_done[k] = true;
+                b->row->not_done[k] = true;
                 continue;
             }
             if (!b->check)
                 result = verdict(b, k, i, result);
             if (result != 0) {
-                printf("%s: %s is refused\n", name, labels[k]);
+                printf("%s, p = %u: %s is refused\n", b->row->load, b->row->p, labels[k]);
                 exit(1);
             }
         }
@@ -165,14 +178,13 @@ static void print_check_head(void)
     printf("%-16s %6s %9s %9s %9s %10s\n", "certificate", "p", "ours", "C -O2", "C -O3", "ours/C");
 }
 
-static void print_check(const char *name, uint32_t p, const double *time)
+static void print_check(const struct row *r)
 {
-    printf("%-16s %6u", name, p);
+    printf("%-16s %6u", r->load, r->p);
     for (int k = OURS; k <= C_O3; k++)
-        print_time(time[k]);
-    print_ratio(time[OURS], time[C_O2]);
+        print_time(r->median[k]);
+    print_ratio(r->median[OURS], r->median[C_O2]);
     puts("");
-    fflush(stdout);
 }
 
 static void print_solver_head(const char *title)
@@ -184,17 +196,16 @@ static void print_solver_head(const char *title)
     printf(" %10s %10s %10s\n", "ours/C", "FLINT/ours", "PARI/ours");
 }
 
-static void print_solver(const char *name, uint32_t p, const double *time)
+static void print_solver(const struct row *r)
 {
-    printf("%-16s %6u", name, p);
+    printf("%-16s %6u", r->load, r->p);
     for (int k = 0; k < CONTESTANTS; k++)
         if (k != C_O2)
-            print_time(time[k]);
-    print_ratio(time[OURS], time[C_O3]);
-    print_ratio(time[BY_FLINT], time[OURS]);
-    print_ratio(time[BY_PARI], time[OURS]);
+            print_time(r->median[k]);
+    print_ratio(r->median[OURS], r->median[C_O3]);
+    print_ratio(r->median[BY_FLINT], r->median[OURS]);
+    print_ratio(r->median[BY_PARI], r->median[OURS]);
     puts("");
-    fflush(stdout);
 }
 
 static size_t load_file(const char *folder, const char *name, uint8_t *bytes, size_t limit)
@@ -211,62 +222,70 @@ static size_t load_file(const char *folder, const char *name, uint8_t *bytes, si
     return count;
 }
 
-static void compare_checks(const char *folder, uint32_t p)
+static void load_batch(struct batch *b, const char *folder, struct row *r)
 {
-    static struct batch b = {.check = true, .systems = 1};
-    double time[CONTESTANTS];
     char name[64];
-    snprintf(name, sizeof name, "largest-%u.system", p);
-    b.system_bytes[0] = load_file(folder, name, b.system[0], sizeof b.system[0]);
-    snprintf(name, sizeof name, "largest-%u.certificate", p);
-    b.certificate_bytes[0] = load_file(folder, name, b.certificate[0], sizeof b.certificate[0]);
-    compare(&b, name);
-    measure(&b, time);
-    print_check("largest", p, time);
-}
-
-static void compare_solvers(const char *folder, const char *load, uint32_t p, double *time)
-{
-    static struct batch b;
-    char name[64];
-    memset(b.not_done, 0, sizeof b.not_done);
-    b.systems = SYSTEMS;
-    for (int i = 0; i < SYSTEMS; i++) {
-        snprintf(name, sizeof name, "%s-%u-%d.system", load, p, i);
-        b.system_bytes[i] = load_file(folder, name, b.system[i], sizeof b.system[i]);
+    b->row = r, b->check = r->check, b->systems = r->check ? 1 : SYSTEMS;
+    for (int i = 0; !r->check && i < SYSTEMS; i++) {
+        snprintf(name, sizeof name, "%s-%u-%d.system", r->load, r->p, i);
+        b->system_bytes[i] = load_file(folder, name, b->system[i], sizeof b->system[i]);
     }
-    compare(&b, name);
-    measure(&b, time);
-    print_solver(load, p, time);
+    if (r->check) {
+        snprintf(name, sizeof name, "%s-%u.system", r->load, r->p);
+        b->system_bytes[0] = load_file(folder, name, b->system[0], sizeof b->system[0]);
+        snprintf(name, sizeof name, "%s-%u.certificate", r->load, r->p);
+        b->certificate_bytes[0] = load_file(folder, name, b->certificate[0], sizeof b->certificate[0]);
+    }
 }
 
-// the sizes from 1 x 1 on; those of the greatest, the first load, are measured before
-static void compare_sizes(const char *folder, const double *greatest)
+// the check at each prime, the first loads at each prime, the other loads
+static void list_rows(struct row *r)
 {
-    double time[CONTESTANTS];
+    for (int i = 0; i < PRIMES; i++, r++)
+        r->load = "largest", r->p = primes[i], r->check = true;
+    for (int l = 0; l < SHAPES; l++)
+        for (int i = 0; i < PRIMES; i++, r++)
+            r->load = loads[l].name, r->p = primes[i];
+    for (int l = SHAPES; l < LOADS; l++, r++)
+        r->load = loads[l].name, r->p = GROWTH_PRIME;
+}
+
+// the growth ends with the first load, which is among the first rows
+static void print_rows(const struct row *rows)
+{
+    const struct row *first = rows + PRIMES, *small = first + SHAPES * PRIMES;
+    print_check_head();
+    for (int i = 0; i < PRIMES; i++)
+        print_check(rows + i);
+    print_solver_head("The solver");
+    for (int i = 0; i < SHAPES * PRIMES; i++)
+        print_solver(first + i);
     print_solver_head("The solver, growth with the size");
-    for (int l = SHAPES; l < LOADS; l++)
-        compare_solvers(folder, loads[l].name, GROWTH_PRIME, time);
-    print_solver(loads[0].name, GROWTH_PRIME, greatest);
+    for (int i = 0; i < LOADS - SHAPES; i++)
+        print_solver(small + i);
+    for (int i = 0; i < PRIMES; i++)
+        if (first[i].p == GROWTH_PRIME)
+            print_solver(first + i);
 }
 
 int main(int count, char **argument)
 {
-    double time[CONTESTANTS], greatest[CONTESTANTS];
+    static struct row rows[ROWS];
+    static struct batch b;
     if (count != 2) {
         fprintf(stderr, "usage: compare FOLDER\n");
         return 2;
     }
-    print_check_head();
-    for (int i = 0; i < PRIMES; i++)
-        compare_checks(argument[1], primes[i]);
-    print_solver_head("The solver");
-    for (int l = 0; l < SHAPES; l++)
-        for (int i = 0; i < PRIMES; i++) {
-            compare_solvers(argument[1], loads[l].name, primes[i], time);
-            if (l == 0 && primes[i] == GROWTH_PRIME)
-                memcpy(greatest, time, sizeof greatest);
+    list_rows(rows);
+    for (int pass = 0; pass < PASSES; pass++)
+        for (int r = 0; r < ROWS; r++) {
+            load_batch(&b, argument[1], &rows[r]);
+            if (pass == 0)
+                compare(&b);
+            measure(&b, pass);
         }
-    compare_sizes(argument[1], greatest);
+    for (int r = 0; r < ROWS; r++)
+        take_medians(&rows[r]);
+    print_rows(rows);
     return 0;
 }
