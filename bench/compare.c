@@ -5,6 +5,7 @@
 #include <stdlib.h>
 #include <string.h>
 #include <time.h>
+#include <unistd.h>
 #include "loads.h"
 #include "ours.h"
 #include "rivals/reading.h"
@@ -63,15 +64,20 @@ static uint64_t run(struct batch *b, int contestant, int i)
     return solvers[contestant](b->system[i], b->system_bytes[i], b->certificate[i], sizeof b->certificate[i]);
 }
 
+static double seconds(clockid_t clock)
+{
+    struct timespec t;
+    clock_gettime(clock, &t);
+    return (double)t.tv_sec + 1e-9 * (double)t.tv_nsec;
+}
+
 static double run_all(struct batch *b, int contestant, int turns)
 {
-    struct timespec before, after;
-    clock_gettime(CLOCK_PROCESS_CPUTIME_ID, &before);
+    double before = seconds(CLOCK_PROCESS_CPUTIME_ID);
     for (int t = 0; t < turns; t++)
         for (int i = 0; i < b->systems; i++)
             run(b, contestant, i);
-    clock_gettime(CLOCK_PROCESS_CPUTIME_ID, &after);
-    return (double)(after.tv_sec - before.tv_sec) + 1e-9 * (double)(after.tv_nsec - before.tv_nsec);
+    return seconds(CLOCK_PROCESS_CPUTIME_ID) - before;
 }
 
 static int by_value(const void *a, const void *b)
@@ -222,6 +228,18 @@ static size_t load_file(const char *folder, const char *name, uint8_t *bytes, si
     return count;
 }
 
+// processor seconds that other programs have used since the machine started, 0 where the system does not say
+static double others_seconds(void)
+{
+    double user = 0, nice = 0, kernel = 0;
+    FILE *f = fopen("/proc/stat", "r");
+    if (f == NULL)
+        return 0;
+    bool read = fscanf(f, "cpu %lf %lf %lf", &user, &nice, &kernel) == 3;
+    fclose(f);
+    return read ? (user + nice + kernel) / (double)sysconf(_SC_CLK_TCK) - seconds(CLOCK_PROCESS_CPUTIME_ID) : 0;
+}
+
 static void load_batch(struct batch *b, const char *folder, struct row *r)
 {
     char name[64];
@@ -268,24 +286,31 @@ static void print_rows(const struct row *rows)
             print_solver(first + i);
 }
 
-int main(int count, char **argument)
+static void measure_rows(struct row *rows, const char *folder)
 {
-    static struct row rows[ROWS];
     static struct batch b;
-    if (count != 2) {
-        fprintf(stderr, "usage: compare FOLDER\n");
-        return 2;
-    }
-    list_rows(rows);
     for (int pass = 0; pass < PASSES; pass++)
         for (int r = 0; r < ROWS; r++) {
-            load_batch(&b, argument[1], &rows[r]);
+            load_batch(&b, folder, &rows[r]);
             if (pass == 0)
                 compare(&b);
             measure(&b, pass);
         }
     for (int r = 0; r < ROWS; r++)
         take_medians(&rows[r]);
+}
+
+int main(int count, char **argument)
+{
+    static struct row rows[ROWS];
+    if (count != 2) {
+        fprintf(stderr, "usage: compare FOLDER\n");
+        return 2;
+    }
+    double start = seconds(CLOCK_MONOTONIC), others = others_seconds();
+    list_rows(rows);
+    measure_rows(rows, argument[1]);
     print_rows(rows);
+    printf("\nMeanwhile other work kept %.2f cores busy.\n", (others_seconds() - others) / (seconds(CLOCK_MONOTONIC) - start));
     return 0;
 }
