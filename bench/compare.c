@@ -1,32 +1,51 @@
 // Times the check and the solver against their rivals on the systems of a folder, and prints a table: compare FOLDER.
-// All contestants take turns within one run; a time is the median of many, of processor time, which other work on the machine
-// disturbs little. What they answer is compared before it is timed.
+// All contestants take turns, in several passes over all rows, so that what disturbs the machine for some seconds falls on all alike;
+// a time is the median of all passes, of processor time. What they answer is compared before it is timed.
 #include <stdio.h>
 #include <stdlib.h>
+#include <string.h>
 #include <time.h>
+#include <unistd.h>
 #include "loads.h"
 #include "ours.h"
+#include "rivals/reading.h"
+#include "rivals/writing.h"
 
-enum { REPETITIONS = 51 };
+enum { PASSES = 5, REPETITIONS = 15, FEWER_REPETITIONS = 3, NOT_DONE = 63 };
+enum { ROWS = PRIMES + SHAPES * PRIMES + LOADS - SHAPES };
 
 static const double least_time = 100e-6; // seconds that one measurement takes at least
 
 check_function check_O2, check_O3;
-solve_function solve_O2, solve_O3, solve_shared;
+solve_function solve_O3, solve_shared;
 #ifdef FLINT
 solve_function flint_solve;
 #else
 #define flint_solve NULL
 #endif
+#ifdef PARI
+solve_function pari_solve;
+#else
+#define pari_solve NULL
+#endif
 
-enum { OURS, C_O2, C_O3, SHARED, BY_FLINT, CONTESTANTS };
+enum { OURS, C_O2, C_O3, SHARED, BY_FLINT, BY_PARI, CONTESTANTS };
 
-static const char *const labels[CONTESTANTS] = {"ours", "C -O2", "C -O3", "shared", "FLINT"};
-static check_function *const checks[CONTESTANTS] = {yezsdolak_check, check_O2, check_O3, NULL, NULL};
-static solve_function *const solvers[CONTESTANTS] = {solve_ours, solve_O2, solve_O3, solve_shared, flint_solve};
+static const char *const labels[CONTESTANTS] = {"ours", "C -O2", "C -O3", "shared", "FLINT", "PARI"};
+static check_function *const checks[CONTESTANTS] = {yezsdolak_check, check_O2, check_O3, NULL, NULL, NULL};
+static solve_function *const solvers[CONTESTANTS] = {solve_ours, NULL, solve_O3, solve_shared, flint_solve, pari_solve};
 
-// the systems of one row of the table, with certificates where these are what is checked
+// a row of a table: seconds for one system
+struct row {
+    const char *load;
+    uint32_t p;
+    bool check, not_done[CONTESTANTS];
+    double times[CONTESTANTS][PASSES * REPETITIONS], median[CONTESTANTS]; // 0 for those that do not take part
+};
+
+// the systems of a row, with certificates where these are what is checked
 struct batch {
+    struct row *row;
     bool check;
     int systems;
     size_t system_bytes[SYSTEMS], certificate_bytes[SYSTEMS];
@@ -35,7 +54,7 @@ struct batch {
 
 static bool takes_part(const struct batch *b, int contestant)
 {
-    return b->check ? checks[contestant] != NULL : solvers[contestant] != NULL;
+    return b->check ? checks[contestant] != NULL : solvers[contestant] != NULL && !b->row->not_done[contestant];
 }
 
 static uint64_t run(struct batch *b, int contestant, int i)
@@ -45,15 +64,20 @@ static uint64_t run(struct batch *b, int contestant, int i)
     return solvers[contestant](b->system[i], b->system_bytes[i], b->certificate[i], sizeof b->certificate[i]);
 }
 
+static double seconds(clockid_t clock)
+{
+    struct timespec t;
+    clock_gettime(clock, &t);
+    return (double)t.tv_sec + 1e-9 * (double)t.tv_nsec;
+}
+
 static double run_all(struct batch *b, int contestant, int turns)
 {
-    struct timespec before, after;
-    clock_gettime(CLOCK_PROCESS_CPUTIME_ID, &before);
+    double before = seconds(CLOCK_PROCESS_CPUTIME_ID);
     for (int t = 0; t < turns; t++)
         for (int i = 0; i < b->systems; i++)
             run(b, contestant, i);
-    clock_gettime(CLOCK_PROCESS_CPUTIME_ID, &after);
-    return (double)(after.tv_sec - before.tv_sec) + 1e-9 * (double)(after.tv_nsec - before.tv_nsec);
+    return seconds(CLOCK_PROCESS_CPUTIME_ID) - before;
 }
 
 static int by_value(const void *a, const void *b)
@@ -62,70 +86,132 @@ static int by_value(const void *a, const void *b)
     return (x > y) - (x < y);
 }
 
-// the median seconds that each contestant takes for one system of the batch, 0 for those that do not take part
-static void measure(struct batch *b, double *result)
+static int repetitions(int contestant)
 {
-    static double times[CONTESTANTS][REPETITIONS];
+    return contestant == BY_PARI ? FEWER_REPETITIONS : REPETITIONS;
+}
+
+static void measure(struct batch *b, int pass)
+{
     int turns[CONTESTANTS];
     for (int k = 0; k < CONTESTANTS; k++)
         turns[k] = takes_part(b, k) ? 1 + (int)(least_time / run_all(b, k, 1)) : 0;
     for (int r = 0; r < REPETITIONS; r++)
         for (int k = 0; k < CONTESTANTS; k++) {
             int c = (k + r) % CONTESTANTS;
-            times[c][r] = turns[c] == 0 ? 0 : run_all(b, c, turns[c]) / (turns[c] * b->systems);
+            if (turns[c] > 0 && r < repetitions(c))
+                b->row->times[c][pass * repetitions(c) + r] = run_all(b, c, turns[c]) / (turns[c] * b->systems);
         }
+}
+
+static void take_medians(struct row *r)
+{
     for (int k = 0; k < CONTESTANTS; k++) {
-        qsort(times[k], REPETITIONS, sizeof times[k][0], by_value);
-        result[k] = times[k][REPETITIONS / 2];
+        int count = PASSES * repetitions(k);
+        qsort(r->times[k], (size_t)count, sizeof r->times[k][0], by_value);
+        r->median[k] = r->times[k][count / 2];
     }
 }
 
+// Kind, d and N, as so many words, get the rest of a right certificate from a rival that gives it; its kind must be the same.
+static uint64_t complete(struct batch *b, int i, size_t words)
+{
+    static uint8_t right[4 * LONGEST_CERTIFICATE];
+    static struct system s;
+    static struct certificate c;
+    struct writer o = {b->certificate[i], words};
+    size_t bytes = 4 * (solve_O3(b->system[i], b->system_bytes[i], right, sizeof right) / 64);
+    if (read_system(&s, b->system[i], b->system_bytes[i]) != 0 || read_certificate(&c, &s, right, bytes) != 0 ||
+        memcmp(right, b->certificate[i], 4) != 0)
+        return 0;
+    for (uint32_t r = 0; r < s.n + (c.kind == SOLUTION); r++) {
+        struct polynomial f = c.kind == ABSENCE ? c.z[r] : r == 0 ? c.w : c.z[r - 1];
+        put(&o, START, f.size);
+        for (uint32_t e = 0; e < f.size; e++)
+            put(&o, COEFFICIENT, f.coefficient[e]);
+    }
+    return put_end(&o);
+}
+
+// 0 where the certificate of a solver is right
+static uint64_t verdict(struct batch *b, int contestant, int i, uint64_t result)
+{
+    if (result % 64 != 0)
+        return result;
+    if (contestant == BY_PARI)
+        result = complete(b, i, result / 64);
+    return check_O2(b->system[i], b->system_bytes[i], b->certificate[i], 4 * (result / 64));
+}
+
 // Every check accepts the certificates; every solver's certificate is right, which leaves no choice of kind and d.
-static void compare(struct batch *b, const char *name)
+static void compare(struct batch *b)
 {
     for (int k = 0; k < CONTESTANTS; k++)
         for (int i = 0; takes_part(b, k) && i < b->systems; i++) {
             uint64_t result = run(b, k, i);
-            if (!b->check && result % 64 == 0)
-                result = check_O2(b->system[i], b->system_bytes[i], b->certificate[i], 4 * (result / 64));
+            if (k == BY_PARI && result == NOT_DONE) {
+                b->row->not_done[k] = true;
+                continue;
+            }
+            if (!b->check)
+                result = verdict(b, k, i, result);
             if (result != 0) {
-                printf("%s: %s is refused\n", name, labels[k]);
+                printf("%s, p = %u: %s is refused\n", b->row->load, b->row->p, labels[k]);
                 exit(1);
             }
         }
 }
 
-static void print_head(void)
+static void print_time(double seconds)
 {
-    printf("\n%-6s %-16s %6s", "what", "system", "prime");
-    for (int k = 0; k < CONTESTANTS; k++)
-        printf(" %9s", labels[k]);
-    printf(" %9s %9s %10s\n", "ours/C", "FLINT/C", "FLINT/ours");
+    if (seconds == 0)
+        printf(" %9s", "-");
+    else
+        printf(" %9.4f", 1e3 * seconds);
 }
 
-static void print_ratio(double a, double b, int width)
+static void print_ratio(double a, double b)
 {
     if (a == 0 || b == 0)
-        printf(" %*s", width, "-");
+        printf(" %10s", "-");
     else
-        printf(" %*.2f", width, a / b);
+        printf(" %10.2f", a / b);
 }
 
-// times in milliseconds; the check is compared with C -O2, the solver with C -O3
-static void print_row(const struct batch *b, const char *name, uint32_t p, const double *time)
+static void print_check_head(void)
 {
-    double c = time[b->check ? C_O2 : C_O3];
-    printf("%-6s %-16s %6u", b->check ? "check" : "solve", name, p);
-    for (int k = 0; k < CONTESTANTS; k++)
-        if (time[k] == 0)
-            printf(" %9s", "-");
-        else
-            printf(" %9.4f", 1e3 * time[k]);
-    print_ratio(time[OURS], c, 9);
-    print_ratio(time[BY_FLINT], c, 9);
-    print_ratio(time[BY_FLINT], time[OURS], 10);
+    printf("\nThe check of the largest certificate, milliseconds\n\n");
+    printf("%-16s %6s %9s %9s %9s %10s\n", "certificate", "p", "ours", "C -O2", "C -O3", "ours/C");
+}
+
+static void print_check(const struct row *r)
+{
+    printf("%-16s %6u", r->load, r->p);
+    for (int k = OURS; k <= C_O3; k++)
+        print_time(r->median[k]);
+    print_ratio(r->median[OURS], r->median[C_O2]);
     puts("");
-    fflush(stdout);
+}
+
+static void print_solver_head(const char *title)
+{
+    printf("\n%s, milliseconds\n\n%-16s %6s", title, "load", "p");
+    for (int k = 0; k < CONTESTANTS; k++)
+        if (k != C_O2)
+            printf(" %9s", labels[k]);
+    printf(" %10s %10s %10s\n", "ours/C", "FLINT/ours", "PARI/ours");
+}
+
+static void print_solver(const struct row *r)
+{
+    printf("%-16s %6u", r->load, r->p);
+    for (int k = 0; k < CONTESTANTS; k++)
+        if (k != C_O2)
+            print_time(r->median[k]);
+    print_ratio(r->median[OURS], r->median[C_O3]);
+    print_ratio(r->median[BY_FLINT], r->median[OURS]);
+    print_ratio(r->median[BY_PARI], r->median[OURS]);
+    puts("");
 }
 
 static size_t load_file(const char *folder, const char *name, uint8_t *bytes, size_t limit)
@@ -142,45 +228,89 @@ static size_t load_file(const char *folder, const char *name, uint8_t *bytes, si
     return count;
 }
 
-static void compare_checks(const char *folder, uint32_t p)
+// processor seconds that other programs have used since the machine started, 0 where the system does not say
+static double others_seconds(void)
 {
-    static struct batch b = {.check = true, .systems = 1};
-    double time[CONTESTANTS];
-    char name[64];
-    snprintf(name, sizeof name, "largest-%u.system", p);
-    b.system_bytes[0] = load_file(folder, name, b.system[0], sizeof b.system[0]);
-    snprintf(name, sizeof name, "largest-%u.certificate", p);
-    b.certificate_bytes[0] = load_file(folder, name, b.certificate[0], sizeof b.certificate[0]);
-    compare(&b, name);
-    measure(&b, time);
-    print_row(&b, "largest", p, time);
+    double user = 0, nice = 0, kernel = 0;
+    FILE *f = fopen("/proc/stat", "r");
+    if (f == NULL)
+        return 0;
+    bool read = fscanf(f, "cpu %lf %lf %lf", &user, &nice, &kernel) == 3;
+    fclose(f);
+    return read ? (user + nice + kernel) / (double)sysconf(_SC_CLK_TCK) - seconds(CLOCK_PROCESS_CPUTIME_ID) : 0;
 }
 
-static void compare_solvers(const char *folder, const char *load, uint32_t p)
+static void load_batch(struct batch *b, const char *folder, struct row *r)
 {
-    static struct batch b = {.check = false, .systems = SYSTEMS};
-    double time[CONTESTANTS];
     char name[64];
-    for (int i = 0; i < SYSTEMS; i++) {
-        snprintf(name, sizeof name, "%s-%u-%d.system", load, p, i);
-        b.system_bytes[i] = load_file(folder, name, b.system[i], sizeof b.system[i]);
+    b->row = r, b->check = r->check, b->systems = r->check ? 1 : SYSTEMS;
+    for (int i = 0; !r->check && i < SYSTEMS; i++) {
+        snprintf(name, sizeof name, "%s-%u-%d.system", r->load, r->p, i);
+        b->system_bytes[i] = load_file(folder, name, b->system[i], sizeof b->system[i]);
     }
-    compare(&b, name);
-    measure(&b, time);
-    print_row(&b, load, p, time);
+    if (r->check) {
+        snprintf(name, sizeof name, "%s-%u.system", r->load, r->p);
+        b->system_bytes[0] = load_file(folder, name, b->system[0], sizeof b->system[0]);
+        snprintf(name, sizeof name, "%s-%u.certificate", r->load, r->p);
+        b->certificate_bytes[0] = load_file(folder, name, b->certificate[0], sizeof b->certificate[0]);
+    }
+}
+
+// the check at each prime, the first loads at each prime, the other loads
+static void list_rows(struct row *r)
+{
+    for (int i = 0; i < PRIMES; i++, r++)
+        r->load = "largest", r->p = primes[i], r->check = true;
+    for (int l = 0; l < SHAPES; l++)
+        for (int i = 0; i < PRIMES; i++, r++)
+            r->load = loads[l].name, r->p = primes[i];
+    for (int l = SHAPES; l < LOADS; l++, r++)
+        r->load = loads[l].name, r->p = GROWTH_PRIME;
+}
+
+// the growth ends with the first load, which is among the first rows
+static void print_rows(const struct row *rows)
+{
+    const struct row *first = rows + PRIMES, *small = first + SHAPES * PRIMES;
+    print_check_head();
+    for (int i = 0; i < PRIMES; i++)
+        print_check(rows + i);
+    print_solver_head("The solver");
+    for (int i = 0; i < SHAPES * PRIMES; i++)
+        print_solver(first + i);
+    print_solver_head("The solver, growth with the size");
+    for (int i = 0; i < LOADS - SHAPES; i++)
+        print_solver(small + i);
+    for (int i = 0; i < PRIMES; i++)
+        if (first[i].p == GROWTH_PRIME)
+            print_solver(first + i);
+}
+
+static void measure_rows(struct row *rows, const char *folder)
+{
+    static struct batch b;
+    for (int pass = 0; pass < PASSES; pass++)
+        for (int r = 0; r < ROWS; r++) {
+            load_batch(&b, folder, &rows[r]);
+            if (pass == 0)
+                compare(&b);
+            measure(&b, pass);
+        }
+    for (int r = 0; r < ROWS; r++)
+        take_medians(&rows[r]);
 }
 
 int main(int count, char **argument)
 {
+    static struct row rows[ROWS];
     if (count != 2) {
         fprintf(stderr, "usage: compare FOLDER\n");
         return 2;
     }
-    print_head();
-    for (int i = 0; i < PRIMES; i++)
-        compare_checks(argument[1], primes[i]);
-    for (int l = 0; l < LOADS; l++)
-        for (int i = 0; i < PRIMES; i++)
-            compare_solvers(argument[1], loads[l].name, primes[i]);
+    double start = seconds(CLOCK_MONOTONIC), others = others_seconds();
+    list_rows(rows);
+    measure_rows(rows, argument[1]);
+    print_rows(rows);
+    printf("\nMeanwhile other work kept %.2f cores busy.\n", (others_seconds() - others) / (seconds(CLOCK_MONOTONIC) - start));
     return 0;
 }

@@ -4,7 +4,8 @@
 #include <stdbool.h>
 #include <stdint.h>
 
-enum { DEGREE = 15, FACTORS = 3, SYSTEMS = 8, PRIMES = 3 };
+// the first SHAPES loads are compared at all primes, the others, smaller dense systems, at GROWTH_PRIME
+enum { DEGREE = 15, FACTORS = 3, SYSTEMS = 8, PRIMES = 3, SHAPES = 7, GROWTH_PRIME = 257 };
 
 struct load {
     const char *name;
