@@ -2,6 +2,9 @@ pub mod Ascended
 pub mod Rising
 pub mod Top
 pub mod Falling
+pub mod Counting
+pub mod Spanned
+pub mod Dropping
 pub mod Certifies
 pub mod Empty
 pub mod Bottom

@@ -1,5 +1,7 @@
 // Up over the columns, one level after another, the right side at the top, and down again.
 use crate::descending::descend;
+use crate::dropping::is_dropped;
+use crate::dropping::leave_out;
 use levels::next::next_level;
 use residue::modulus::Modulus;
 use witness::find_witness;
@@ -36,38 +38,32 @@ pub fn ascend(
     if j == m {
         return find_witness(input, n, m, slots, sizes, inverses, t, out, modulus);
     }
-    // the level after column j
+    // a column in the span of those before needs no level
+    if is_dropped(input, j, slots, sizes, inverses, modulus) {
+        let found = ascend(input, n, m, j + 1, slots, sizes, inverses, t, out, modulus);
+        leave_out(out, j, found);
+        return found;
+    }
+    // the level after column j, and its kernel of size k
     let mut up = [0u64; 2048];
-    let mut up_sizes = [0usize; 16];
-    let mut up_inv = [0u64; 8];
+    let mut ends = [0usize; 16];
+    let mut inv = [0u64; 8];
     let mut kernel = [0u64; 128];
-    let size = next_level(
+    let k = next_level(
         slots,
         sizes,
         inverses,
         input,
         128 * j,
         &mut up,
-        &mut up_sizes,
-        &mut up_inv,
+        &mut ends,
+        &mut inv,
         &mut kernel,
         modulus,
     );
-    let solved = ascend(input, n, m, j + 1, &up, &up_sizes, &up_inv, t, out, modulus);
+    let solved = ascend(input, n, m, j + 1, &up, &ends, &inv, t, out, modulus);
     if solved {
-        descend(
-            t,
-            &up,
-            &up_sizes,
-            &up_inv,
-            n,
-            &kernel,
-            size,
-            input,
-            j,
-            out,
-            modulus,
-        );
+        descend(t, &up, &ends, &inv, n, &kernel, k, input, j, out, modulus);
     }
     solved
 }

@@ -9,6 +9,7 @@ ghost use Rattle.ascent.specs.Certifies.{HasSystem, Certifies};
 
 pub mod ascending;
 pub mod descending;
+pub mod dropping;
 
 // The certificate of a system of n rows and m columns, to the output. Returns whether it is a solution.
 pub fn certify(input: &[u64], n: usize, m: usize, output: &mut [u64], modulus: Modulus) -> bool
