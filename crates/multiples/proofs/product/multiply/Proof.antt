@@ -71,7 +71,8 @@ returns c =
     let m : ValidModulus (S .args .modulus) = S .pre .0 .0 in
     multiplied (m .prime) _ _ (S .args .f .now) (S .args .n) (S .args .g .now) (S .args .m) (S .args .out .now) _ _ _ _
     (c .before .before .before .less .ensures) (S .pre .0 .1) (S .pre .0 .4) (S .pre .0 .5)
-    (negated .store-negated .ensures) (cleared .clear .ensures) (taken .subtract-product .ensures) (c .before .before .reduce-range .ensures)
+    (negated .store-negated .ensures) (cleared .clear .ensures)
+    (taken .subtract-product .ensures) (c .before .before .reduce-range .ensures)
 
 pub multiply-spec : {M : Type 1} → statement M
 multiply-spec =
