@@ -3,7 +3,7 @@ use Prim.Native.Nat.{ℕ, zero, _+_, _-_, _*_, _%_, _<_, _≤_}
 use mathlib.Core.Path.{_≡_, refl, sym, _∙_, ap, ap₂, subst}
 use mathlib.Core.Logic.{inr, ⊎-elim}
 use mathlib.Core.List.{List, [], _∷_}
-use native.Mathlib.Nat.{mul-le-mul-right, add-mul, zero-mod}
+use native.Mathlib.Nat.{mul-le-mul-right, add-mul, zero-mul, zero-mod}
 use native.Mathlib.Omega.{arith}
 use lib.ListN.{length, getD}
 use Rattle.ring.specs.Ring.{Ring}
@@ -223,3 +223,17 @@ module _ {p : ℕ} {y₀ kernel : List ℕ} {at : ℕ} where
           behind = behind-after;
           holds = lessened;
         }
+
+-- a word 0 has the factor 0
+pub kernel-zero : {p : ℕ} {y₀ kernel : List ℕ} {at k size : ℕ} {y : List ℕ} → Reducing p y₀ kernel at k y
+    → ValidKernel p kernel at size → 0 < size → size ≤ k → Prime p → getD y (k - 1) 0 ≡ 0 → Reducing p y₀ kernel at (k - 1) y
+unfolding modulo
+kernel-zero {p} {y₀} {kernel} {at} {k} {size} {y} so-far valid some fits prime none =
+    kernel-skip so-far valid some fits prime 0 (sym product) refl
+  where
+    product : modulo p .mul (getD y (k - 1) 0 % p) (modulo p .inverse (getD kernel (at + (size - 1)) 0)) ≡ 0
+    product =
+        ap (λ w. w % p * modulo p .inverse (getD kernel (at + (size - 1)) 0) % p) none
+        ∙ ap (λ w. w * modulo p .inverse (getD kernel (at + (size - 1)) 0) % p) (zero-mod p)
+        ∙ ap (λ w. w % p) (zero-mul (modulo p .inverse (getD kernel (at + (size - 1)) 0)))
+        ∙ zero-mod p

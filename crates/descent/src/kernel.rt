@@ -22,10 +22,13 @@ pub fn reduce_by_kernel(y: &mut [u64], kernel: &[u64], at: usize, size: usize, m
     let mut k = 256;
     while last < k {
         let i = k - 1;
-        let factor = modulus.mul(modulus.reduce(y[i]), inverse);
-        // nothing is to be taken off where the word is 0 modulo p
-        if 0 < factor {
-            add_scaled(y, i - last, kernel, at, size, modulus.p - factor);
+        let word = y[i];
+        // nothing is to be taken off where the word is 0 modulo p; most are 0, and those need no reduction
+        if 0 < word {
+            let factor = modulus.mul(modulus.reduce(word), inverse);
+            if 0 < factor {
+                add_scaled(y, i - last, kernel, at, size, modulus.p - factor);
+            }
         }
         k = i;
     }

@@ -1,5 +1,5 @@
 -- Minus f, times words in lanes, taken off zeros: f times each lane.
-use Prim.Native.Nat.{ℕ, _+_, _*_, _%_, _<_, _≤_}
+use Prim.Native.Nat.{ℕ, _+_, _-_, _*_, _%_, _<_, _≤_}
 use mathlib.Core.Path.{_≡_, refl, sym, _∙_, ap, subst}
 use mathlib.Core.Logic.{⊎-elim}
 use mathlib.Core.List.{List, [], _∷_}
@@ -55,16 +55,23 @@ pub product-reducible : (p n N : ℕ) (t : List ℕ) → 1 < p → p ≤ 65521 �
 product-reducible p n N t large limit few most =
     at-most-reducible (0 + n * (p * p)) p t N (omega (arith, mul-le-mul-right (p * p) few, mul-le-mul-right p limit)) most
 
--- f, its first n words, negated in `minus`; t₀ is clear, t₁ what is left when the product is taken off, t′ that reduced
+-- f, its first n words, negated in `minus`; t₀ is clear, t₁ what is left when the product is taken off, t′ that reduced as far as
+-- the product reaches
 module _ {p : ℕ} (prime₀ : Prime p) (w : ℕ) (h minus f : List ℕ) (n : ℕ) (s : List ℕ) (m N : ℕ) (t t₀ t₁ t′ : List ℕ)
-    (room : n ≤ length h) (fits : n * w + m ≤ N + w) (length-is : length t ≡ N)
+    (reach : ℕ) (reach-is : reach ≡ n * w + m - w) (room : n ≤ length h) (fits : n * w + m ≤ N + w) (length-is : length t ≡ N)
     (stores : minus ≡ stored (λ j. modulo p .neg (getD f j 0 % p)) h 0 n) (clears : t₀ ≡ stored (λ j. 0) t 0 N)
-    (T : TakesProduct p w t₀ minus 0 1 n s 0 m t₁) (reduces : t′ ≡ stored (λ j. getD t₁ j 0 % p) t₁ 0 N) where
+    (T : TakesProduct p w t₀ minus 0 1 n s 0 m t₁) (reduces : t′ ≡ stored (λ j. getD t₁ j 0 % p) t₁ 0 reach) where
   whole : length t₀ ≡ N
   whole = cleared-length N t t₀ clears ∙ length-is
 
+  inside : reach ≤ length t₁
+  inside = omega (arith, fits, T .same-length, whole)
+
+  others : (i : ℕ) → reach ≤ i → getD t₁ i 0 < p
+  others i far = omega (arith, T .behind i (omega arith), cleared-none N t t₀ clears length-is i, prime₀ .large)
+
   pub product-below : (i : ℕ) → getD t′ i 0 < p
-  product-below = reduced-below prime₀ N t₁ t′ reduces (T .same-length ∙ whole)
+  product-below = reduced-below prime₀ reach t₁ t′ reduces inside others
 
   module _ (prime : Prime p) (x : Polynomial (residues p prime)) (A : Holds (residues p prime) (words p prime f 0 n) x) where
     cleared : (j : ℕ) → words p prime t₀ 0 N j ≡ residues p prime .ring .zero
@@ -90,7 +97,7 @@ module _ {p : ℕ} (prime₀ : Prime p) (w : ℕ) (h minus f : List ℕ) (n : �
     product-lane i lane z B =
         let C = T .holds N fits (omega (arith, whole)) prime i lane (polynomials (residues p prime) .zero) z
         (nothing _ (λ e. cleared (flat w i e))) B in
-        let same = reduced-words prime₀ N t₁ t′ reduces (T .same-length ∙ whole) prime in
+        let same = reduced-words prime₀ reach t₁ t′ reduces inside others prime N in
         subst (Holds (residues p prime) (λ e. words p prime t′ 0 N (flat w i e)))
         (less-negated _ z (negated-read prime₀ h minus f n stores room prime x A))
         (record { at = λ e. C .at e ∙ same (flat w i e) })
@@ -109,24 +116,26 @@ module _ {p : ℕ} (prime₀ : Prime p) (w : ℕ) (h minus f : List ℕ) (n : �
     }
 
 pub block-multiplied : {p : ℕ} → Prime p → (h minus f : List ℕ) (n : ℕ) (s : List ℕ) (m : ℕ) (t t₀ t₁ t′ : List ℕ)
-    → n ≤ length h → n * 8 + m ≤ 1096 → length t ≡ 1088
+    (reach : ℕ) → reach ≡ n * 8 + m - 8 → n ≤ length h → n * 8 + m ≤ 1096 → length t ≡ 1088
     → minus ≡ stored (λ j. modulo p .neg (getD f j 0 % p)) h 0 n → t₀ ≡ stored (λ j. 0) t 0 1088
-    → TakesProduct p 8 t₀ minus 0 1 n s 0 m t₁ → t′ ≡ stored (λ j. getD t₁ j 0 % p) t₁ 0 1088 → BlockMultiplied p f n s m t′
-block-multiplied prime₀ h minus f n s m t t₀ t₁ t′ room fits length-is stores clears T reduces = record {
-  below = product-below prime₀ 8 h minus f n s m 1088 t t₀ t₁ t′ room fits length-is stores clears T reduces;
+    → TakesProduct p 8 t₀ minus 0 1 n s 0 m t₁ → t′ ≡ stored (λ j. getD t₁ j 0 % p) t₁ 0 reach → BlockMultiplied p f n s m t′
+block-multiplied prime₀ h minus f n s m t t₀ t₁ t′ reach reach-is room fits length-is stores clears T reduces = record {
+  below = product-below prime₀ 8 h minus f n s m 1088 t t₀ t₁ t′ reach reach-is room fits length-is stores clears T reduces;
   holds = λ prime rows ω x v A B.
-      product-flat prime₀ 8 h minus f n s m 1088 t t₀ t₁ t′ room fits length-is stores clears T reduces prime x A rows ω v B;
+      product-flat prime₀ 8 h minus f n s m 1088 t t₀ t₁ t′ reach reach-is room fits length-is stores clears T reduces
+      prime x A rows ω v B;
 }
 
 pub multiplied : {p : ℕ} → Prime p → (h minus f : List ℕ) (n : ℕ) (s : List ℕ) (m : ℕ) (t t₀ t₁ t′ : List ℕ)
-    → n ≤ length h → n + m ≤ 129 → length t ≡ 128
+    (reach : ℕ) → reach ≡ n + m - 1 → n ≤ length h → n + m ≤ 129 → length t ≡ 128
     → minus ≡ stored (λ j. modulo p .neg (getD f j 0 % p)) h 0 n → t₀ ≡ stored (λ j. 0) t 0 128
-    → TakesProduct p 1 t₀ minus 0 1 n s 0 m t₁ → t′ ≡ stored (λ j. getD t₁ j 0 % p) t₁ 0 128 → Multiplied p f n s m t′
-multiplied {p} prime₀ h minus f n s m t t₀ t₁ t′ room fits length-is stores clears T reduces = record {
-  below = product-below prime₀ 1 h minus f n s m 128 t t₀ t₁ t′ room (omega arith) length-is stores clears T reduces;
+    → TakesProduct p 1 t₀ minus 0 1 n s 0 m t₁ → t′ ≡ stored (λ j. getD t₁ j 0 % p) t₁ 0 reach → Multiplied p f n s m t′
+multiplied {p} prime₀ h minus f n s m t t₀ t₁ t′ reach reach-is room fits length-is stores clears T reduces = record {
+  below = product-below prime₀ 1 h minus f n s m 128 t t₀ t₁ t′ reach (omega arith) room (omega arith) length-is stores clears T
+      reduces;
   holds = λ prime x y A B.
-      let C = product-lane prime₀ 1 h minus f n s m 128 t t₀ t₁ t′ room (omega arith) length-is stores clears T reduces prime x A 0
-      (omega arith) y (record { at = λ e. B .at e ∙ ap (words p prime s 0 m) (sym (one-lane e)) }) in
+      let C = product-lane prime₀ 1 h minus f n s m 128 t t₀ t₁ t′ reach (omega arith) room (omega arith) length-is stores
+      clears T reduces prime x A 0 (omega arith) y (record { at = λ e. B .at e ∙ ap (words p prime s 0 m) (sym (one-lane e)) }) in
       record { at = λ e. C .at e ∙ ap (words p prime t′ 0 128) (one-lane e) };
 }
   where

@@ -1,35 +1,37 @@
--- All words of an area reduced: below p, and the same residues.
-use Prim.Native.Nat.{ℕ, _+_, _%_, _<_}
+-- The first n words of an area reduced, the others below p already: all below p, and the same residues.
+use Prim.Native.Nat.{ℕ, _+_, _%_, _<_, _≤_}
 use mathlib.Core.Path.{_≡_, sym, _∙_, ap, subst}
-use mathlib.Core.Logic.{⊎-elim}
+use mathlib.Core.Logic.{inr, ⊎-elim}
 use mathlib.Core.List.{List}
 use native.Mathlib.Nat.{mod-lt, mod-eq-of-lt, zero-add}
 use native.Mathlib.Omega.{arith}
-use lib.ListN.{length, getD, List·getD-eq-default}
+use lib.ListN.{length, getD}
 use Rattle.modular.specs.Prime.{Prime}
-use Rattle.vector.specs.Stored.{stored, length-stored, stored-inside, below-or-not}
+use Rattle.vector.specs.Stored.{stored, stored-inside, stored-outside, below-or-not}
 use Rattle.lattice.specs.Word.{words}
 use Rattle.lattice.specs.Range.{words-same}
 
-module _ {p : ℕ} (prime₀ : Prime p) (N : ℕ) (t t′ : List ℕ) (stores : t′ ≡ stored (λ j. getD t j 0 % p) t 0 N)
-    (length-is : length t ≡ N) where
+module _ {p : ℕ} (prime₀ : Prime p) (n : ℕ) (t t′ : List ℕ) (stores : t′ ≡ stored (λ j. getD t j 0 % p) t 0 n)
+    (inside : n ≤ length t) (others : (i : ℕ) → n ≤ i → getD t i 0 < p) where
   positive : 0 < p
   positive = omega (arith, prime₀ .large)
 
-  word-reduced : (j : ℕ) → j < N → getD t′ (0 + j) 0 ≡ getD t j 0 % p
-  word-reduced j lt = ap (λ l. getD l (0 + j) 0) stores ∙ stored-inside (λ i. getD t i 0 % p) t 0 N j (omega arith) lt
-
-  same-length : length t′ ≡ length t
-  same-length = ap length stores ∙ length-stored (λ j. getD t j 0 % p) t 0 N
+  word-reduced : (j : ℕ) → getD t′ j 0 ≡ getD t j 0 % p
+  word-reduced j =
+      ⊎-elim
+      (λ lt.
+      ap (λ i. getD t′ i 0) (sym (zero-add j))
+      ∙ ap (λ l. getD l (0 + j) 0) stores
+      ∙ stored-inside (λ i. getD t i 0 % p) t 0 n j (omega arith) lt)
+      (λ ge.
+      ap (λ l. getD l j 0) stores
+      ∙ stored-outside (λ i. getD t i 0 % p) t 0 n j (inr (omega arith))
+      ∙ sym (mod-eq-of-lt (others j ge)))
+      (below-or-not j n)
 
   pub reduced-below : (i : ℕ) → getD t′ i 0 < p
-  reduced-below i =
-      ⊎-elim
-      (λ lt. subst (λ w. w < p) (sym (ap (λ j. getD t′ j 0) (sym (zero-add i)) ∙ word-reduced i lt)) (mod-lt (getD t i 0) positive))
-      (λ ge. subst (λ w. w < p) (sym (List·getD-eq-default t′ 0 (omega (arith, same-length)))) positive)
-      (below-or-not i N)
+  reduced-below i = subst (λ w. w < p) (sym (word-reduced i)) (mod-lt (getD t i 0) positive)
 
-  pub reduced-words : (prime : Prime p) (j : ℕ) → words p prime t 0 N j ≡ words p prime t′ 0 N j
-  reduced-words prime j = words-same p prime t t′ 0 0 N j (λ lt.
-      ap (λ i. getD t i 0 % p) (zero-add j)
-      ∙ sym (ap (λ w. w % p) (word-reduced j lt) ∙ mod-eq-of-lt (mod-lt (getD t j 0) positive)))
+  pub reduced-words : (prime : Prime p) (N j : ℕ) → words p prime t 0 N j ≡ words p prime t′ 0 N j
+  reduced-words prime N j = words-same p prime t t′ 0 0 N j (λ lt.
+      sym (ap (λ w. w % p) (word-reduced (0 + j)) ∙ mod-eq-of-lt (mod-lt (getD t (0 + j) 0) positive)))

@@ -5,10 +5,17 @@ use residue::modulus::Modulus;
 use vector::clear;
 use vector::reduce_range;
 ghost use mathlib.Core.Path.{_≡_};
-ghost use Prim.Native.Nat.{ℕ, _+_, _*_, _<_, _≤_};
+ghost use Prim.Native.Nat.{ℕ, _+_, _-_, _*_, _<_, _≤_};
 ghost use lib.ListN.{length, getD};
 ghost use Rattle.residue.specs.Modulus.{ValidModulus};
 ghost use Rattle.multiples.specs.Product.{BlockMultiplied, Multiplied};
+
+// n - m, and 0 where m is the greater.
+fn less(n: usize, m: usize) -> usize
+    ensures { λ r. ⌜ r ≡ n - m ⌝ }
+{
+    if m < n { n - m } else { 0 }
+}
 
 // f, its first n words, times the block of 8 lanes in m words. What stood in `out` is lost.
 pub fn multiply_block(
@@ -28,7 +35,8 @@ pub fn multiply_block(
     store_negated(&mut minus, 0, f, n, modulus);
     clear(out, 0, 1088);
     subtract_product(out, 8, &minus, 0, 1, n, block, 0, m, modulus);
-    reduce_range(out, 1088, modulus);
+    // the words behind the product are 0 still
+    reduce_range(out, less(n * 8 + m, 8), modulus);
 }
 
 // f, its first n words, times g, its first m. What stood in `out` is lost.
@@ -42,5 +50,5 @@ pub fn multiply(f: &[u64], n: usize, g: &[u64], m: usize, out: &mut [u64], modul
     store_negated(&mut minus, 0, f, n, modulus);
     clear(out, 0, 128);
     subtract_product(out, 1, &minus, 0, 1, n, g, 0, m, modulus);
-    reduce_range(out, 128, modulus);
+    reduce_range(out, less(n + m, 1), modulus);
 }

@@ -11,7 +11,7 @@ use Rattle.residue.specs.Modulus.{ValidModulus}
 use Rattle.residue.specs.Below.{inverse-below}
 use Rattle.descent.specs.Kernel.{ValidKernel}
 use Rattle.descent.proofs.Kernels.{Reducing, kernel-start, kernel-none, kernel-end}
-use Rattle.descent.proofs.Kernels.{kernel-room, factor-below, kernel-sum, kernel-turn, kernel-skip}
+use Rattle.descent.proofs.Kernels.{kernel-room, factor-below, kernel-sum, kernel-turn, kernel-skip, kernel-zero}
 use Rattle.descent.proofs.kernel.reduce_by_kernel.Statement.{statement}
 use Rattle.descent.proofs.kernel.reduce_by_kernel.Tie as tie
 
@@ -65,30 +65,30 @@ loop-holds c = kernel-start
 sub-i : tie.Need-sub-i Inv-loop μ-loop
 sub-i c = search needs
 
-mul-reduce : tie.Need-mul-reduce Inv-loop μ-loop
-mul-reduce c = search needs
+mul-word : tie.Need-mul-word Inv-loop μ-loop
+mul-word c = search needs
 
-slice-read-reduce : tie.Need-slice-read-reduce Inv-loop μ-loop
-slice-read-reduce c =
+slice-read-word : tie.Need-slice-read-word Inv-loop μ-loop
+slice-read-word c =
     omega (arith, c .before .before .loop .inv .most, c .before .before .loop .inv .same-length)
 
 reduce-requires : tie.Need-reduce-requires Inv-loop μ-loop
 reduce-requires c κs =
-    let S = c .before .before .before .before .before .before .before .before in
-    let L = c .before .before .loop in
+    let S = c .before .before .before .before .before .before .before .before .before in
+    let L = c .before .before .before .loop in
     let m : ValidModulus (S .args .modulus) = S .pre .0 .0 in
     let room = kernel-room (L .inv) (omega (arith, m .prime .large)) (m .limit) (S .pre .1 .1) (L .k - 1) in
     (m, omega (arith, room))
 
 mul-requires : tie.Need-mul-requires Inv-loop μ-loop
 mul-requires c κs =
-    let S = c .before .before .before .before .before .before .before .before .before in
-    let L = c .before .before .before .loop in
+    let S = c .before .before .before .before .before .before .before .before .before .before in
+    let L = c .before .before .before .before .loop in
     let m : ValidModulus (S .args .modulus) = S .pre .0 .0 in (
       m,
       factor-small _ (getD (L .y) (L .k - 1) 0) (c .reduce .ensures) (m .prime .large),
       inverse-small _ (getD (S .args .kernel .now) (S .args .at + (S .args .size - 1)) 0)
-          (c .before .before .before .before .inverse .ensures) (m .prime .large),
+          (c .before .before .before .before .before .inverse .ensures) (m .prime .large),
     )
 
 sub-add-scaled : tie.Need-sub-add-scaled Inv-loop μ-loop
@@ -96,18 +96,20 @@ sub-add-scaled c = search needs
 
 sub-add-scaled-2 : tie.Need-sub-add-scaled-2 Inv-loop μ-loop
 sub-add-scaled-2 c =
-    let S = c .before .before .before .before .before .before .before .before .before .before .before .before .before in
-    let L = c .before .before .before .before .before .before .before .loop in
-    let by = factor-is (S .args .modulus .p) (c .before .before .before .mul .ensures) (c .before .before .before .before .reduce .ensures)
-    (c .before .before .before .before .before .before .before .before .inverse .ensures) in
+    let S = c .before .before .before .before .before .before .before .before .before .before .before .before .before .before in
+    let L = c .before .before .before .before .before .before .before .before .loop in
+    let by = factor-is (S .args .modulus .p) (c .before .before .before .mul .ensures)
+    (c .before .before .before .before .reduce .ensures)
+    (c .before .before .before .before .before .before .before .before .before .inverse .ensures) in
     omega (arith, factor-below (L .inv) (S .pre .0 .1) (omega arith) (omega arith) (S .pre .0 .0 .prime) _ by)
 
 add-scaled-requires : tie.Need-add-scaled-requires Inv-loop μ-loop
 add-scaled-requires c κs =
-    let S = c .before .before .before .before .before .before .before .before .before .before .before .before .before in
-    let L = c .before .before .before .before .before .before .before .loop in
-    let by = factor-is (S .args .modulus .p) (c .before .before .before .mul .ensures) (c .before .before .before .before .reduce .ensures)
-    (c .before .before .before .before .before .before .before .before .inverse .ensures) in
+    let S = c .before .before .before .before .before .before .before .before .before .before .before .before .before .before in
+    let L = c .before .before .before .before .before .before .before .before .loop in
+    let by = factor-is (S .args .modulus .p) (c .before .before .before .mul .ensures)
+    (c .before .before .before .before .reduce .ensures)
+    (c .before .before .before .before .before .before .before .before .before .inverse .ensures) in
     let m : ValidModulus (S .args .modulus) = S .pre .0 .0 in
     let limit : S .args .modulus .p ≤ 65521 = m .limit in
     let valid = S .pre .0 .1 in (
@@ -123,11 +125,12 @@ loop-less c = search needs
 
 loop-again : tie.Need-loop-again Inv-loop μ-loop
 loop-again c =
-    let S = c .before .before .before .before .before .before .before .before .before .before .before .before .before .before .before .before in
-    let L = c .before .before .before .before .before .before .before .before .before .before .loop in
+    let S = c .before .before .before .before .before .before .before .before .before .before .before
+    .before .before .before .before .before .before in
+    let L = c .before .before .before .before .before .before .before .before .before .before .before .loop in
     let by = factor-is (S .args .modulus .p) (c .before .before .before .before .before .before .mul .ensures)
     (c .before .before .before .before .before .before .before .reduce .ensures)
-    (c .before .before .before .before .before .before .before .before .before .before .before .inverse .ensures) in
+    (c .before .before .before .before .before .before .before .before .before .before .before .before .inverse .ensures) in
     kernel-turn (L .inv) (S .pre .0 .1) (omega arith) (omega arith) (S .pre .0 .0 .prime) _ by _
     (c .before .before .add-scaled .ensures .0) (S .pre .1 .0)
 
@@ -136,11 +139,20 @@ loop-less-2 c = search needs
 
 loop-again-2 : tie.Need-loop-again-2 Inv-loop μ-loop
 loop-again-2 c =
-    let S = c .before .before .before .before .before .before .before .before .before .before .before in
-    let L = c .before .before .before .before .before .loop in
+    let S = c .before .before .before .before .before .before .before .before .before .before .before .before in
+    let L = c .before .before .before .before .before .before .loop in
     let by = factor-is (S .args .modulus .p) (c .before .mul .ensures) (c .before .before .reduce .ensures)
-    (c .before .before .before .before .before .before .inverse .ensures) in
+    (c .before .before .before .before .before .before .before .inverse .ensures) in
     kernel-skip (L .inv) (S .pre .0 .1) (omega arith) (omega arith) (S .pre .0 .0 .prime) _ by (omega arith)
+
+loop-less-3 : tie.Need-loop-less-3 Inv-loop μ-loop
+loop-less-3 c = search needs
+
+loop-again-3 : tie.Need-loop-again-3 Inv-loop μ-loop
+loop-again-3 c =
+    let S = c .before .before .before .before .before .before .before .before .before in
+    let L = c .before .before .before .loop in
+    kernel-zero (L .inv) (S .pre .0 .1) (omega arith) (omega arith) (S .pre .0 .0 .prime) (omega arith)
 
 same-length : tie.Need-same-length Inv-loop μ-loop
 same-length c = search needs
@@ -163,8 +175,8 @@ reduce-by-kernel-spec =
     inverse-requires
     loop-holds
     sub-i
-    mul-reduce
-    slice-read-reduce
+    mul-word
+    slice-read-word
     reduce-requires
     mul-requires
     sub-add-scaled
@@ -174,5 +186,7 @@ reduce-by-kernel-spec =
     loop-again
     loop-less-2
     loop-again-2
+    loop-less-3
+    loop-again-3
     same-length
     returns-2)

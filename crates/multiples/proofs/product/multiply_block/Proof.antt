@@ -40,17 +40,26 @@ subtract-product-requires c κs =
       ),
     )
 
+mul-less : tie.Need-mul-less
+mul-less c = search needs
+
+add-less : tie.Need-add-less
+add-less c = search needs
+
+less-requires : tie.Need-less-requires
+less-requires c κs = search needs
+
 reduce-range-requires : tie.Need-reduce-range-requires
 reduce-range-requires c κs =
-    let taken = c .before .before .before in
+    let taken = c .before .before .before .before in
     let cleared = taken .before .before .before .before .before in
     let S = cleared .before .before .before .before .before .before .before .before in
     let m : ValidModulus (S .args .modulus) = S .pre .0 .0 in
     let clears = cleared .clear .ensures in
     let T = taken .subtract-product .ensures in (
-      (m, omega (arith, T .same-length, cleared-length 1088 (S .args .out .now) _ clears)),
-      product-reducible (S .args .modulus .p) (S .args .n) 1088 (taken .subtract-product .last .0) (m .prime .large) (m .limit)
-          (S .pre .0 .1) (T .bound 0 (cleared-none 1088 (S .args .out .now) _ clears (S .pre .0 .5))),
+      (m, omega (arith, c .less .ensures, T .same-length, cleared-length 1088 (S .args .out .now) _ clears)),
+      product-reducible (S .args .modulus .p) (S .args .n) (c .less .result) (taken .subtract-product .last .0)
+          (m .prime .large) (m .limit) (S .pre .0 .1) (T .bound 0 (cleared-none 1088 (S .args .out .now) _ clears (S .pre .0 .5))),
     )
 
 same-length : tie.Need-same-length
@@ -58,13 +67,14 @@ same-length c = search needs
 
 returns : tie.Need-returns
 returns c =
-    let taken = c .before .before .before .before .before .before in
+    let taken = c .before .before .before .before .before .before .before in
     let cleared = taken .before .before .before .before .before in
     let negated = cleared .before .before .before in
     let S = negated .before .before .before .before .before in
     let m : ValidModulus (S .args .modulus) = S .pre .0 .0 in
-    block-multiplied (m .prime) _ _ (S .args .f .now) (S .args .n) (S .args .block .now) (S .args .m) (S .args .out .now) _ _ _
-    (S .pre .0 .1) (S .pre .0 .4) (S .pre .0 .5) (negated .store-negated .ensures) (cleared .clear .ensures)
+    block-multiplied (m .prime) _ _ (S .args .f .now) (S .args .n) (S .args .block .now) (S .args .m) (S .args .out .now) _ _ _ _
+    (c .before .before .before .less .ensures) (S .pre .0 .1) (S .pre .0 .4) (S .pre .0 .5)
+    (negated .store-negated .ensures) (cleared .clear .ensures)
     (taken .subtract-product .ensures) (c .before .before .reduce-range .ensures)
 
 pub multiply-block-spec : {M : Type 1} → statement M
@@ -76,6 +86,9 @@ multiply-block-spec =
     clear-requires
     slice-aggregate-subtract-product
     subtract-product-requires
+    mul-less
+    add-less
+    less-requires
     reduce-range-requires
     same-length
     returns)
