@@ -48,11 +48,9 @@ uint64_t NAME(const uint8_t *system, size_t system_bytes, uint8_t *certificate, 
     struct system s;
     struct job t;
     struct writer o = {certificate, 0};
-    uint64_t refusal = read_system(&s, system, system_bytes);
+    uint64_t refusal = read_to_solve(&s, system, system_bytes, lent_bytes);
     if (refusal != 0)
         return refusal;
-    if (lent_bytes < 4 * LONGEST_CERTIFICATE)
-        return refusal_of(11, 0);
     job_init(&t, &s);
     guess_rank(&t);
     eliminate(&t);

@@ -146,6 +146,13 @@ static uint64_t read_system(struct system *s, const uint8_t *bytes, size_t count
     return read_polynomials(&k, s->b, s->n) && read_end(&k) ? 0 : k.refusal;
 }
 
+// what a solver looks at first: the system, then whether there is room for the longest certificate
+static inline uint64_t read_to_solve(struct system *s, const uint8_t *bytes, size_t count, size_t lent_bytes)
+{
+    uint64_t refusal = read_system(s, bytes, count);
+    return refusal == 0 && lent_bytes < 4 * LONGEST_CERTIFICATE ? refusal_of(11, 0) : refusal;
+}
+
 static bool read_certificate_head(struct walk *k, uint32_t *kind)
 {
     uint32_t head;

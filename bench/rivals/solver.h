@@ -43,11 +43,9 @@ uint64_t NAME(const uint8_t *system, size_t system_bytes, uint8_t *certificate, 
 {
     struct work w;
     struct writer o = {certificate, 0};
-    uint64_t refusal = read_system(&w.s, system, system_bytes);
+    uint64_t refusal = read_to_solve(&w.s, system, system_bytes, lent_bytes);
     if (refusal != 0)
         return refusal;
-    if (lent_bytes < 4 * LONGEST_CERTIFICATE)
-        return refusal_of(11, 0);
     w.k = modulus_of(w.s.p);
     return solve(&w, &o);
 }

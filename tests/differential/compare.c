@@ -95,14 +95,21 @@ static void expect_right(const struct answer *a, const struct file *certificate)
         differ("solve: its certificate is refused by the reference's check, %u at %u", r.number, r.place);
 }
 
-struct refusal compare_solve(struct draws *g, const struct answer *a, size_t lent, struct file *certificate)
+// a call that takes the system and writes over so many lent bytes; the system's bytes must stay
+static uint64_t call_lending(struct draws *g, const char *name, uint64_t (*call)(const uint8_t *, size_t, uint8_t *, size_t), size_t lent)
 {
     lend_file(g, &lent_system, trial.system);
     lend(&lent_result, lent, chance(g, 75), (uint8_t)draw(g));
     alarm(SECONDS);
-    uint64_t result = yezsdolak_solve(lent_system.bytes, trial.system->count, lent_result.bytes, lent);
+    uint64_t result = call(lent_system.bytes, trial.system->count, lent_result.bytes, lent);
     alarm(0);
-    expect_unchanged("solve", &lent_system, trial.system);
+    expect_unchanged(name, &lent_system, trial.system);
+    return result;
+}
+
+struct refusal compare_solve(struct draws *g, const struct answer *a, size_t lent, struct file *certificate)
+{
+    uint64_t result = call_lending(g, "solve", yezsdolak_solve, lent);
     struct refusal r = a->refusal;
     if (r.number == 0 && lent < 4 * LONGEST_CERTIFICATE)
         r = (struct refusal){11, 0};
@@ -142,12 +149,7 @@ void compare_report(struct draws *g, const struct answer *a, size_t lent)
 {
     char text[REPORT_ROOM];
     size_t count = lent < REPORT_ROOM ? 0 : report_text(text, a);
-    lend_file(g, &lent_system, trial.system);
-    lend(&lent_result, lent, chance(g, 75), (uint8_t)draw(g));
-    alarm(SECONDS);
-    uint64_t result = yezsdolak_report(lent_system.bytes, trial.system->count, lent_result.bytes, lent);
-    alarm(0);
-    expect_unchanged("report", &lent_system, trial.system);
+    uint64_t result = call_lending(g, "report", yezsdolak_report, lent);
     if (result != count)
         differ("report: %zu bytes expected, %lu found", count, (unsigned long)result);
     if (memcmp(lent_result.bytes, text, count) != 0)
