@@ -6,6 +6,7 @@ use native.Mathlib.Nat.{mul-le-mul, mul-le-mul-left, mul-le-mul-right, mul-lt-mu
 use native.Mathlib.Omega.{arith}
 use Rattle.residue.specs.declared.modulus.Modulus.{Modulus}
 use Rattle.residue.specs.Modulus.{ValidModulus}
+use Rattle.residue.specs.Sum.{SmallSum}
 use Rattle.residue.specs.Barrett.{BarrettStep}
 use Rattle.residue.proofs.Remainder.{sub-mul-mod}
 
@@ -30,6 +31,11 @@ module _ (M : Modulus) (ok : ValidModulus M) where
   -- a product of residues has 32 bits
   pub product-short : (a b : ℕ) → a < p → b < p → a * b < 4294967296
   product-short a b ha hb = omega (arith, mul-le-mul (le-of-lt ha) (le-of-lt hb), square-short)
+
+  pub sum-short : (x : ℕ) → SmallSum p x → x < 4294967296 * p
+  sum-short x hx =
+      let large = ok .prime .large in
+      omega (arith, mul-le-mul-right p (ok .limit))
 
   module _ (x : ℕ) where
     abbrev q : ℕ

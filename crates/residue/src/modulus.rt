@@ -4,6 +4,7 @@ ghost use Prim.Native.Nat.{_+_, _*_, _%_, _<_, _≤_};
 ghost use Rattle.modular.specs.Prime.{Prime};
 ghost use Rattle.modular.specs.Modulo.{modulo};
 ghost use Rattle.residue.specs.Modulus.{ValidModulus};
+ghost use Rattle.residue.specs.Sum.{SmallSum};
 ghost use Rattle.residue.specs.Barrett.{BarrettStep};
 
 // A prime p of at most 65521, and 2^32 / p rounded down, with which a remainder by p takes multiplications only.
@@ -71,9 +72,9 @@ impl Modulus {
         factor
     }
 
-    // x modulo p, for x below 2^32 p: a sum of products that was left unreduced.
+    // x modulo p, of a sum of products that was left unreduced.
     pub fn reduce(self, x: u64) -> u64
-        requires { ⌜ ValidModulus self × (x < 4294967296 * self .p) ⌝ }
+        requires { ⌜ ValidModulus self × SmallSum (self .p) x ⌝ }
         ensures { λ r. ⌜ r ≡ x % self .p ⌝ }
     {
         self.wrap(self.barrett_step(self.barrett_step(x)))

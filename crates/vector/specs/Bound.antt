@@ -4,12 +4,13 @@ use mathlib.Core.List.{List, [], _∷_}
 use Prim.Native.Nat.{ℕ, zero, suc, _+_, _*_, _≤_, _<_}
 use native.Mathlib.Omega.{arith}
 use lib.ListN.{getD, set, replicate}
+use Rattle.residue.specs.Sum.{SmallSum}
 use Rattle.vector.specs.Stored.{stored}
 use Rattle.vector.specs.Multiple.{sumAt}
 
 -- the first n words are sums that `Modulus::reduce` takes
 abbrev pub Reducible : ℕ → List ℕ → ℕ → Type 0
-Reducible p l n = (j : ℕ) → j < n → getD l j 0 < 4294967296 * p
+Reducible p l n = (j : ℕ) → j < n → SmallSum p (getD l j 0)
 
 -- every word is at most b
 abbrev pub AtMost : ℕ → List ℕ → Type 0
@@ -21,7 +22,7 @@ zeros-none zero i = omega arith
 zeros-none (suc n) zero = omega arith
 zeros-none (suc n) (suc i) = zeros-none n i
 
-pub at-most-reducible : (b p : ℕ) (l : List ℕ) (n : ℕ) → b < 4294967296 * p → AtMost b l → Reducible p l n
+pub at-most-reducible : (b p : ℕ) (l : List ℕ) (n : ℕ) → SmallSum p b → AtMost b l → Reducible p l n
 at-most-reducible b p l n small h j lt = omega (arith, h j)
 
 at-most-set : (b v : ℕ) (l : List ℕ) (i : ℕ) → v ≤ b → AtMost b l → AtMost b (set l i v)
