@@ -20,6 +20,7 @@ use Rattle.vector.specs.Multiple.{sumAt}
 use Rattle.lattice.specs.Word.{residue, residue-mod, residue-mul, residue-inverse, zero-residue}
 use Rattle.lattice.specs.Word.{words, words-inside, words-first}
 use Rattle.lattice.specs.Memory.{row, height, ZeroFrom, Level, slotSize, Sums, ValidSlot}
+use Rattle.residue.specs.Sum.{SmallSum, sum-fits}
 use Rattle.lattice.specs.Sums.{sums-room, sums-step}
 use Rattle.lattice.specs.Step.{factorOf, HasStep, Rest, Left}
 use Rattle.lattice.specs.Range.{zero-word, words-upper, words-lower, zero-kept}
@@ -100,17 +101,15 @@ module _ (p : ℕ) (prime : Prime p) {L : Level} {block : List ℕ} {k value : �
   step-none : ZeroFrom p (L .slots) (256 * row k) 128 taken
   step-none j h lt = slot .block .behind j (omega arith) lt
 
+  pub step-reduces : Sums p 1 block → (j : ℕ)
+      → SmallSum p (sumAt block (k - slotSize L (row k)) (L .slots) (256 * row k) (p - a) j)
+  step-reduces sums j =
+      let positive : 0 < p = omega (arith, prime .large) in
+      omega (arith, sums-room p block 1 positive sums (k - slotSize L (row k) + j), step-product (256 * row k + j))
+
   pub step-sum : Sums p 1 block → p ≤ 65521 → (j : ℕ)
       → sumAt block (k - slotSize L (row k)) (L .slots) (256 * row k) (p - a) j < 18446744073709551616
-  step-sum sums limit j =
-      let positive : 0 < p = omega (arith, prime .large) in
-      omega (arith, sums-room p block 1 positive limit sums (k - slotSize L (row k) + j), step-product (256 * row k + j))
-
-  pub step-reduces : Sums p 1 block → p ≤ 65521 → (j : ℕ)
-      → sumAt block (k - slotSize L (row k)) (L .slots) (256 * row k) (p - a) j < 4294967296 * p
-  step-reduces sums limit j =
-      let positive : 0 < p = omega (arith, prime .large) in
-      omega (arith, sums-room p block 1 positive limit sums (k - slotSize L (row k) + j), step-product (256 * row k + j))
+  step-sum sums limit j = sum-fits p _ limit (step-reduces sums j)
 
   pub step-slot-room : 256 * row k + height (slotSize L (row k)) * 8 ≤ length (L .slots)
   step-slot-room = omega (arith, S .level .room, step-fits)
@@ -124,13 +123,13 @@ module _ (p : ℕ) (prime : Prime p) {L : Level} {block : List ℕ} {k value : �
     abbrev c : ℕ
     c = p - a
 
-    pub step-sums : (n : ℕ) → 0 < n → n ≤ 62112 → Sums p n block → Sums p (n - 1) block′
+    pub step-sums : (n : ℕ) → 0 < n → n ≤ 8190 → Sums p n block → Sums p (n - 1) block′
     step-sums = sums-step p block block′ d (L .slots) (256 * row k) taken c stores step-product
 
-    pub step-reducible : Sums p 1 block → p ≤ 65521 → (j : ℕ) → getD block′ j 0 < 4294967296 * p
-    step-reducible sums limit j =
+    pub step-reducible : Sums p 1 block → (j : ℕ) → SmallSum p (getD block′ j 0)
+    step-reducible sums j =
         let positive : 0 < p = omega (arith, prime .large) in
-        omega (arith, sums-room p block′ 0 positive limit (step-sums 1 (omega arith) (omega arith) sums) j)
+        omega (arith, sums-room p block′ 0 positive (step-sums 1 (omega arith) (omega arith) sums) j)
 
     pub step-length : length block′ ≡ length block
     step-length = ap length stores ∙ length-stored _ block d taken

@@ -12,6 +12,7 @@ use Rattle.vector.specs.Reduced.{polynomial}
 use Rattle.lattice.specs.Word.{words}
 use Rattle.lattice.specs.Memory.{row, ZeroFrom, Ends, slotSize, tailSize, ValidSlot, Memory, places, Valid}
 use Rattle.lattice.specs.Found.{found-ends}
+use Rattle.residue.specs.Sum.{SmallSum}
 use Rattle.lattice.specs.Sums.{sums-room, sums-stored}
 use Rattle.lattice.specs.Moves.{HasRoom}
 use Rattle.lattice.specs.Range.{ends-most, words-apart, zero-from-same, words-hand, words-slot}
@@ -71,12 +72,12 @@ module _ {p : ℕ} {M : Memory} {t e m : ℕ} (E : Swap p M t e m) where
   blocks-fit = omega (arith, E .blocks, E .room .block, slot .block .within)
 
   -- the block that the hand takes can be reduced
-  pub block-reducible : (b : List ℕ) → b ≡ block′ M e → 0 < p → p ≤ 65521 → (j : ℕ) → getD b j 0 < 4294967296 * p
-  block-reducible b eb positive limit j =
+  pub block-reducible : (b : List ℕ) → b ≡ block′ M e → 0 < p → (j : ℕ) → SmallSum p (getD b j 0)
+  block-reducible b eb positive j =
       let taken : ℕ → ℕ = λ j. getD (M .level .slots) (256 * row (M .hand .size) + j) 0 in
       let small : (j : ℕ) → taken j ≤ p = λ j. omega (arith, E .valid .level .below (256 * row (M .hand .size) + j)) in
       let sums = sums-stored p (M .block) taken 0 e (places M) (λ j lt. small j) (E .valid .hand .sums) in
-      rw eb (omega (arith, sums-room p (block′ M e) (places M) positive limit sums j))
+      rw eb (omega (arith, sums-room p (block′ M e) (places M) positive sums j))
 
   -- a word outside of the slot
   pub word-outside : (i : ℕ) → (i < 256 * q) ⊎ (256 * q + 256 ≤ i) → getD (slots₂ p M e m) i 0 ≡ getD s i 0

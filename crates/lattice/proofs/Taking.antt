@@ -23,6 +23,7 @@ use Rattle.lattice.specs.Memory.{row, height, ZeroFrom, Level, slotSize,
 use Rattle.lattice.specs.Memory.{Memory, memory, places, Valid}
 use Rattle.lattice.specs.Holding.{HoldsState, Reached}
 use Rattle.lattice.specs.Range.{words-upper, words-lower, zero-kept}
+use Rattle.residue.specs.Sum.{sum-fits}
 use Rattle.lattice.specs.Sums.{sums-room, sums-fewer, sums-step}
 use Rattle.lattice.specs.Reading.{holds-pivot}
 use Rattle.lattice.specs.Step.{HasStep, TakesMultiple}
@@ -86,11 +87,12 @@ module _ {p : ℕ} (prime₀ : Prime p) {M : Memory} (valid : Valid p M) (fits :
   pub taking-sum : p ≤ 65521 → (j : ℕ) → sumAt (M .tail) shift (L .slots) (256 * q + 128) (p - r .factor) j < 18446744073709551616
   taking-sum limit j =
       let positive : 0 < p = omega (arith, prime₀ .large) in
-      omega (
+      sum-fits p _ limit
+      (omega (
         arith,
-        sums-room p (M .tail) (places M) positive limit (valid .hand .tail-sums) (shift + j),
+        sums-room p (M .tail) (places M) positive (valid .hand .tail-sums) (shift + j),
         Stepping.step-product p prime₀ S (r .factor) (T .factor) (256 * q + 128 + j),
-      )
+      ))
 
   -- words that `add_scaled` takes of the slot's tail
   module _ (words : ℕ) (rounded : words ≡ height size * 8) where

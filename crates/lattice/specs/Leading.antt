@@ -1,13 +1,13 @@
 -- One move after another: what memory leads to.
 use Prim.Native.Nat.{ℕ, _<_}
-use mathlib.Core.Path.{_≡_, _∙_, ap}
+use mathlib.Core.Path.{_≡_, refl, _∙_, ap}
 use native.Mathlib.Omega.{arith}
 use Rattle.ring.specs.Ring.{Ring}
 use Rattle.algebra.specs.Sized.{Sized}
 use Rattle.reduction.specs.Trace.{State, Trace, start, alike, step, exchange}
 use Rattle.lattice.specs.Memory.{row, slotSize, Memory, Valid}
 use Rattle.lattice.specs.Holding.{Leads}
-use Rattle.lattice.specs.Moves.{Fits, Stepped, Swapped}
+use Rattle.lattice.specs.Moves.{Fits, Stepped, Swapped, Lengthened}
 
 pub trace-then : {A : Type 0} {R : Ring A} {S : Sized R} {n : ℕ} {ω : ℕ → ℕ} {s t u : State A}
     → Trace S n ω s t → Trace S n ω t u → Trace S n ω s u
@@ -26,10 +26,15 @@ module _ {p : ℕ} where
       let second = g prime n ω (first .now) (first .holds) in
       record { now = second .now; holds = second .holds; trace = trace-then (first .trace) (second .trace) }
 
-  -- an exchange with a longer slot, and a step
+  -- a hand that is long enough stays
+  pub kept-lengthened : {M : Memory} → Valid p M → Fits M → Lengthened p M M
+  kept-lengthened {M} valid fits =
+      record { moved = record { valid = valid; leads = leads-none M }; places-kept = refl; fits = fits }
+
+  -- an exchange with a longer slot
   module _ {M M′ : Memory} (valid : Valid p M) (some : 0 < M .hand .size)
       (longer : M .hand .size < slotSize (M .level) (row (M .hand .size))) (x : Swapped p M M′) where
-    pub swapped-fits : Fits M′
+    swapped-fits : Fits M′
     swapped-fits = record {
       some = omega (arith, x .hand-size);
       filled = rw same (omega (arith, x .slot-size));
@@ -45,9 +50,17 @@ module _ {p : ℕ} where
         same : row (M′ .hand .size) ≡ row (M .hand .size)
         same = ap row (x .hand-size) ∙ valid .level .slot (row (M .hand .size)) (omega arith) .pivot (omega arith)
 
-    pub swapped-stepped : {M″ : Memory} → Stepped p M′ M″ → Stepped p M M″
-    swapped-stepped {M″} y = record {
-      moved = record { valid = y .moved .valid; leads = leads-then M M′ M″ (x .leads (omega arith)) (y .moved .leads) };
-      falls = omega (arith, x .places-kept, y .falls);
-      short = y .short;
+    pub swapped-lengthened : Lengthened p M M′
+    swapped-lengthened = record {
+      moved = record { valid = x .valid; leads = x .leads (omega arith) };
+      places-kept = x .places-kept;
+      fits = swapped-fits;
     }
+
+  -- and a step
+  pub lengthened-stepped : {M M′ M″ : Memory} → Lengthened p M M′ → Stepped p M′ M″ → Stepped p M M″
+  lengthened-stepped {M} {M′} {M″} x y = record {
+    moved = record { valid = y .moved .valid; leads = leads-then M M′ M″ (x .moved .leads) (y .moved .leads) };
+    falls = omega (arith, x .places-kept, y .falls);
+    short = y .short;
+  }

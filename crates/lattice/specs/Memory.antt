@@ -62,7 +62,7 @@ pub record ValidLevel (p : ℕ) (L : Level) : Type 0 where
 -- Sums that are not reduced: a number of at most p, and so many products of two such numbers. A step adds at most one product to a
 -- word, and lowers the number n of places by at least 1, so that no counter is needed against overflow.
 abbrev pub Sums : (p n : ℕ) → List ℕ → Type 0
-Sums p n = AtMost (p + (62112 - n) * (p * p))
+Sums p n = AtMost (p + (8190 - n) * (p * p))
 
 -- a level, and the vector in hand
 pub record Memory : Type 0 where

@@ -54,3 +54,9 @@ pub record Swapped (p : ℕ) (M M′ : Memory) : Type 0 where
   pub put : (prime : Prime p) (n : ℕ) (ω : ℕ → ℕ) (s : State (Polynomial (residues p prime))) → HoldsState p prime n ω M s
       → HoldsSlots p prime n ω (M′ .level) (put (s .slots) (row (M .hand .size)) (s .hand) (s .size))
   pub leads : 0 < slotSize (M .level) (row (M .hand .size)) → Leads p M M′
+
+-- The hand is no longer shorter than the slot at its pivot: where it was, the two changed places.
+pub record Lengthened (p : ℕ) (M M′ : Memory) : Type 0 where
+  pub moved : Moved p M M′
+  pub places-kept : places M′ ≡ places M
+  pub fits : Fits M′

@@ -6,6 +6,7 @@ use mathlib.Core.List.{List}
 use native.Mathlib.Omega.{arith}
 use lib.ListN.{length, getD}
 use Rattle.modular.specs.Modulo.{modulo}
+use Rattle.residue.specs.Sum.{SmallSum}
 use Rattle.vector.specs.Stored.{stored}
 use Rattle.vector.specs.Multiple.{sumAt}
 use Rattle.lattice.specs.declared.step.Remains.{Remains}
@@ -39,7 +40,7 @@ pub record Rest (p : ℕ) (block : List ℕ) (n value : ℕ) : Type 0 where
   pub room : 1088 ≤ length block
   pub within : n ≤ 1088
   pub behind : ZeroFrom p block 0 1088 n
-  pub reducible : (j : ℕ) → getD block j 0 < 4294967296 * p
+  pub reducible : (j : ℕ) → SmallSum p (getD block j 0)
   pub early : 0 < value → (0 < n) × (value ≡ getD block (n - 1) 0 % p)
 
 pub record Left (p : ℕ) (block : List ℕ) (n size value : ℕ) : Type 0 where

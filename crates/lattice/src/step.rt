@@ -7,6 +7,7 @@ ghost use mathlib.Core.Path.{_≡_};
 ghost use Prim.Native.Nat.{_+_, _-_, _*_, _%_, _<_, _≤_};
 ghost use lib.ListN.{length};
 ghost use Rattle.residue.specs.Modulus.{ValidModulus};
+ghost use Rattle.residue.specs.Sum.{SmallSum};
 ghost use Rattle.vector.specs.Multiple.{sumAt};
 ghost use Rattle.lattice.specs.Memory.{level, Sums};
 ghost use Rattle.lattice.specs.Step.{HasStep, Takes, Rest, Left};
@@ -30,7 +31,7 @@ pub fn word_before(
     modulus: Modulus,
 ) -> u64
     requires { ⌜ ValidModulus modulus × (d + n ≤ length (now h)) × (a + n ≤ length (now s)) ⌝ }
-    requires sum { ⌜ sumAt (now h) d (now s) a c (n - 2) < 4294967296 * modulus .p ⌝ }
+    requires sum { ⌜ SmallSum (modulus .p) (sumAt (now h) d (now s) a c (n - 2)) ⌝ }
     ensures { λ r. ⌜ (0 < r → (2 ≤ n) × (r ≡ sumAt (now (h .entry)) d (now (s .entry)) a c (n - 2) % modulus .p)) ⌝ }
 {
     if n < 2 {

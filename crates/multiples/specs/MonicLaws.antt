@@ -35,7 +35,7 @@ use Rattle.multiples.specs.ProductLaws.{cleared-none}
 
 -- the words of a tail can be reduced
 pub sums-reducible : (p : ℕ) (l : List ℕ) (n : ℕ) → 1 < p → p ≤ 65521 → Sums p 0 l → Reducible p l n
-sums-reducible p l n large limit sums = at-most-reducible (p + 62112 * (p * p)) p l n
+sums-reducible p l n large limit sums = at-most-reducible (p + 8190 * (p * p)) p l n
     (omega (arith, mul-le-mul-right p limit)) sums
 
 -- the unit's multiple of x, by coefficients

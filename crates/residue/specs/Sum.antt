@@ -1,6 +1,12 @@
 -- How large a sum of products may be that is reduced at once.
-use Prim.Native.Nat.{ℕ, _*_, _≤_}
+use Prim.Native.Nat.{ℕ, _*_, _<_, _≤_}
+use native.Mathlib.Nat.{mul-le-mul}
+use native.Mathlib.Omega.{arith}
 
 -- at most what 8192 products of two numbers below p come to
 abbrev pub SmallSum : ℕ → ℕ → Type 0
 SmallSum p x = x ≤ 8192 * (p * p)
+
+-- it fits in a word
+pub sum-fits : (p x : ℕ) → p ≤ 65521 → SmallSum p x → x < 18446744073709551616
+sum-fits p x limit small = omega (arith, mul-le-mul {n₁ = p} {m₁ = p} {n₂ = 65521} {m₂ = 65521} limit limit)

@@ -26,7 +26,7 @@ find-leading-requires : tie.Need-find-leading-requires Inv-loop μ-loop
 find-leading-requires c κs =
     let S = c .before .before .before .before .before .before in
     let m : ValidModulus (S .args .modulus) = S .pre .0 .0 in
-    let room = sums-room _ (S .args .block .now) 2112 (omega (arith, m .prime .large)) (m .limit) (S .pre .1 .0 .3) in
+    let room = sums-room _ (S .args .block .now) 2112 (omega (arith, m .prime .large)) (S .pre .1 .0 .3) in
     ((m, omega arith), λ j lt. omega (arith, room j))
 
 loop-holds : tie.Need-loop-holds Inv-loop μ-loop

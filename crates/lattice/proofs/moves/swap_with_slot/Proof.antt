@@ -39,7 +39,7 @@ find-leading-requires c κs =
     let valid = S .pre .1 .0 in
     let m : ValidModulus (S .args .modulus) = S .pre .0 in
     let positive : 0 < S .args .modulus .p = omega (arith, m .prime .large) in
-    let room = sums-room _ (S .args .tail .now) _ positive (m .limit) (valid .hand .tail-sums) in
+    let room = sums-room _ (S .args .tail .now) _ positive (valid .hand .tail-sums) in
     ((m, omega (arith, valid .hand .tail-within, valid .hand .tail-room)), λ j lt. omega (arith, room j))
 
 larger-requires : tie.Need-larger-requires
@@ -56,7 +56,7 @@ exchange-requires c κs =
     let m : ValidModulus (S .args .modulus) = S .pre .0 in
     let positive : 0 < S .args .modulus .p = omega (arith, m .prime .large) in
     let slot = valid .level .slot (row (S .args .hand .size)) (omega arith) in
-    let room = sums-room _ (S .args .block .now) _ positive (m .limit) (valid .hand .sums) in
+    let room = sums-room _ (S .args .block .now) _ positive (valid .hand .sums) in
     let most = W .larger .ensures in
     let within : W .larger .result ≤ 128 = omega (arith, slot .block .within, S .pre .1 .1 .block) in
     ((m, omega (arith, valid .hand .room), omega (arith, valid .level .room)), λ j lt. omega (arith, room j))
@@ -80,7 +80,7 @@ exchange-requires-2 c κs =
     let valid = S .pre .1 .0 in
     let m : ValidModulus (S .args .modulus) = S .pre .0 in
     let positive : 0 < S .args .modulus .p = omega (arith, m .prime .large) in
-    let room = sums-room _ (S .args .tail .now) _ positive (m .limit) (valid .hand .tail-sums) in
+    let room = sums-room _ (S .args .tail .now) _ positive (valid .hand .tail-sums) in
     let E = swap-of positive valid (S .pre .1 .1) _ (T .find-leading .ensures .0) _ (W .larger .ensures) _ (Y .larger2 .ensures) in
     let within = tails-fit E in
     let same = X .exchange .kept .1 .0 in
@@ -138,7 +138,7 @@ find-leading-requires-2 c κs =
     let E = swap-of positive valid (S .pre .1 .1) _ (T .find-leading .ensures .0) _ (W .larger .ensures) _ (Y .larger2 .ensures) in
     let same = X .exchange .kept .0 in (
       (m, omega (arith, slot .block .within, valid .hand .room)),
-      λ j lt. block-reducible E _ (X .exchange .ensures .0) positive (m .limit) j,
+      λ j lt. block-reducible E _ (X .exchange .ensures .0) positive j,
     )
 
 same-length : tie.Need-same-length

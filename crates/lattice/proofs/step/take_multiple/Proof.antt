@@ -61,7 +61,7 @@ word-before-requires c κs =
     let by = A .mul .ensures in
     let within = step .level .slot (row (S .args .found .size)) (omega arith) .block .within in (
       (m, omega (arith, step .fits, step .ends .within, step .room), omega (arith, within, step .level .room)),
-      Stepping.step-reduces _ (m .prime) step _ by (S .pre .1 .1) (m .limit) _,
+      Stepping.step-reduces _ (m .prime) step _ by (S .pre .1 .1) _,
     )
 
 sub-add-scaled : tie.Need-sub-add-scaled
@@ -108,7 +108,7 @@ returns c =
         room = omega (arith, step .room, Stepping.step-length _ (m .prime) step _ by _ words);
         within = omega (arith, step .ends .within);
         behind = Stepping.step-behind _ (m .prime) step _ by _ words;
-        reducible = Stepping.step-reducible _ (m .prime) step _ by _ words (S .pre .1 .1) (m .limit);
+        reducible = Stepping.step-reducible _ (m .prime) step _ by _ words (S .pre .1 .1);
         early = λ some. let before = N .word-before .ensures some in (
           omega (arith, before .0, step .fits),
           Stepping.step-next _ (m .prime) step _ by _ words _ before,

@@ -14,7 +14,7 @@ find-leading-requires c κs =
     let S = c .before .before .before .before .before .before .before .before .before in
     let valid = S .pre .1 .0 in
     let m : ValidModulus (S .args .modulus) = S .pre .0 .0 in
-    let room = sums-room _ (S .args .tail .now) _ (omega (arith, m .prime .large)) (m .limit) (valid .hand .tail-sums) in
+    let room = sums-room _ (S .args .tail .now) _ (omega (arith, m .prime .large)) (valid .hand .tail-sums) in
     ((m, omega (arith, valid .hand .tail-room)), λ j lt. omega (arith, room j))
 
 -- src/settling.rt:35:9
@@ -23,7 +23,7 @@ exchange-requires c κs =
     let S = c .before .before .before .before .before .before .before .before .before .before .before .before in
     let valid = S .pre .1 .0 in
     let m : ValidModulus (S .args .modulus) = S .pre .0 .0 in
-    let room = sums-room _ (S .args .tail .now) _ (omega (arith, m .prime .large)) (m .limit) (valid .hand .tail-sums) in
+    let room = sums-room _ (S .args .tail .now) _ (omega (arith, m .prime .large)) (valid .hand .tail-sums) in
     ((m, omega (arith, valid .hand .tail-room), omega (arith, S .pre .0 .1)), λ j lt. omega (arith, room j))
 
 -- src/settling.rt:36:9
