@@ -23,6 +23,7 @@ use Rattle.lattice.specs.Memory.{ZeroFrom}
 use Rattle.lattice.specs.Word.{residue, residue-mod, residue-mul, residue-inverse, residue-zero, zero-residue}
 use Rattle.lattice.specs.Word.{words, words-first, words-inside}
 use Rattle.lattice.specs.Range.{words-upper, words-lower, zero-word}
+use Rattle.residue.specs.Sum.{SmallSum, sum-fits}
 use Rattle.descent.specs.Product.{less}
 use Rattle.descent.specs.Kernel.{ValidKernel, Lessened, TakesKernel}
 use Rattle.descent.proofs.Products.{product-most}
@@ -84,10 +85,10 @@ module _ {p : ℕ} {y₀ kernel : List ℕ} {at : ℕ} where
 
   module _ {k : ℕ} {y : List ℕ} (so-far : Reducing p y₀ kernel at k y) where
     -- the words can be reduced, with one product more
-    pub kernel-room : 0 < p → p ≤ 65521 → AtMost (1088 * (p * p)) y₀ → (i : ℕ) → getD y i 0 + p * p < 4294967296 * p
-    kernel-room positive limit small i =
+    pub kernel-room : AtMost (1088 * (p * p)) y₀ → (i : ℕ) → SmallSum p (getD y i 0 + p * p)
+    kernel-room small i =
         let few : 256 - k ≤ 256 = omega arith in
-        omega (arith, so-far .bound (1088 * (p * p)) small i, mul-le-mul-right (p * p) few, mul-le-mul-right p limit)
+        omega (arith, so-far .bound (1088 * (p * p)) small i, mul-le-mul-right (p * p) few)
 
     module _ {size : ℕ} (valid : ValidKernel p kernel at size) (some : 0 < size) (fits : size ≤ k) (prime₀ : Prime p)
         (a : ℕ) (by : a ≡ modulo p .mul (getD y (k - 1) 0 % p) (modulo p .inverse (getD kernel (at + (size - 1)) 0))) where
@@ -103,9 +104,7 @@ module _ {p : ℕ} {y₀ kernel : List ℕ} {at : ℕ} where
 
       pub kernel-sum : p ≤ 65521 → AtMost (1088 * (p * p)) y₀ → (j : ℕ)
           → sumAt y ((k - 1) - (size - 1)) kernel at (p - a) j < 18446744073709551616
-      kernel-sum limit small j =
-          let positive : 0 < p = omega (arith, prime₀ .large) in
-          omega (arith, kernel-room positive limit small (d + j), product j)
+      kernel-sum limit small j = sum-fits p _ limit (omega (arith, kernel-room small (d + j), product j))
 
       abbrev last : ℕ
       last = getD kernel (at + (size - 1)) 0

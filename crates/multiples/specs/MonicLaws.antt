@@ -19,7 +19,8 @@ use Rattle.modular.specs.Prime.{Prime}
 use Rattle.modular.specs.Modulo.{modulo}
 use Rattle.modular.specs.Residue.{Residue, residues}
 use Rattle.residue.specs.Below.{mul-below}
-use Rattle.vector.specs.Bound.{AtMost, Reducible, at-most-reducible}
+use Rattle.vector.specs.Bound.{AtMost, Reducible}
+use Rattle.lattice.specs.Sums.{sums-room}
 use Rattle.vector.specs.Stored.{stored, length-stored, stored-inside, below-or-not}
 use Rattle.vector.specs.Reduced.{polynomial}
 use Rattle.reduction.specs.Euclidean.{Associate}
@@ -34,9 +35,8 @@ use Rattle.multiples.specs.Monic.{MadeMonic}
 use Rattle.multiples.specs.ProductLaws.{cleared-none}
 
 -- the words of a tail can be reduced
-pub sums-reducible : (p : ℕ) (l : List ℕ) (n : ℕ) → 1 < p → p ≤ 65521 → Sums p 0 l → Reducible p l n
-sums-reducible p l n large limit sums = at-most-reducible (p + 8190 * (p * p)) p l n
-    (omega (arith, mul-le-mul-right p limit)) sums
+pub sums-reducible : (p : ℕ) (l : List ℕ) (n : ℕ) → 0 < p → Sums p 0 l → Reducible p l n
+sums-reducible p l n positive sums j lt = omega (arith, sums-room p l 0 positive sums j)
 
 -- the unit's multiple of x, by coefficients
 module _ {K : Type 0} (F : Field K) (x : Polynomial F) (some : 0 < size F x) where

@@ -51,9 +51,9 @@ module _ (N : ℕ) (t t₀ : List ℕ) (clears : t₀ ≡ stored (λ j. 0) t 0 N
       (below-or-not i N)
 
 -- the sums of a product fit
-pub product-reducible : (p n N : ℕ) (t : List ℕ) → 1 < p → p ≤ 65521 → n ≤ 128 → AtMost (0 + n * (p * p)) t → Reducible p t N
-product-reducible p n N t large limit few most =
-    at-most-reducible (0 + n * (p * p)) p t N (omega (arith, mul-le-mul-right (p * p) few, mul-le-mul-right p limit)) most
+pub product-reducible : (p n N : ℕ) (t : List ℕ) → n ≤ 128 → AtMost (0 + n * (p * p)) t → Reducible p t N
+product-reducible p n N t few most =
+    at-most-reducible (0 + n * (p * p)) p t N (omega (arith, mul-le-mul-right (p * p) few)) most
 
 -- f, its first n words, negated in `minus`; t₀ is clear, t₁ what is left when the product is taken off, t′ that reduced as far as
 -- the product reaches

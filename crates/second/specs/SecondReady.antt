@@ -7,7 +7,8 @@ use lib.ListN.{length, getD, set, replicate}
 use Rattle.algebra.specs.Coefficients.{leading}
 use Rattle.modular.specs.Modulo.{modulo}
 use Rattle.modular.specs.Prime.{Prime}
-use Rattle.vector.specs.Bound.{AtMost, Reducible}
+use Rattle.residue.specs.Sum.{residue-small}
+use Rattle.vector.specs.Bound.{AtMost, Reducible, at-most-reducible}
 use Rattle.vector.specs.Reduced.{polynomial}
 use Rattle.vector.specs.Stored.{stored}
 use Rattle.vector.specs.declared.leading.Leading.{Leading}
@@ -28,13 +29,10 @@ module _ (p : ℕ) (prime : Prime p) {n : ℕ} (small : n ≤ 8) {L : Level} (va
 
   -- so the size of the block can be found
   pub block-reducible : Reducible p b 1088
-  block-reducible j lt = subst (λ l. getD l j 0 < 4294967296 * p) (sym (laid .right))
-      (omega (
-        arith,
-        prime .large,
-        block-small p prime small valid (laid .o) (laid .oz) (laid .oi) (laid .ob) (replicate 256 0) (laid .room) (laid .room-sizes)
-            (laid .room-inverses) (laid .room-block) (zeros-room 256) (laid .none) (laid .none-block) (zeros-none 256) _ _ refl refl j,
-      ))
+  block-reducible = subst (λ l. Reducible p l 1088) (sym (laid .right))
+      (at-most-reducible p p b′ 1088 (residue-small p p (omega (arith, prime .large)) (omega arith))
+      (block-small p prime small valid (laid .o) (laid .oz) (laid .oi) (laid .ob) (replicate 256 0) (laid .room) (laid .room-sizes)
+      (laid .room-inverses) (laid .room-block) (zeros-room 256) (laid .none) (laid .none-block) (zeros-none 256) _ _ refl refl))
 
   module _ (found : Leading) (size : found .size ≡ length (polynomial p b 0 1088))
       (last : found .value ≡ leading (modulo p) (polynomial p b 0 1088)) where

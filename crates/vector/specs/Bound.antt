@@ -4,7 +4,7 @@ use mathlib.Core.List.{List, [], _∷_}
 use Prim.Native.Nat.{ℕ, zero, suc, _+_, _*_, _≤_, _<_}
 use native.Mathlib.Omega.{arith}
 use lib.ListN.{getD, set, replicate}
-use Rattle.residue.specs.Sum.{SmallSum}
+use Rattle.residue.specs.Sum.{SmallSum, residue-small}
 use Rattle.vector.specs.Stored.{stored}
 use Rattle.vector.specs.Multiple.{sumAt}
 
@@ -24,6 +24,9 @@ zeros-none (suc n) (suc i) = zeros-none n i
 
 pub at-most-reducible : (b p : ℕ) (l : List ℕ) (n : ℕ) → SmallSum p b → AtMost b l → Reducible p l n
 at-most-reducible b p l n small h j lt = omega (arith, h j)
+
+pub below-reducible : (p : ℕ) (l : List ℕ) (n : ℕ) → ((i : ℕ) → getD l i 0 < p) → Reducible p l n
+below-reducible p l n below j lt = residue-small p (getD l j 0) (omega (arith, below j)) (omega (arith, below j))
 
 at-most-set : (b v : ℕ) (l : List ℕ) (i : ℕ) → v ≤ b → AtMost b l → AtMost b (set l i v)
 at-most-set b v [] i hv h k = h k

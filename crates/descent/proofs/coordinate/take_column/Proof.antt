@@ -60,9 +60,8 @@ reduce-range-requires : tie.Need-reduce-range-requires
 reduce-range-requires c κs =
     let S = c .before .before .before .before .before .before .before .before .before .before .before .before .before .before .before .before in
     let m : ValidModulus (S .args .modulus) = S .pre .0 .0 in
-    let limit : S .args .modulus .p ≤ 65521 = m .limit in
-    let positive : 1 < S .args .modulus .p = m .prime .large in
-    let square = mul-le-mul-right (S .args .modulus .p) limit in
+    let positive : 1 ≤ S .args .modulus .p = omega (arith, m .prime .large) in
+    let square = mul-le-mul-right (S .args .modulus .p) positive in
     let few : c .before .before .before .before .before .before .lesser .result ≤ 121 = omega (arith, c .before .before .before .before .before .before .lesser .ensures) in
     let products = mul-le-mul-right (S .args .modulus .p * S .args .modulus .p) few in
     let T = c .before .before .before .subtract-product .ensures in (

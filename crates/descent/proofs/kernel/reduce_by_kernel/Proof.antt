@@ -77,7 +77,7 @@ reduce-requires c κs =
     let S = c .before .before .before .before .before .before .before .before .before in
     let L = c .before .before .before .loop in
     let m : ValidModulus (S .args .modulus) = S .pre .0 .0 in
-    let room = kernel-room (L .inv) (omega (arith, m .prime .large)) (m .limit) (S .pre .1 .1) (L .k - 1) in
+    let room = kernel-room (L .inv) (S .pre .1 .1) (L .k - 1) in
     (m, omega (arith, room))
 
 mul-requires : tie.Need-mul-requires Inv-loop μ-loop

@@ -2,6 +2,7 @@
 use mathlib.Core.Path.{refl}
 use native.Mathlib.Omega.{arith}
 use borrow.Author.Needs.{needs}
+use Rattle.vector.specs.Bound.{below-reducible}
 use Rattle.levels.specs.Started.{column-below, column-within, started}
 use Rattle.levels.proofs.next.start_column.Statement.{statement}
 use Rattle.levels.proofs.next.start_column.Tie as tie
@@ -30,7 +31,7 @@ find-leading-requires c κs =
     let S = c .before .before .before .before .before .before .before .before .before .before .before .before .before .before .before .before .before .before .before .before .before .before .before in
     let C = c .before .before in
     let below = column-below (S .pre .0 .0 .prime) (S .args .input .now) (S .args .at) (S .pre .1 .0 .1) _ refl (C .copy .ensures) in
-    ((S .pre .0 .0, omega arith), λ j lt. omega (arith, below j))
+    ((S .pre .0 .0, omega arith), below-reducible _ (C .copy .last .0) _ below)
 
 slice-aggregate-lay-hand : tie.Need-slice-aggregate-lay-hand
 slice-aggregate-lay-hand c = search needs

@@ -13,7 +13,7 @@ find-leading-requires : tie.Need-find-leading-requires
 find-leading-requires c κs =
     let S = c .before .before in
     let m : ValidModulus (S .args .modulus) = S .pre .0 .0 in
-    ((m, omega arith), sums-reducible (S .args .modulus .p) (S .args .tail .now) 121 (m .prime .large) (m .limit) (S .pre .1 .1))
+    ((m, omega arith), sums-reducible (S .args .modulus .p) (S .args .tail .now) 121 (omega (arith, m .prime .large)) (S .pre .1 .1))
 
 clear-requires : tie.Need-clear-requires
 clear-requires c κs = search needs
@@ -52,7 +52,7 @@ store-scaled-requires c κs =
         subst (λ w. w < S .args .modulus .p) (sym (c .before .inverse .ensures))
             (inverse-below (S .args .modulus .p) (m .prime .large) (F .result .value)),
       ),
-      sums-reducible (S .args .modulus .p) (S .args .tail .now) 128 (m .prime .large) (m .limit) (S .pre .1 .1),
+      sums-reducible (S .args .modulus .p) (S .args .tail .now) 128 (omega (arith, m .prime .large)) (S .pre .1 .1),
     )
 
 same-length-2 : tie.Need-same-length-2

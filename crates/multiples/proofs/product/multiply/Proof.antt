@@ -2,7 +2,7 @@
 use native.Mathlib.Omega.{arith}
 use borrow.Author.Needs.{needs}
 use Rattle.residue.specs.Modulus.{ValidModulus}
-use Rattle.vector.specs.Bound.{zeros-none}
+use Rattle.vector.specs.Bound.{zeros-none, below-reducible}
 use Rattle.multiples.specs.Negated.{negated-length, negated-below}
 use Rattle.multiples.specs.ProductLaws.{cleared-length, cleared-none, product-reducible, multiplied}
 use Rattle.multiples.proofs.product.multiply.Statement.{statement}
@@ -15,7 +15,7 @@ store-negated-requires : tie.Need-store-negated-requires
 store-negated-requires c κs =
     let S = c .before .before .before .before in
     let m : ValidModulus (S .args .modulus) = S .pre .0 .0 in
-    ((m, omega arith, S .pre .0 .2), λ j lt. omega (arith, S .pre .1 .0 j))
+    ((m, omega arith, S .pre .0 .2), below-reducible _ (S .args .f .now) _ (S .pre .1 .0))
 
 clear-requires : tie.Need-clear-requires
 clear-requires c κs = search needs
@@ -56,7 +56,7 @@ reduce-range-requires c κs =
     let T = taken .subtract-product .ensures in (
       (m, omega (arith, c .less .ensures, T .same-length, cleared-length 128 (S .args .out .now) _ clears)),
       product-reducible (S .args .modulus .p) (S .args .n) (c .less .result) (taken .subtract-product .last .0)
-          (m .prime .large) (m .limit) (S .pre .0 .1) (T .bound 0 (cleared-none 128 (S .args .out .now) _ clears (S .pre .0 .5))),
+          (S .pre .0 .1) (T .bound 0 (cleared-none 128 (S .args .out .now) _ clears (S .pre .0 .5))),
     )
 
 same-length : tie.Need-same-length
