@@ -1,90 +1,114 @@
--- Barrett's step with 2^32: x less the estimate x · m / 2^32 of its quotient times p, where m is 2^32 / p.
-use mathlib.Core.Path.{ap}
-use Prim.Native.Nat.{ℕ, _+_, _-_, _*_, _/_, _≤_, _<_}
-use native.Mathlib.Nat.{mul-comm, mul-assoc, mul-add, add-mul, div-mul-le-self, div-add-mod', mod-lt, le-of-lt}
+-- Barrett's step with s = 2^shift: x less the estimate (x / s) · m / 2^32 of its quotient times p, where m is 2^32 s / p.
+use mathlib.Core.Path.{_≡_, refl}
+use Prim.Native.Nat.{ℕ, _+_, _-_, _*_, _/_, _%_, _^_, _≤_, _<_}
+use native.Mathlib.Nat.{div-mul-le-self, div-add-mod', mod-lt, mod-eq-of-lt, le-of-lt}
 use native.Mathlib.Nat.{mul-le-mul, mul-le-mul-left, mul-le-mul-right, mul-lt-mul-of-pos-right, lt-of-mul-lt-mul-right}
 use native.Mathlib.Omega.{arith}
+use lib.Pow.{pow-mono, pow-pos}
 use Rattle.residue.specs.declared.modulus.Modulus.{Modulus}
 use Rattle.residue.specs.Modulus.{ValidModulus}
 use Rattle.residue.specs.Sum.{SmallSum}
 use Rattle.residue.specs.Barrett.{BarrettStep}
 use Rattle.residue.proofs.Remainder.{sub-mul-mod}
 
+-- s is at most 2^14, as 2 s is a power of two and at most 65521
+pub shift-limit : (k p : ℕ) → 2 * 2 ^ k ≤ p → p ≤ 65521 → k ≤ 14
+shift-limit k p low limit =
+    let above : (15 ≤ k → ⊥) = λ le. omega (arith, pow-mono le) in
+    omega arith
+
 module _ (M : Modulus) (ok : ValidModulus M) where
   abbrev p : ℕ
   p = M .p
 
+  abbrev s : ℕ
+  s = 2 ^ M .shift
+
   abbrev m : ℕ
   m = M .reciprocal
 
-  reciprocal-low : m * p ≤ 4294967296
-  reciprocal-low = rw (ok .reciprocal) (div-mul-le-self 4294967296 p)
+  pub shift-short : M .shift ≤ 14
+  shift-short = shift-limit (M .shift) p (ok .scale-low) (ok .limit)
 
-  reciprocal-high : 4294967296 ≤ m * p + p
+  scale-short : s ≤ 16384
+  scale-short = pow-mono shift-short
+
+  reciprocal-low : m * p ≤ 4294967296 * s
+  reciprocal-low = rw (ok .reciprocal) (div-mul-le-self (4294967296 * s) p)
+
+  reciprocal-high : 4294967296 * s ≤ m * p + p
   reciprocal-high =
       let large = ok .prime .large in
-      rw (ok .reciprocal) (omega (arith, div-add-mod' 4294967296 p, mod-lt 4294967296 {m = p} (omega arith)))
+      rw (ok .reciprocal) (omega (arith, div-add-mod' (4294967296 * s) p, mod-lt (4294967296 * s) {m = p} (omega arith)))
 
-  square-short : p * p ≤ 4293001441
-  square-short = mul-le-mul {n₁ = p} {m₁ = p} {n₂ = 65521} {m₂ = 65521} (ok .limit) (ok .limit)
-
-  -- a product of residues has 32 bits
-  pub product-short : (a b : ℕ) → a < p → b < p → a * b < 4294967296
-  product-short a b ha hb = omega (arith, mul-le-mul (le-of-lt ha) (le-of-lt hb), square-short)
-
-  pub sum-short : (x : ℕ) → SmallSum p x → x < 4294967296 * p
-  sum-short x hx =
+  reciprocal-short : m < 4294967296
+  reciprocal-short =
       let large = ok .prime .large in
-      omega (arith, mul-le-mul-right p (ok .limit))
+      let low = ok .scale-low in
+      lt-of-mul-lt-mul-right p (omega (arith, reciprocal-low))
 
-  module _ (x : ℕ) where
+  module _ (x : ℕ) (hx : SmallSum p x) where
+    abbrev y : ℕ
+    y = x / s
+
     abbrev q : ℕ
-    q = x * m / 4294967296
+    q = y * m / 4294967296
+
+    shifted-short : y ≤ 2147483648
+    shifted-short =
+        let high = ok .scale-high in
+        let all : y * s < (131072 * s + 1) * s =
+        omega (arith, div-mul-le-self x s, mul-le-mul (le-of-lt high) (le-of-lt high), pow-pos (M .shift)) in
+        omega (arith, lt-of-mul-lt-mul-right s all, scale-short)
+
+    quotient-short : q < 4294967296
+    quotient-short =
+        omega (arith, div-mul-le-self (y * m) 4294967296, mul-le-mul shifted-short (le-of-lt reciprocal-short))
 
     -- the estimate is not too large
-    pub estimate-low : q * p ≤ x
+    estimate-low : q * p ≤ x
     estimate-low =
         omega (
           arith,
-          mul-le-mul-right p (div-mul-le-self (x * m) 4294967296),
-          mul-assoc q 4294967296 p,
-          ap (λ (k : ℕ). q * k) (mul-comm 4294967296 p),
-          mul-assoc q p 4294967296,
-          mul-assoc x m p,
-          mul-le-mul-left x reciprocal-low,
+          mul-le-mul-right p (div-mul-le-self (y * m) 4294967296),
+          mul-le-mul-left y reciprocal-low,
+          div-mul-le-self x s,
         )
 
-    -- nor much too small
-    estimate-near : (t : ℕ) → x * p ≤ t * 4294967296 → x < q * p + p + t
-    estimate-near t ht =
+    -- nor too small by more than p
+    estimate-near : x < q * p + p + p
+    estimate-near =
         let large = ok .prime .large in
-        let rest = mod-lt (x * m) {m = 4294967296} (omega arith) in
-        let next : x * m < (q + 1) * 4294967296 = omega (arith, div-add-mod' (x * m) 4294967296) in
-        let all : x * 4294967296 < ((q + 1) * p + t) * 4294967296 =
+        let low = ok .scale-low in
+        let next : y * m < (q + 1) * 4294967296 =
+        omega (arith, div-add-mod' (y * m) 4294967296, mod-lt (y * m) {m = 4294967296} (omega arith)) in
         omega (
           arith,
-          mul-le-mul-left x reciprocal-high,
-          mul-add x (m * p) p,
-          mul-assoc x m p,
+          div-add-mod' x s,
+          mod-lt x {m = s} (pow-pos (M .shift)),
+          mul-le-mul-left y reciprocal-high,
+          mul-le-mul-right p shifted-short,
           mul-lt-mul-of-pos-right {k = p} next (omega arith),
-          mul-assoc (q + 1) 4294967296 p,
-          ap (λ (k : ℕ). (q + 1) * k) (mul-comm 4294967296 p),
-          mul-assoc (q + 1) p 4294967296,
-          add-mul ((q + 1) * p) t 4294967296,
-        ) in
-        omega (arith, lt-of-mul-lt-mul-right 4294967296 all, add-mul q 1 p)
+        )
 
-    pub estimate-fits : x < 4294967296 * p → x * m < 18446744073709551616
-    estimate-fits hx = lt-of-mul-lt-mul-right p (omega (arith, mul-assoc x m p, mul-le-mul-left x reciprocal-low))
+    -- what the code takes off: its remainders by 2^32 change nothing
+    abbrev pub multiple : ℕ
+    multiple = y % 4294967296 * (m % 4294967296) / 4294967296 % 4294967296 * (p % 4294967296)
 
-    pub barrett-step : x < 4294967296 * p → BarrettStep p x (x - q * p)
-    barrett-step hx = record {
+    multiple-is : multiple ≡ q * p
+    multiple-is =
+        let limit = ok .limit in
+        let y-is : y % 4294967296 ≡ y = mod-eq-of-lt (omega (arith, shifted-short)) in
+        let m-is : m % 4294967296 ≡ m = mod-eq-of-lt reciprocal-short in
+        let p-is : p % 4294967296 ≡ p = mod-eq-of-lt (omega arith) in
+        let q-is : q % 4294967296 ≡ q = mod-eq-of-lt quotient-short in
+        rw (y-is, m-is, p-is, q-is) refl
+
+    pub multiple-low : multiple ≤ x
+    multiple-low = rw multiple-is estimate-low
+
+    pub barrett-step : BarrettStep p x (x - multiple)
+    barrett-step = rw multiple-is (record {
       same = sub-mul-mod x q p estimate-low;
-      short =
-          let near = estimate-near (p * p) (omega (arith, mul-le-mul-right p (le-of-lt hx), mul-assoc 4294967296 p p)) in
-          omega (arith, estimate-low, square-short);
-      near = λ hs.
-          let large = ok .prime .large in
-          let near = estimate-near p (omega (arith, mul-le-mul-right p (le-of-lt hs))) in
-          omega (arith, estimate-low);
-    }
+      near = omega (arith, estimate-low, estimate-near);
+    })

@@ -1,3 +1,4 @@
 pub mod Barrett
 pub mod Descent
 pub mod Remainder
+pub mod Wrap

@@ -1,8 +1,16 @@
--- A multiple of p taken off leaves the remainder.
+-- A multiple of p taken off leaves the remainder; remainders by 2^32 are factors of 32 bits.
 use mathlib.Core.Path.{_≡_, sym, ap, _∙_}
-use Prim.Native.Nat.{ℕ, _-_, _*_, _%_, _≤_}
-use native.Mathlib.Nat.{mul-add-mod-self-right}
+use Prim.Native.Nat.{ℕ, _-_, _*_, _%_, _≤_, _<_}
+use native.Mathlib.Nat.{mul-add-mod-self-right, mul-le-mul}
 use native.Mathlib.Omega.{arith}
 
 pub sub-mul-mod : (x q p : ℕ) → q * p ≤ x → (x - q * p) % p ≡ x % p
 sub-mul-mod x q p h = sym (mul-add-mod-self-right q p (x - q * p)) ∙ ap (λ (k : ℕ). k % p) (omega arith)
+
+-- their product has 64 bits
+pub product-short : (a b : ℕ) → a % 4294967296 * (b % 4294967296) < 18446744073709551616
+product-short a b =
+    omega (
+      arith,
+      mul-le-mul {n₁ = a % 4294967296} {m₁ = b % 4294967296} {n₂ = 4294967295} {m₂ = 4294967295} (omega arith) (omega arith),
+    )

@@ -7,21 +7,30 @@ ghost use Rattle.residue.specs.Modulus.{ValidModulus};
 ghost use Rattle.residue.specs.Sum.{SmallSum};
 ghost use Rattle.residue.specs.Barrett.{BarrettStep};
 
-// A prime p of at most 65521, and 2^32 / p rounded down, with which a remainder by p takes multiplications only.
+// A prime p of at most 65521, the shift by which 2 * 2^shift <= p < 4 * 2^shift, and 2^32 * 2^shift / p rounded down, with which
+// a remainder by p takes multiplications and shifts only.
 pub struct Modulus {
     pub p: u64,
+    pub shift: u32,
     pub reciprocal: u64,
 }
 
 impl Modulus {
-    // The modulus p, with its reciprocal.
+    // The modulus p, with its shift and reciprocal. `scale` is 2^shift throughout.
     pub fn new(p: u64) -> Modulus
         requires { ⌜ Prime p × (p ≤ 65521) ⌝ }
         ensures { λ r. ⌜ ValidModulus r × (r .p ≡ p) ⌝ }
     {
+        let mut shift = 0;
+        let mut scale = 1;
+        while 4 * scale <= p {
+            shift = shift + 1;
+            scale = 2 * scale;
+        }
         Modulus {
             p,
-            reciprocal: 4294967296 / p,
+            shift,
+            reciprocal: 4294967296 * scale / p,
         }
     }
 
@@ -49,12 +58,12 @@ impl Modulus {
         self.wrap(a + (self.p - b))
     }
 
-    // a b modulo p. By the reciprocal: three multiplications take half the time of `%`.
+    // a b modulo p. By the reciprocal, which is faster than `%`.
     pub fn mul(self, a: u64, b: u64) -> u64
         requires { ⌜ ValidModulus self × (a < self .p) × (b < self .p) ⌝ }
         ensures { λ r. ⌜ r ≡ modulo (self .p) .mul a b ⌝ }
     {
-        self.wrap(self.barrett_step(a * b))
+        self.reduce(a * b)
     }
 
     // The inverse of a modulo p, by the descent of its definition: it is `factor` times the inverse of `rest` throughout.
@@ -77,22 +86,26 @@ impl Modulus {
         requires { ⌜ ValidModulus self × SmallSum (self .p) x ⌝ }
         ensures { λ r. ⌜ r ≡ x % self .p ⌝ }
     {
-        self.wrap(self.barrett_step(self.barrett_step(x)))
+        self.wrap(self.barrett_step(x))
     }
 
-    // x modulo p, for x below 2p.
+    // x modulo p, for x below 2p: bit 32 of the sum is set where p is to be taken off. There is no branch in it, so that loops over
+    // it become vector code.
     fn wrap(self, x: u64) -> u64
-        requires { ⌜ x < self .p + self .p ⌝ }
+        requires { ⌜ ValidModulus self × (x < self .p + self .p) ⌝ }
         ensures { λ r. ⌜ r ≡ x % self .p ⌝ }
     {
-        if x < self.p { x } else { x - self.p }
+        let p = self.p % 4294967296;
+        x - ((x + (4294967296 - p)) >> 32) % 4294967296 * p
     }
 
-    // x less a multiple of p, which the reciprocal estimates.
+    // x less a multiple of p, which the reciprocal estimates. No factor has more than 32 bits: the remainders by 2^32 only tell the
+    // compiler so, which then has a vector instruction for the product.
     fn barrett_step(self, x: u64) -> u64
-        requires { ⌜ ValidModulus self × (x < 4294967296 * self .p) ⌝ }
+        requires { ⌜ ValidModulus self × SmallSum (self .p) x ⌝ }
         ensures { λ r. ⌜ BarrettStep (self .p) x r ⌝ }
     {
-        x - ((x * self.reciprocal) >> 32) * self.p
+        let quotient = ((x >> self.shift) % 4294967296 * (self.reciprocal % 4294967296)) >> 32;
+        x - quotient % 4294967296 * (self.p % 4294967296)
     }
 }

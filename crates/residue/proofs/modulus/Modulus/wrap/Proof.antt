@@ -1,15 +1,25 @@
--- A number below p is its own remainder, and one below 2p has it after one subtraction.
-use mathlib.Core.Path.{sym, _∙_}
-use native.Mathlib.Nat.{mod-eq-of-lt, mod-eq-sub-mod}
+-- The needs are laws of the number that is wrapped.
 use native.Mathlib.Omega.{arith}
+use borrow.Author.Needs.{needs}
+use Rattle.residue.proofs.Remainder.{product-short}
+use Rattle.residue.proofs.Wrap.{wrapped}
 use Rattle.residue.proofs.modulus.Modulus.wrap.Statement.{statement}
 use Rattle.residue.proofs.modulus.Modulus.wrap.Tie as tie
 
-returns : tie.Need-returns
-returns c = sym (mod-eq-of-lt (omega arith))
+sub-result : tie.Need-sub-result
+sub-result c = search needs
 
-returns-2 : tie.Need-returns-2
-returns-2 c = sym (mod-eq-sub-mod (omega arith) ∙ mod-eq-of-lt (omega arith))
+add-result : tie.Need-add-result
+add-result c = search needs
+
+mul-result : tie.Need-mul-result
+mul-result c = record { fits = product-short _ _ }
+
+sub-result-2 : tie.Need-sub-result-2
+sub-result-2 c = let s = c .before in wrapped (s .args .self .p) (s .args .x) (omega arith) (s .pre .1) .0
+
+returns : tie.Need-returns
+returns c = let s = c .before in wrapped (s .args .self .p) (s .args .x) (omega arith) (s .pre .1) .1
 
 pub wrap-spec : {M : Type 1} → statement M
-wrap-spec = tie.close (tie.spec returns returns-2)
+wrap-spec = tie.close (tie.spec sub-result add-result mul-result sub-result-2 returns)

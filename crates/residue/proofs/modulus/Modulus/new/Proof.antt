@@ -1,0 +1,69 @@
+-- The invariant: scale is 2^shift, and its double at most p.
+use mathlib.Core.Path.{_≡_, refl, ap}
+use Prim.Native.Nat.{ℕ, _-_, _*_, _/_, _^_, _≤_}
+use native.Mathlib.Omega.{arith}
+use lib.Pow.{pow-pos, pow-add}
+use Rattle.residue.proofs.Barrett.{shift-limit}
+use Rattle.residue.proofs.modulus.Modulus.new.Statement.{statement}
+use Rattle.residue.proofs.modulus.Modulus.new.Tie as tie
+
+abbrev Inv-loop : tie.InvT-loop
+Inv-loop p shift₀ scale₀ shift scale = (scale ≡ 2 ^ shift) × (2 * scale ≤ p)
+
+abbrev μ-loop : tie.MeasureT-loop
+μ-loop p shift₀ scale₀ shift scale = p - scale
+
+loop-holds : tie.Need-loop-holds Inv-loop μ-loop
+loop-holds c = (refl, c .pre .0 .large)
+
+mul-loop : tie.Need-mul-loop Inv-loop μ-loop
+mul-loop c = omega arith
+
+add-shift : tie.Need-add-shift Inv-loop μ-loop
+add-shift c =
+    let l = c .before in
+    omega (arith, shift-limit (l .loop .shift) (l .before .args .p) (omega arith) (omega arith))
+
+mul-scale : tie.Need-mul-scale Inv-loop μ-loop
+mul-scale c = omega arith
+
+loop-less : tie.Need-loop-less Inv-loop μ-loop
+loop-less c = omega (arith, pow-pos (c .before .loop .shift))
+
+loop-again : tie.Need-loop-again Inv-loop μ-loop
+loop-again c = (omega (arith, pow-add 2 (c .before .loop .shift) 1), omega arith)
+
+mul-t6 : tie.Need-mul-t6 Inv-loop μ-loop
+mul-t6 c = omega arith
+
+div-t7 : tie.Need-div-t7 Inv-loop μ-loop
+div-t7 c = omega arith
+
+returns : tie.Need-returns Inv-loop μ-loop
+returns c =
+    let l = c .before in (
+      record {
+        prime = l .before .pre .0;
+        limit = l .before .pre .1;
+        scale-low = omega arith;
+        scale-high = omega arith;
+        reciprocal = ap (λ (s : ℕ). 4294967296 * s / l .before .args .p) (l .loop .inv .0);
+      },
+      refl,
+    )
+
+pub new-spec : {M : Type 1} → statement M
+new-spec =
+    tie.close
+    (tie.spec
+    Inv-loop
+    μ-loop
+    loop-holds
+    mul-loop
+    add-shift
+    mul-scale
+    loop-less
+    loop-again
+    mul-t6
+    div-t7
+    returns)
