@@ -4,7 +4,7 @@ use mathlib.Core.Path.{_≡_, refl, _∙_}
 use mathlib.Core.Logic.{_⊎_, inl, inr, ⊎-elim}
 use mathlib.Core.List.{List}
 use Prim.Native.Nat.{ℕ, zero, suc, _+_, _-_, _≤_, _<_}
-use native.Mathlib.Nat.{eq-zero-or-pos, eq-or-lt-of-le, le-of-suc-le-suc, not-suc-le-zero}
+use native.Mathlib.Nat.{add-zero, add-suc, add-assoc, eq-zero-or-pos, eq-or-lt-of-le, le-of-suc-le-suc, not-suc-le-zero}
 use native.Mathlib.Numerals.{add-one}
 use native.Mathlib.Omega.{arith}
 use lib.ListN.{length, getD, set, length-set}
@@ -49,6 +49,14 @@ module _ (f : ℕ → ℕ) (l : List ℕ) (d : ℕ) where
   unfolding stored
   stored-more j w v e ev = rw (add-one, e, ev)
 
-  -- a turn reads what stood there at the start
-  pub stored-next : (j : ℕ) (w : List ℕ) → w ≡ stored f l d j → getD w (d + j) 0 ≡ getD l (d + j) 0
-  stored-next j w e = rw e (stored-outside j (d + j) (inr (omega arith)))
+  -- what is not stored yet is what stood there at the start
+  pub stored-next : (j : ℕ) (w : List ℕ) (i : ℕ) → w ≡ stored f l d j → d + j ≤ i → getD w i 0 ≡ getD l i 0
+  stored-next j w i e later = rw e (stored-outside j i (inr later))
+
+-- a range stored right behind a range is one longer range
+pub stored-behind : (f g : ℕ → ℕ) (l : List ℕ) (d j m : ℕ) → ((i : ℕ) → i < m → g i ≡ f (j + i))
+    → stored g (stored f l d j) (d + j) m ≡ stored f l d (j + m)
+unfolding stored
+stored-behind f g l d j zero e = rw add-zero
+stored-behind f g l d j (suc m) e =
+    rw (add-suc, ← add-assoc, e m (omega arith), stored-behind f g l d j m (λ i lt. e i (omega arith)))

@@ -1,15 +1,16 @@
 -- `vector::multiple::add_scaled` meets its contract: before turn j the first j sums are stored. Assumes nothing.
-use mathlib.Core.Path.{_≡_, ap₂}
-use Prim.Native.Nat.{ℕ, _+_, _-_, _*_, _%_, _<_}
+use mathlib.Core.List.{List}
+use Prim.Native.Nat.{ℕ, _-_}
 use native.Mathlib.Omega.{arith}
-use native.Mathlib.Nat.{mod-eq-of-lt}
-use lib.ListN.{getD}
 use Rattle.vector.specs.Multiple.{sumAt, gains-multiple}
-use Rattle.vector.proofs.Storing.{Storing, storing-start, storing-reads, storing-turn, storing-end}
+use Rattle.vector.proofs.Storing.{Storing, storing-start, storing-turn, storing-end}
+use Rattle.vector.proofs.Sums.{next-sum, next-fits, row-fits, row-stored}
 use Rattle.vector.proofs.multiple.add_scaled.Statement.{statement}
 use Rattle.vector.proofs.multiple.add_scaled.Tie as tie
 use Rattle.vector.proofs.multiple.add_scaled.Reads as reads
 use Rattle.vector.proofs.multiple.add_scaled.Lts as lts
+use Rattle.vector.proofs.multiple.add_row.Reads as add-row-reads
+use Rattle.vector.proofs.multiple.sum_at.Reads as sum-at-reads
 
 abbrev Inv-loop : tie.InvT-loop
 Inv-loop h₀ d s a n c j₀ h j = Storing (sumAt h₀ d s a c) h₀ d n h j
@@ -17,89 +18,108 @@ Inv-loop h₀ d s a n c j₀ h j = Storing (sumAt h₀ d s a c) h₀ d n h j
 abbrev μ-loop : tie.MeasureT-loop
 μ-loop h₀ d s a n c j₀ h j = n - j
 
--- what a turn stores, and that it is the sum and fits
-abbrev Turn : Type 0
-Turn = lts.After-shared-slice-known reads.Pre reads.Post Inv-loop μ-loop
+-- The second loop is told the list that the first one left, h₁; what its words are follows for any list l of which the first one
+-- left h₁.
+abbrev Inv-loop2 : tie.InvT-loop2
+Inv-loop2 h₁ d s a n c j₁ h j = (l : List ℕ) → Storing (sumAt l d s a c) l d n h₁ j₁ → Storing (sumAt l d s a c) l d n h j
 
-abbrev store : Turn → ℕ
-store c =
-    let L = c .before .before .before in
-    let A = L .before .args in
-    getD (L .loop .h) (A .d + L .loop .j) 0 + A .c % 4294967296 * (getD (A .s .now) (A .a + L .loop .j) 0 % 4294967296)
+abbrev μ-loop2 : tie.MeasureT-loop2
+μ-loop2 h₁ d s a n c j₁ h j = n - j
 
-abbrev sum : Turn → ℕ
-sum c =
-    let L = c .before .before .before in
-    let A = L .before .args in
-    sumAt (A .h .now) (A .d) (A .s .now) (A .a) (A .c) (L .loop .j)
+-- before a turn of the second loop: the sums of both loops are stored
+abbrev Second : Type 0
+Second =
+    lts.At-loop2
+    (add-row-reads.Asked, add-row-reads.Learnt, sum-at-reads.Asked, sum-at-reads.Learnt)
+    reads.Pre
+    reads.Post
+    Inv-loop
+    μ-loop
+    Inv-loop2
+    μ-loop2
 
-store-is-sum : (c : Turn) → store c ≡ sum c
-store-is-sum c =
-    let L = c .before .before .before in
-    let given = L .before .pre in
-    let factor = mod-eq-of-lt (given .0 .2) in
-    let word = mod-eq-of-lt (given .1 .0 (L .loop .j) (c .before .before .loop-test .taken)) in
-    ap₂ _+_ (storing-reads (L .loop .inv)) (ap₂ _*_ factor word)
+stands : (L : Second) →
+    let A = L .before .before .before .before .before .args in
+    Storing (sumAt (A .h .now) (A .d) (A .s .now) (A .a) (A .c)) (A .h .now) (A .d) (A .n) (L .loop2 .h) (L .loop2 .j)
+stands L = L .loop2 .inv _ (L .before .before .loop .inv)
 
-store-fits : (c : Turn) → store c < 18446744073709551616
-store-fits c =
-    let L = c .before .before .before in
-    omega (arith, store-is-sum c, L .before .pre .1 .1 (L .loop .j) (c .before .before .loop-test .taken))
-
-loop-holds : tie.Need-loop-holds Inv-loop μ-loop
+loop-holds : tie.Need-loop-holds Inv-loop μ-loop Inv-loop2 μ-loop2
 loop-holds c = storing-start _ _ _ _
 
-add-h : tie.Need-add-h Inv-loop μ-loop
-add-h c = omega arith
+sub-loop : tie.Need-sub-loop Inv-loop μ-loop Inv-loop2 μ-loop2
+sub-loop c = omega arith
 
-mul-h : tie.Need-mul-h Inv-loop μ-loop
-mul-h c = omega arith
+add-add-row : tie.Need-add-add-row Inv-loop μ-loop Inv-loop2 μ-loop2
+add-add-row c = omega arith
 
-slice-read-h : tie.Need-slice-read-h Inv-loop μ-loop
-slice-read-h c = omega arith
+add-add-row-2 : tie.Need-add-add-row-2 Inv-loop μ-loop Inv-loop2 μ-loop2
+add-add-row-2 c = omega arith
 
-add-h-2 : tie.Need-add-h-2 Inv-loop μ-loop
-add-h-2 c = omega arith
+add-row-requires : tie.Need-add-row-requires Inv-loop μ-loop Inv-loop2 μ-loop2
+add-row-requires c κs =
+    let L = c .before .before in
+    let start = L .before .before .before in
+    let A = start .args in
+    row-fits (A .h .now) (A .d) (A .s .now) (A .a) (A .n) (A .c) (L .loop .inv) (start .pre) 8 (omega arith)
 
-mul-h-2 : tie.Need-mul-h-2 Inv-loop μ-loop
-mul-h-2 c = omega arith
-
-shared-slice-read-h : tie.Need-shared-slice-read-h Inv-loop μ-loop
-shared-slice-read-h c = omega arith
-
-mul-h-3 : tie.Need-mul-h-3 Inv-loop μ-loop
-mul-h-3 c = omega (arith, store-fits c)
-
-add-h-3 : tie.Need-add-h-3 Inv-loop μ-loop
-add-h-3 c = omega (arith, store-fits c)
-
-add-h-4 : tie.Need-add-h-4 Inv-loop μ-loop
-add-h-4 c = omega arith
-
-mul-h-4 : tie.Need-mul-h-4 Inv-loop μ-loop
-mul-h-4 c = omega arith
-
-slice-write-h : tie.Need-slice-write-h Inv-loop μ-loop
-slice-write-h c = omega arith
-
-add-j : tie.Need-add-j Inv-loop μ-loop
+add-j : tie.Need-add-j Inv-loop μ-loop Inv-loop2 μ-loop2
 add-j c = omega arith
 
-loop-less : tie.Need-loop-less Inv-loop μ-loop
+loop-less : tie.Need-loop-less Inv-loop μ-loop Inv-loop2 μ-loop2
 loop-less c = omega arith
 
-loop-again : tie.Need-loop-again Inv-loop μ-loop
+loop-again : tie.Need-loop-again Inv-loop μ-loop Inv-loop2 μ-loop2
 loop-again c =
-    storing-turn (c .before .before .before .loop .inv) _ (c .before .before .loop-test .taken) (store-is-sum c)
+    let L = c .before .before .before .before .before in
+    let A = L .before .before .before .args in
+    let row = c .before .before .add-row .ensures in
+    row-stored (A .h .now) (A .d) (A .s .now) (A .a) (A .n) (A .c) (L .loop .inv) 8 _ (omega arith) row
 
-same-length : tie.Need-same-length Inv-loop μ-loop
-same-length c = c .before .loop .inv .same-length
+loop2-holds : tie.Need-loop2-holds Inv-loop μ-loop Inv-loop2 μ-loop2
+loop2-holds c l first = first
 
-returns : tie.Need-returns Inv-loop μ-loop
+sum-at-requires : tie.Need-sum-at-requires Inv-loop μ-loop Inv-loop2 μ-loop2
+sum-at-requires c κs =
+    let L = c .before .before in
+    let start = L .before .before .before .before .before in
+    let A = start .args in
+    next-fits (A .h .now) (A .d) (A .s .now) (A .a) (A .n) (A .c) (stands L) (start .pre) (c .before .loop2-test .taken)
+
+add-h : tie.Need-add-h Inv-loop μ-loop Inv-loop2 μ-loop2
+add-h c = omega arith
+
+mul-h : tie.Need-mul-h Inv-loop μ-loop Inv-loop2 μ-loop2
+mul-h c = omega arith
+
+slice-write-h : tie.Need-slice-write-h Inv-loop μ-loop Inv-loop2 μ-loop2
+slice-write-h c = let so-far = stands (c .before .before .before) in omega arith
+
+add-j-2 : tie.Need-add-j-2 Inv-loop μ-loop Inv-loop2 μ-loop2
+add-j-2 c = omega arith
+
+loop2-less : tie.Need-loop2-less Inv-loop μ-loop Inv-loop2 μ-loop2
+loop2-less c = omega arith
+
+loop2-again : tie.Need-loop2-again Inv-loop μ-loop Inv-loop2 μ-loop2
+loop2-again c l first =
+    let L = c .before .before .before in
+    let A = L .before .before .before .before .before .args in
+    let so-far = L .loop2 .inv l first in
+    storing-turn
+    so-far
+    _
+    (c .before .before .loop2-test .taken)
+    (next-sum l (A .d) (A .s .now) (A .a) (A .n) (A .c) so-far _ (c .sum-at .ensures))
+
+same-length : tie.Need-same-length Inv-loop μ-loop Inv-loop2 μ-loop2
+same-length c = stands (c .before) .same-length
+
+returns : tie.Need-returns Inv-loop μ-loop Inv-loop2 μ-loop2
 returns c =
-    let words = storing-end (c .before .loop .inv) (c .loop-test .left) in
-    let A = c .before .before .args in
-    (words, gains-multiple _ _ _ (A .s .now) (A .a) _ (A .c) (c .before .before .pre .0 .0) words)
+    let words = storing-end (stands (c .before)) (c .loop2-test .left) in
+    let start = c .before .before .before .before .before .before in
+    let A = start .args in
+    (words, gains-multiple _ _ _ (A .s .now) (A .a) _ (A .c) (start .pre .0 .0) words)
 
 pub add-scaled-spec : {M : Type 1} → statement M
 add-scaled-spec =
@@ -107,20 +127,23 @@ add-scaled-spec =
     (tie.spec
     Inv-loop
     μ-loop
+    Inv-loop2
+    μ-loop2
     loop-holds
-    add-h
-    mul-h
-    slice-read-h
-    add-h-2
-    mul-h-2
-    shared-slice-read-h
-    mul-h-3
-    add-h-3
-    add-h-4
-    mul-h-4
-    slice-write-h
+    sub-loop
+    add-add-row
+    add-add-row-2
+    add-row-requires
     add-j
     loop-less
     loop-again
+    loop2-holds
+    sum-at-requires
+    add-h
+    mul-h
+    slice-write-h
+    add-j-2
+    loop2-less
+    loop2-again
     same-length
     returns)

@@ -1,0 +1,64 @@
+-- What `add_scaled` and `add_row` require of a range, and what `sum_at` requires at each place of it, also between two turns of
+-- the loops of `add_scaled`.
+use mathlib.Core.Path.{_≡_, refl, ap, ap₂, _∙_}
+use mathlib.Core.List.{List}
+use Prim.Native.Nat.{ℕ, _+_, _*_, _≤_, _<_}
+use native.Mathlib.Nat.{add-assoc}
+use native.Mathlib.Omega.{arith}
+use lib.ListN.{length, getD}
+use Rattle.vector.specs.Stored.{stored}
+use Rattle.vector.specs.Multiple.{sumAt}
+use Rattle.vector.proofs.Storing.{Storing, storing-later, storing-reads, storing-row}
+
+-- the sums of n words fit
+abbrev pub SumsFit : List ℕ → ℕ → List ℕ → ℕ → ℕ → ℕ → Type 0
+SumsFit h d s a n c =
+    ((d + n ≤ length h) × (a + n ≤ length s) × (c < 4294967296))
+    × (((j : ℕ) → j < n → getD s (a + j) 0 < 4294967296)
+    × ((j : ℕ) → j < n → sumAt h d s a c j < 18446744073709551616))
+
+-- the sum at j fits
+abbrev pub SumFits : List ℕ → ℕ → List ℕ → ℕ → ℕ → ℕ → Type 0
+SumFits h d s a c j =
+    ((d + j < length h) × (a + j < length s) × (c < 4294967296) × (getD s (a + j) 0 < 4294967296))
+    × (sumAt h d s a c j < 18446744073709551616)
+
+pub each-fits : (h : List ℕ) (d : ℕ) (s : List ℕ) (a n c : ℕ) → SumsFit h d s a n c → (j : ℕ) → j < n → SumFits h d s a c j
+each-fits h d s a n c given j lt = ((omega arith, omega arith, given .0 .2, given .1 .0 j lt), given .1 .1 j lt)
+
+-- where j sums are stored: the next sum, and the next m sums, are those of the start, fit, and may be stored
+module _
+    (h : List ℕ)
+    (d : ℕ)
+    (s : List ℕ)
+    (a n c : ℕ)
+    {w : List ℕ}
+    {j : ℕ}
+    (so-far : Storing (sumAt h d s a c) h d n w j)
+  where
+    pub next-sum : (v : ℕ) → v ≡ sumAt w d s a c j → v ≡ sumAt h d s a c j
+    next-sum v e = e ∙ ap (λ (x : ℕ). x + c * getD s (a + j) 0) (storing-reads so-far)
+
+    pub next-fits : SumsFit h d s a n c → j < n → SumFits w d s a c j
+    next-fits given lt =
+        let at-start = each-fits h d s a n c given j lt in
+        let long = so-far .same-length in
+        ((omega arith, at-start .0 .1, at-start .0 .2, at-start .0 .3), rw (next-sum _ refl) (at-start .1))
+
+    row-sum : (i : ℕ) → sumAt w (d + j) s (a + j) c i ≡ sumAt h d s a c (j + i)
+    row-sum i =
+        ap₂
+        (λ (x y : ℕ). x + c * y)
+        (storing-later so-far (d + j + i) (omega arith) ∙ ap (λ (k : ℕ). getD h k 0) (add-assoc d j i))
+        (ap (λ (k : ℕ). getD s k 0) (add-assoc a j i))
+
+    pub row-fits : SumsFit h d s a n c → (m : ℕ) → j + m ≤ n → SumsFit w (d + j) s (a + j) m c
+    row-fits given m within =
+        let long = so-far .same-length in (
+          (omega arith, omega arith, given .0 .2),
+          (λ i lt. rw add-assoc (given .1 .0 (j + i) (omega arith)), λ i lt. rw (row-sum i) (given .1 .1 (j + i) (omega arith))),
+        )
+
+    pub row-stored : (m : ℕ) (w′ : List ℕ) → j + m ≤ n → w′ ≡ stored (sumAt w (d + j) s (a + j) c) w (d + j) m
+        → Storing (sumAt h d s a c) h d n w′ (j + m)
+    row-stored m w′ within = storing-row so-far (sumAt w (d + j) s (a + j) c) m w′ within (λ i lt. row-sum i)
