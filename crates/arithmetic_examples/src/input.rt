@@ -7,18 +7,9 @@ ghost use lib.ListN.{length, getD};
 ghost use Rattle.residue.specs.Modulus.{ValidModulus};
 ghost use Rattle.polynomial.specs.Value.{ValidPolynomial};
 
-// A word as a number of 64 bits.
-fn wide(w: u32) -> u64
-    ensures { λ r. ⌜ r < 4294967296 ⌝ }
-{
-    w as u64
-}
-
 // The word at a place, 0 behind the end.
-pub fn word(case: &[u32], place: usize) -> u64
-    ensures { λ r. ⌜ r < 4294967296 ⌝ }
-{
-    wide(cases::input::word(case, place))
+pub fn word(case: &[u32], place: usize) -> u64 {
+    cases::input::word(case, place) as u64
 }
 
 // A polynomial read from a case, and the place behind it.
@@ -28,17 +19,18 @@ pub struct Operand {
     pub next: usize,
 }
 
-// The n words from a place on; whether each is below p.
+// The n words from a place on, 0 for one that is not below p; whether each is.
 fn unpack(case: &[u32], place: usize, words: &mut [u64], n: usize, p: u64) -> bool
-    requires { ⌜ (place + n ≤ 65536) × (n ≤ length (now words)) ⌝ }
-    ensures { λ _. ⌜ ((i : ℕ) → i < n → getD (now (words .exit)) i 0 < 4294967296) ⌝ }
+    requires { ⌜ (place + n ≤ 65536) × (n ≤ length (now words)) × (0 < p) ⌝ }
+    ensures { λ _. ⌜ ((i : ℕ) → i < n → getD (now (words .exit)) i 0 < p) ⌝ }
 {
     let mut below = true;
     let mut i = 0;
     while i < n {
-        let x = word(case, place + i);
+        let mut x = word(case, place + i);
         if p <= x {
             below = false;
+            x = 0;
         }
         words[i] = x;
         i += 1;

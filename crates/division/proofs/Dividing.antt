@@ -3,7 +3,7 @@ use mathlib.Core.Path.{_≡_, refl, sym, ap, ap₂, _∙_, subst}
 use mathlib.Core.Logic.{inl}
 use mathlib.Core.List.{List, _∷_}
 use Prim.Native.Nat.{ℕ, _+_, _-_, _*_, _%_, _≤_, _<_}
-use native.Mathlib.Nat.{mod-lt, mod-eq-of-lt, mul-le-mul, mul-le-mul-right, add-mul, add-zero}
+use native.Mathlib.Nat.{mod-lt, mod-eq-of-lt, mul-le-mul, mul-le-mul-right, le-mul-of-pos-right, add-mul, add-zero}
 use native.Mathlib.Numerals.{add-one}
 use native.Mathlib.Omega.{arith}
 use lib.ListN.{length, getD, set, take, drop, length-set, length-take, length-drop}
@@ -12,6 +12,7 @@ use Rattle.algebra.specs.Coefficients.{Division, cons, coefficient, add, subtra
 use Rattle.modular.specs.Modulo.{modulo}
 use Rattle.modular.specs.Canonical.{Canonical}
 use Rattle.modular.specs.Coefficientwise.{coefficient-getD, coefficient-below}
+use Rattle.residue.specs.Sum.{SmallSum}
 use Rattle.vector.specs.Stored.{stored, length-stored, stored-outside}
 use Rattle.vector.specs.Bound.{AtMost, at-most-stored, at-most-sum}
 use Rattle.vector.specs.Reduced.{polynomial, reduced, canonical-reduced, coefficient-reduced, residue-same, word-inside}
@@ -173,11 +174,11 @@ module _ {p : ℕ} {h₀ q₀ : List ℕ} {n : ℕ} {w : List ℕ} {e inverse : 
     }
 
 -- a word of the hand is small enough for a reduction, and stays so with one product more
-pub word-small : (p n i : ℕ) (h : List ℕ) → 1 < p → p ≤ 65521 → n ≤ 256 → AtMost (p + (n - i) * (p * p)) h →
-    (j : ℕ) → getD h j 0 + p * p < 4294967296 * p
-word-small p n i h large limit few small j =
+pub word-small : (p n i : ℕ) (h : List ℕ) → 0 < p → n ≤ 256 → AtMost (p + (n - i) * (p * p)) h →
+    (j : ℕ) → SmallSum p (getD h j 0 + p * p)
+word-small p n i h positive few small j =
     let steps : n - i ≤ 256 = omega arith in
-    omega (arith, small j, mul-le-mul-right (p * p) steps, mul-le-mul-right p limit)
+    omega (arith, small j, mul-le-mul-right (p * p) steps, le-mul-of-pos-right p positive)
 
 -- what a turn puts into the quotient
 pub factor-is : (p x y : ℕ) {v c : ℕ} → v ≡ x % p → c ≡ modulo p .mul v y → c ≡ x % p * y % p
@@ -185,14 +186,14 @@ unfolding modulo
 factor-is p x y ev ec = rw (← ev) ec
 
 -- at the end all coefficients are divided
-pub dividing-end : (p : ℕ) {h₀ q₀ : List ℕ} {n : ℕ} {b q h : List ℕ} {i : ℕ} → 1 < p → p ≤ 65521 → n ≤ 256 → i ≡ 0 →
+pub dividing-end : (p : ℕ) {h₀ q₀ : List ℕ} {n : ℕ} {b q h : List ℕ} {i : ℕ} → 0 < p → n ≤ 256 → i ≡ 0 →
     Dividing p h₀ q₀ n b q h i → Divided p (take n h₀) n b q h
-dividing-end p {h₀} {q₀} {n} {b} {q} {h} large limit few end state =
+dividing-end p {h₀} {q₀} {n} {b} {q} {h} positive few end state =
     let last : Dividing p h₀ q₀ n b q h 0 = rw end at state in
     let all : n - 0 ≡ n = omega arith in
     record {
       quotient = rw all at (last .quotient);
       remainder = rw all at (last .remainder);
-      small-quotient = λ j. omega (arith, last .small-quotient j);
-      small-remainder = λ j. omega (arith, word-small p n 0 h large limit few (last .small-remainder) j);
+      small-quotient = λ j. omega (arith, last .small-quotient j, le-mul-of-pos-right p positive);
+      small-remainder = λ j. omega (arith, word-small p n 0 h positive few (last .small-remainder) j);
     }

@@ -1,11 +1,12 @@
 -- What long division asks of the divisor's words, and what it leaves in the words of quotient and remainder.
 use mathlib.Core.Path.{_≡_}
 use mathlib.Core.List.{List}
-use Prim.Native.Nat.{ℕ, _+_, _*_, _≤_, _<_}
+use Prim.Native.Nat.{ℕ, _+_, _≤_}
 use lib.ListN.{length, getD, take}
 use Rattle.algebra.specs.Coefficients.{leading, divide}
 use Rattle.modular.specs.Modulo.{modulo}
 use Rattle.modular.specs.Canonical.{Canonical}
+use Rattle.residue.specs.Sum.{SmallSum}
 use Rattle.vector.specs.Bound.{AtMost}
 use Rattle.vector.specs.Reduced.{polynomial}
 
@@ -20,5 +21,5 @@ pub record Divisor (p : ℕ) (d : List ℕ) (e inverse : ℕ) : Type 0 where
 pub record Divided (p : ℕ) (f : List ℕ) (n : ℕ) (d q h : List ℕ) : Type 0 where
   pub quotient : polynomial p q 0 n ≡ divide (modulo p) f d .quotient
   pub remainder : polynomial p h 0 n ≡ divide (modulo p) f d .remainder
-  pub small-quotient : (i : ℕ) → getD q i 0 < 4294967296 * p
-  pub small-remainder : (i : ℕ) → getD h i 0 < 4294967296 * p
+  pub small-quotient : (i : ℕ) → SmallSum p (getD q i 0)
+  pub small-remainder : (i : ℕ) → SmallSum p (getD h i 0)

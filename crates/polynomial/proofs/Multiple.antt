@@ -2,7 +2,8 @@
 use mathlib.Core.Path.{_≡_, refl, sym, ap, ap₂, _∙_}
 use mathlib.Core.List.{List, [], _∷_}
 use Prim.Native.Nat.{ℕ, _+_, _-_, _*_, _%_, _≤_, _<_}
-use native.Mathlib.Nat.{mod-eq-of-lt, one-mul, mul-le-mul, mul-le-mul-right, add-mul, add-mul-mod-self-right, mul-comm}
+use native.Mathlib.Nat.{mod-eq-of-lt, one-mul, add-mul, add-mul-mod-self-right, mul-comm}
+use native.Mathlib.Nat.{mul-le-mul, mul-le-mul-right, le-mul-of-pos-right}
 use native.Mathlib.Omega.{arith}
 use lib.ListN.{length, getD}
 use Rattle.algebra.specs.Coefficients.{coefficient, add, negate, subtract, scale, shift, monic}
@@ -10,6 +11,7 @@ use Rattle.modular.specs.Modulo.{modulo}
 use Rattle.modular.specs.Canonical.{Canonical}
 use Rattle.modular.specs.Closed.{canonical-negate, canonical-scale}
 use Rattle.modular.specs.Coefficientwise.{coefficient-below, coefficient-negate, coefficient-scale, canonical-same}
+use Rattle.residue.specs.Sum.{SmallSum}
 use Rattle.vector.specs.Stored.{stored}
 use Rattle.vector.specs.Bound.{AtMost, at-most-sum}
 use Rattle.vector.specs.Reduced.{polynomial}
@@ -77,12 +79,12 @@ module _ (p : ℕ) (positive : 0 < p) where
     pub multiple-fits : p ≤ 65521 → (j : ℕ) → j < g .size → sumAt (f .coefficients) 0 (g .coefficients) 0 c j < 18446744073709551616
     multiple-fits limit j lt = omega (arith, words-small (0 + j), product-small j, mul-le-mul-right p limit)
 
-    pub multiple-small : p ≤ 65521 → {h : List ℕ} → h ≡ sums → (i : ℕ) → getD h i 0 < 4294967296 * p
-    multiple-small limit words i =
+    pub multiple-small : {h : List ℕ} → h ≡ sums → (i : ℕ) → SmallSum p (getD h i 0)
+    multiple-small words i =
         rw words (omega (
           arith,
           at-most-sum p (p * p) (f .coefficients) 0 (g .coefficients) 0 (g .size) c words-small (λ j lt. product-small j) i,
-          mul-le-mul-right p limit,
+          le-mul-of-pos-right p positive,
         ))
 
     pub multiple-is : (h : List ℕ) (n : ℕ) → GainsMultiple (f .coefficients) h 0 (g .coefficients) 0 (g .size) c →

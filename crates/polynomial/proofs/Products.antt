@@ -2,11 +2,12 @@
 use mathlib.Core.Path.{_≡_, ap₂, _∙_}
 use mathlib.Core.List.{List}
 use Prim.Native.Nat.{ℕ, _+_, _*_, _≤_, _<_}
-use native.Mathlib.Nat.{mul-le-mul-right}
+use native.Mathlib.Nat.{mul-le-mul-right, le-mul-of-pos-right}
 use native.Mathlib.Omega.{arith}
 use lib.ListN.{getD}
 use Rattle.algebra.specs.Coefficients.{add, mul}
 use Rattle.modular.specs.Modulo.{modulo}
+use Rattle.residue.specs.Sum.{SmallSum}
 use Rattle.vector.specs.Bound.{AtMost}
 use Rattle.vector.specs.Reduced.{polynomial}
 use Rattle.polynomial.specs.declared.value.Polynomial.{Polynomial}
@@ -19,15 +20,15 @@ module _ (p : ℕ) (positive : 0 < p) where
 
   module _ {s f g : Polynomial} (hs : ValidPolynomial p s) (hf : ValidPolynomial p f) (hg : ValidPolynomial p g) {h : List ℕ}
       (gains : GainsProduct (s .coefficients) (f .coefficients) (f .size) (g .coefficients) (g .size) h) where
-    pub products-small : p ≤ 65521 → (i : ℕ) → getD h i 0 < 4294967296 * p
-    products-small limit i =
+    pub products-small : (i : ℕ) → SmallSum p (getD h i 0)
+    products-small i =
         let few : f .size ≤ 256 = hf .within in
         let at-most : (t : Polynomial) → ValidPolynomial p t → AtMost p (t .coefficients) = words-at-most p (omega arith) in
         omega (
           arith,
           gains .bound p p (at-most s hs) (at-most f hf) (at-most g hg) i,
           mul-le-mul-right (p * p) few,
-          mul-le-mul-right p limit,
+          le-mul-of-pos-right p positive,
         )
 
     pub products-are : (n : ℕ) → s .size ≤ n → f .size + g .size ≤ n + 1 →

@@ -5,12 +5,13 @@ use vector::find_leading;
 use vector::reduce_range;
 ghost use mathlib.Core.Path.{_≡_};
 ghost use mathlib.Core.List.{[]};
-ghost use Prim.Native.Nat.{ℕ, _+_, _*_, _<_, _≤_};
+ghost use Prim.Native.Nat.{ℕ, _+_, _<_, _≤_};
 ghost use lib.Dec.{eqb};
 ghost use lib.ListN.{length, getD};
 ghost use Rattle.algebra.specs.Coefficients.{one, leading};
 ghost use Rattle.modular.specs.Modulo.{modulo};
 ghost use Rattle.residue.specs.Modulus.{ValidModulus};
+ghost use Rattle.residue.specs.Sum.{SmallSum};
 ghost use Rattle.vector.specs.Reduced.{polynomial};
 ghost use Rattle.polynomial.specs.Decides.{Decides};
 ghost use Rattle.polynomial.specs.Value.{coefficientsOf, Represents};
@@ -55,7 +56,7 @@ impl Polynomial {
     // The polynomial that n words from the place a on stand for: sums that need not be reduced, with zeros at the end.
     pub fn from_words(words: &[u64], a: usize, n: usize, m: Modulus) -> Polynomial
         requires { ⌜ ValidModulus m × (n ≤ 256) × (a + n ≤ length (now words)) ⌝ }
-        requires small { ⌜ ((i : ℕ) → i < n → getD (now words) (a + i) 0 < 4294967296 * m .p) ⌝ }
+        requires small { ⌜ ((i : ℕ) → i < n → SmallSum (m .p) (getD (now words) (a + i) 0)) ⌝ }
         ensures { λ r. ⌜ Represents (m .p) r (polynomial (m .p) (now (words .entry)) a n) ⌝ }
     {
         let mut residues = zeros();

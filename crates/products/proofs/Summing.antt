@@ -9,6 +9,7 @@ use lib.ListN.{length, getD}
 use Rattle.algebra.specs.Coefficients.{add, mul}
 use Rattle.modular.specs.Modulo.{modulo}
 use Rattle.modular.specs.Canonical.{Canonical}
+use Rattle.residue.specs.Sum.{SmallSum}
 use Rattle.vector.specs.Bound.{AtMost}
 use Rattle.vector.specs.Reduced.{polynomial}
 use Rattle.polynomial.specs.Value.{value-polynomial}
@@ -43,8 +44,8 @@ module _ (p : ℕ) (positive : 0 < p) (term : ℕ → List ℕ) (count : ℕ) wh
     pub summing-fits : count ≤ 8 → p ≤ 65521 → AtMost 4611686018427387904 h
     summing-fits few limit i = omega (arith, so-far .bound i, products few, mul-le-mul limit limit)
 
-    pub summing-small : count ≤ 8 → p ≤ 65521 → (i : ℕ) → getD h i 0 < 4294967296 * p
-    summing-small few limit i = omega (arith, so-far .bound i, products few, mul-le-mul-right p limit)
+    pub summing-small : count ≤ 8 → (i : ℕ) → SmallSum p (getD h i 0)
+    summing-small few i = omega (arith, so-far .bound i, products few)
 
     pub summing-turn : (f g : List ℕ) → Canonical p f → Canonical p g → length f ≤ 16 → length g ≤ 121 → term k ≡ mul (modulo p) f g
         → k < count → (h′ : List ℕ) → length h′ ≡ 256 → GainsProduct h f (length f) g (length g) h′ → Summing p term count h′ (k + 1)

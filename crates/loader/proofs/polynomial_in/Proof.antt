@@ -1,6 +1,7 @@
 -- The coefficients are below p, and stand for the polynomial.
 use mathlib.Core.Path.{_∙_}
 use Prim.Native.Nat.{_+_, _<_}
+use native.Mathlib.Nat.{le-mul-of-pos-right}
 use native.Mathlib.Omega.{arith}
 use borrow.Author.Needs.{needs}
 use Rattle.polynomial.specs.Value.{represents-is}
@@ -14,10 +15,11 @@ coefficients-in-requires c κs = search needs
 from-words-requires : tie.Need-from-words-requires
 from-words-requires c κs =
     let S = c .before .before in
-    let positive : 0 < S .args .m .p = omega (arith, S .pre .0 .prime .large) in
+    let p = S .args .m .p in
+    let positive : 0 < p = omega (arith, S .pre .0 .prime .large) in
     let is = c .coefficients-in .ensures in (
       (S .pre .0, omega (arith, taken-size is (S .pre .1)), omega arith),
-      λ i lt. omega (arith, canonical-word _ positive _ (taken-canonical is (S .pre .1)) (0 + i)),
+      λ i lt. omega (arith, canonical-word p positive _ (taken-canonical is (S .pre .1)) (0 + i), le-mul-of-pos-right p positive),
     )
 
 returns : tie.Need-returns

@@ -1,6 +1,7 @@
--- Words below 2^32 can be reduced modulo any p.
+-- The words are below p, so that they can be reduced.
 use mathlib.Core.Path.{_≡_}
 use Prim.Native.Nat.{_+_, _<_}
+use native.Mathlib.Nat.{le-mul-of-pos-right}
 use native.Mathlib.Omega.{arith}
 use lib.ListN.{length}
 use borrow.Author.Needs.{needs}
@@ -36,10 +37,13 @@ slice-aggregate-from-words c = search needs
 from-words-requires : tie.Need-from-words-requires
 from-words-requires c κs =
     let S = c .before .before .before .before .before .before .before .before in
-    let large : 1 < S .args .m .p = S .pre .0 .prime .large in
+    let p = S .args .m .p in
+    let positive : 0 < p = omega (arith, S .pre .0 .prime .large) in
     let unpacked = c .before .before .unpack in
-    let long : length (unpacked .last .1 .1 .0) ≡ 256 = search needs in
-    ((S .pre .0, omega arith, omega arith), λ i lt. omega (arith, unpacked .ensures (0 + i) (omega arith)))
+    let long : length (unpacked .last .1 .1 .0) ≡ 256 = search needs in (
+      (S .pre .0, omega arith, omega arith),
+      λ i lt. omega (arith, unpacked .ensures (0 + i) (omega arith), le-mul-of-pos-right p positive),
+    )
 
 add-t35 : tie.Need-add-t35
 add-t35 c = search needs

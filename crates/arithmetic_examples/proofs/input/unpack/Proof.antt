@@ -1,5 +1,6 @@
--- The loop keeps: the words before i are below 2^32.
+-- The loop keeps: the words before i are below p.
 use mathlib.Core.Path.{_≡_, refl, _∙_}
+use mathlib.Core.Logic.{⊎-elim}
 use Prim.Native.Nat.{ℕ, _-_, _<_, _≤_}
 use native.Mathlib.Omega.{arith}
 use lib.ListN.{length, getD, length-set}
@@ -10,7 +11,7 @@ use Rattle.arithmetic_examples.proofs.input.unpack.Tie as tie
 
 abbrev Inv-loop : tie.InvT-loop
 Inv-loop case place words₀ n p below₀ i₀ words below i =
-    (i ≤ n) × (length words ≡ length words₀) × ((k : ℕ) → k < i → getD words k 0 < 4294967296)
+    (i ≤ n) × (length words ≡ length words₀) × ((k : ℕ) → k < i → getD words k 0 < p)
 
 abbrev μ-loop : tie.MeasureT-loop
 μ-loop case place words₀ n p below₀ i₀ words below i = n - i
@@ -39,10 +40,11 @@ loop-less c = search needs
 loop-again : tie.Need-loop-again Inv-loop μ-loop
 loop-again c =
     let S = c .before .before .before .before .before .before in
-    let L = c .before .before .before .loop in (
+    let L = c .before .before .before .loop in
+    let below : c .if1 .x < S .args .p = ⊎-elim (λ w. omega arith) (λ w. omega arith) (c .if1 .came) in (
       omega arith,
-      length-set (L .words) (L .i) (c .before .word .result) ∙ L .inv .1,
-      below-set 4294967296 (L .words) (L .i) (c .before .word .result) (omega arith) (c .before .word .ensures) (L .inv .2),
+      length-set (L .words) (L .i) (c .if1 .x) ∙ L .inv .1,
+      below-set (S .args .p) (L .words) (L .i) (c .if1 .x) (omega arith) below (L .inv .2),
     )
 
 same-length : tie.Need-same-length Inv-loop μ-loop

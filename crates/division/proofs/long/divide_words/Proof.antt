@@ -2,7 +2,7 @@
 use mathlib.Core.Path.{_≡_, subst}
 use mathlib.Core.List.{List}
 use Prim.Native.Nat.{ℕ, _+_, _-_, _<_, _≤_}
-use native.Mathlib.Nat.{mod-lt, mul-le-mul}
+use native.Mathlib.Nat.{mod-lt, mul-le-mul, mul-le-mul-right}
 use native.Mathlib.Omega.{arith}
 use lib.ListN.{length, getD, take}
 use borrow.Author.Needs.{needs}
@@ -46,10 +46,10 @@ reduce-requires : tie.Need-reduce-requires Inv-loop μ-loop
 reduce-requires c κs =
     let S = c .before .before .before .before .before .before in
     let m : ValidModulus (S .args .m) = S .pre .0 .0 in
+    let positive : 0 < S .args .m .p = omega (arith, m .prime .large) in
     let L = c .before .before .loop in
     let small = L .inv .0 .small-remainder in
-    let e : ℕ = S .args .e in
-    let word = word-small (S .args .m .p) (S .args .n) (L .k - e) (L .h) (m .prime .large) (m .limit) (S .pre .0 .1) small in
+    let word = word-small (S .args .m .p) (S .args .n) (L .k - S .args .e) (L .h) positive (S .pre .0 .1) small in
     (m, omega (arith, word (L .k - 1)))
 
 mul-requires : tie.Need-mul-requires Inv-loop μ-loop
@@ -94,8 +94,9 @@ add-scaled-requires c κs =
     let p : ℕ = S .args .m .p in
     let v : ℕ = c .before .before .mul .result in
     let limit : p ≤ 65521 = m .limit in
+    let positive : 0 < p = omega (arith, m .prime .large) in
     let small = L .inv .0 .small-remainder in
-    let word = word-small p (S .args .n) (L .k - e) (L .h) (m .prime .large) limit (S .pre .0 .1) small in (
+    let word = word-small p (S .args .n) (L .k - e) (L .h) positive (S .pre .0 .1) small in (
       (omega (arith, L .inv .0 .same-remainder), omega (arith, by .room), omega arith),
       (
         (λ j lt. omega (arith, by .small (0 + j))),
@@ -103,6 +104,7 @@ add-scaled-requires c κs =
             omega (
               arith,
               word (L .k - 1 - e + j),
+              mul-le-mul-right p limit,
               mul-le-mul {n₁ = p - v} {m₁ = getD (S .args .d .now) (0 + j) 0} {n₂ = p} {m₂ = p} (omega arith) (by .small (0 + j)),
             ),
       ),
@@ -142,7 +144,7 @@ returns : tie.Need-returns Inv-loop μ-loop
 returns c =
     let S = c .before .before .before .before .before in
     let m : ValidModulus (S .args .m) = S .pre .0 .0 in
-    dividing-end (S .args .m .p) (m .prime .large) (m .limit) (S .pre .0 .1) (omega arith) (c .before .loop .inv .0)
+    dividing-end (S .args .m .p) (omega (arith, m .prime .large)) (S .pre .0 .1) (omega arith) (c .before .loop .inv .0)
 
 pub divide-words-spec : {M : Type 1} → statement M
 divide-words-spec =

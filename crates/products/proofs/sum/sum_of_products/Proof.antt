@@ -118,7 +118,7 @@ from-words-requires c κs =
     let m : ValidModulus (S .args .m) = S .pre .0 .0 in
     let positive : 0 < S .args .m .p = omega (arith, m .prime .large) in (
       (m, omega arith, omega (arith, L .inv .long)),
-      λ i lt. summing-small _ positive _ _ _ _ (L .inv) (S .pre .0 .1) (m .limit) (0 + i),
+      λ i lt. summing-small _ positive _ _ _ _ (L .inv) (S .pre .0 .1) (0 + i),
     )
 
 returns : tie.Need-returns Inv-loop μ-loop

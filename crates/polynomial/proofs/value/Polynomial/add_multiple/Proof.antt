@@ -39,7 +39,7 @@ from-words-requires c κs =
     let positive : 0 < S .args .m .p = omega (arith, m .prime .large) in
     let called = c .before .before .before .add-scaled in
     let p = S .args .m .p in
-    let small = multiple-small p positive (S .pre .1) (S .pre .3) (S .args .c) (S .pre .2) (m .limit) (called .ensures .0) in
+    let small = multiple-small p positive (S .pre .1) (S .pre .3) (S .args .c) (S .pre .2) (called .ensures .0) in
     let long : length (called .last .0) ≡ 256 = search needs in
     let fits : c .larger .result ≤ 256 = omega (arith, c .larger .ensures, S .pre .1 .within, S .pre .3 .within) in
     ((m, fits, omega arith), λ i lt. small (0 + i))

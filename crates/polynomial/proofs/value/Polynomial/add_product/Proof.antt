@@ -57,8 +57,7 @@ from-words-requires c κs =
     (S .pre .0 .1)
     (S .pre .0 .2)
     (S .pre .0 .3)
-    (called .ensures)
-    (m .limit) in
+    (called .ensures) in
     ((m, fits, omega arith), λ i lt. small (0 + i))
 
 returns : tie.Need-returns

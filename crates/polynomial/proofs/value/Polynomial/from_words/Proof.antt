@@ -1,6 +1,7 @@
 -- The words are copied, reduced and counted; `Residues` says that this gives the value.
 use mathlib.Core.Path.{_≡_}
 use Prim.Native.Nat.{_<_}
+use native.Mathlib.Nat.{le-mul-of-pos-right}
 use native.Mathlib.Omega.{arith}
 use lib.ListN.{length}
 use borrow.Author.Needs.{needs}
@@ -36,15 +37,16 @@ slice-aggregate-find-leading c = search needs
 find-leading-requires : tie.Need-find-leading-requires
 find-leading-requires c κs =
     let S = c .before .before .before .before .before .before .before .before .before in
-    let large : 1 < S .args .m .p = S .pre .0 .0 .prime .large in
+    let p = S .args .m .p in
+    let positive : 0 < p = omega (arith, S .pre .0 .0 .prime .large) in
     let fresh = c .before .before .before .before .before .before .before .zeros in
     let copies = c .before .before .before .before .before .copy in
     let reduces = c .before .before .reduce-range in
     let by : Copied (S .args .words .now) (S .args .a) (S .args .n) (fresh .result) (copies .last .0) =
     record { few = S .pre .0 .1; room = fresh .ensures .0; zero = fresh .ensures .1; copies = copies .ensures } in
     let long : length (reduces .last .0) ≡ 256 = search needs in
-    let small = residue-small by (S .args .m .p) (omega arith) (reduces .ensures) in
-    ((S .pre .0 .0, omega (arith, by .few)), λ j lt. omega (arith, small j (omega arith)))
+    let small = residue-small by p positive (reduces .ensures) in
+    ((S .pre .0 .0, omega (arith, by .few)), λ j lt. omega (arith, small j (omega arith), le-mul-of-pos-right p positive))
 
 returns : tie.Need-returns
 returns c =
