@@ -124,6 +124,21 @@ static uint32_t insert(struct modulus k, struct level *level, struct hand *hand,
     return LANES;
 }
 
+// whether the slots divide the hand
+static inline bool divides(struct modulus k, const struct level *level, struct hand *hand)
+{
+    uint64_t lead;
+    while ((lead = leading(k, hand)) != 0) {
+        const struct slot *slot = &level->slot[(hand->length - 1) % LANES];
+        if (slot->length == 0 || hand->length < slot->length)
+            return false;
+        add_scaled(hand->block + hand->length - slot->length, slot->block, whole_rows(slot->length),
+                   k.p - (uint32_t)reduce(k, lead * slot->inverse));
+        hand->length--;
+    }
+    return true;
+}
+
 // The quotients of a hand in the span of the slots; tails play no part. A word times an inverse is below 2^61, so that one
 // reduction gives the quotient's coefficient, which is 0 for an empty slot.
 static void divide(struct modulus k, const struct level *level, struct hand *hand, struct quotients *q)

@@ -13,6 +13,7 @@ struct work {
     struct modulus k;
     uint64_t column[MOST + 1][BLOCK];               // the columns of A, then b
     struct level level[MOST], right, second, copy;  // right: the last level with b inserted
+    uint32_t last;                                  // the column of the last level
     struct coefficients kernel[MOST];               // of size 0 where there is none
     struct coefficients d, numerator[MOST], factor; // factor: document 01's w is factor · d
     struct hand hand, target;
@@ -98,13 +99,14 @@ static void add_multiple(struct hand *target, const struct coefficients *f, cons
         target->length = greater(target->length, count + LANES * (f->size - 1));
 }
 
-// level j := the level below with column j inserted; gives the lane of the slot that is new, or LANES where there is a kernel
+// level j := the last level with column j inserted; gives the lane of the slot that is new, or LANES where there is a kernel
 static uint32_t build_level(struct work *w, uint32_t j)
 {
     if (j == 0)
         clear_level(&w->level[0]);
     else
-        copy_blocks(&w->level[j], &w->level[j - 1]);
+        copy_blocks(&w->level[j], &w->level[w->last]);
+    w->last = j;
     take(&w->hand, w->column[j], BLOCK, 0, 1);
     uint32_t lane = insert(w->k, &w->level[j], &w->hand, 1);
     w->kernel[j].size = 0;

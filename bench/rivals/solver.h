@@ -15,9 +15,9 @@ static void put_coefficients(struct writer *o, const struct coefficients *f)
 
 static uint64_t solve(struct work *w, struct writer *o)
 {
-    const struct level *last = &w->level[w->s.m - 1];
     spread_columns(w);
     build_levels(w);
+    const struct level *last = &w->level[w->last];
     copy_blocks(&w->right, last);
     take(&w->hand, w->column[w->s.m], BLOCK, 0, 1);
     uint32_t stuck = insert(w->k, &w->right, &w->hand, 1);

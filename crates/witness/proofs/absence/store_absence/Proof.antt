@@ -5,7 +5,9 @@ use mathlib.Core.List.{List}
 use native.Mathlib.Omega.{arith}
 use lib.ListN.{getD}
 use Rattle.residue.specs.Modulus.{ValidModulus}
+use Rattle.residue.specs.Sum.{residue-small}
 use Rattle.vector.specs.Stored.{stored}
+use Rattle.vector.specs.Bound.{at-most-reducible}
 use borrow.Author.Needs.{needs}
 use Rattle.witness.proofs.absence.store_absence.Statement.{statement}
 use Rattle.witness.proofs.absence.store_absence.Tie as tie
@@ -17,7 +19,8 @@ store-negated-requires : tie.Need-store-negated-requires
 store-negated-requires c κs =
     let S = c .before .before .before .before in
     let m : ValidModulus (S .args .modulus) = S .pre .0 .0 in
-    ((m, omega arith, omega arith), λ j lt. omega (arith, S .pre .1 .2 j, m .prime .large))
+    let one = residue-small (S .args .modulus .p) (S .args .modulus .p) (omega (arith, m .prime .large)) (omega arith) in
+    ((m, omega arith, omega arith), at-most-reducible (S .args .modulus .p) _ (S .args .rows .now) _ one (S .pre .1 .2))
 
 mul-copy : tie.Need-mul-copy
 mul-copy c = search needs
