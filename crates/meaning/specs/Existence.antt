@@ -1,27 +1,29 @@
--- certificate-exists in document 01's values: every system within the limits has a right certificate, "degree 120 always suffices".
+-- certificate-exists in document 01's values: every system within limits has a right certificate within them, where the limit on
+-- certificates leaves room for it; the office's does, "degree 120 always suffices".
 use Prim.Native.Nat.{ℕ, zero, suc, _*_, _<_, _≤_, min}
 use mathlib.Core.Path.{_≡_, refl, ap}
 use mathlib.Core.Logic.{⊎-elim}
 use mathlib.Core.List.{List, [], _∷_}
 use native.Mathlib.Omega.{arith}
-use native.Mathlib.Nat.{mul-le-mul-right}
+use native.Mathlib.Nat.{le-refl, mul-le-mul-right}
 use lib.ListN.{length, getD}
 use Rattle.algebra.specs.Polynomial.{Polynomial}
 use Rattle.algebra.specs.Size.{size, sized}
 use Rattle.modular.specs.Prime.{Prime}
 use Rattle.modular.specs.Residue.{residues}
 use Rattle.reduction.specs.System.{System as Equated}
+use Rattle.reduction.specs.Euclidean.{Euclidean}
 use Rattle.reduction.specs.Polynomials.{euclidean}
+use Rattle.reduction.specs.Certificate.{small-solution-le, small-absence-le}
 use Rattle.reduction.specs.Existence.{Solved, Unsolvable, certificate-within}
-use Rattle.words.specs.Limits.{office}
+use Rattle.words.specs.Limits.{Limits, office, panel}
 use Rattle.words.specs.Polynomial.{Within, AllWithin, VectorWithin}
 use Rattle.words.specs.System.{System, SystemWithin, shape}
 use Rattle.words.specs.Certificate.{Certificate, CertificateWithin}
 use Rattle.words.specs.Certificate.Certificate.{solution, absence}
 use Rattle.truth.specs.Right.{Right}
-use Rattle.areas.specs.Input.{systemOf}
 use Rattle.meaning.specs.Lists.{listOf, list-canonical, list-length}
-use Rattle.meaning.specs.Equations.{equations}
+use Rattle.meaning.specs.Equations.{systemDegree, equated}
 use Rattle.meaning.specs.RightLists.{solution-right, absence-right}
 
 -- f 0, .., f (n - 1)
@@ -62,13 +64,17 @@ module _ (p : ℕ) (prime : Prime p) where
     count = length-listed n (λ i. listOf p prime (x i));
   }
 
+-- "numerators of degree at most 15 × r": r is at most the least of rows and columns, 15 the degree of a system's polynomials
+abbrev pub Suffices : Limits → ℕ → ℕ → Type 0
+Suffices limits rows columns = min rows columns * systemDegree limits < limits .certificateCoefficients
+
 -- a right certificate within the limits
-pub record RightCertificate (s : System) : Type 0 where
+pub record RightCertificate (limits : Limits) (s : System) : Type 0 where
   pub certificate : Certificate
-  pub within : CertificateWithin office (shape s) certificate
+  pub within : CertificateWithin limits (shape s) certificate
   pub right : Right s certificate
 
-module _ (s : System) (h : SystemWithin office s) where
+module _ (limits : Limits) (s : System) (h : SystemWithin limits s) where
   abbrev p : ℕ
   p = s .modulus
 
@@ -76,37 +82,52 @@ module _ (s : System) (h : SystemWithin office s) where
   prime = h .shape .prime
 
   abbrev T : Equated (sized (residues (s .modulus) (h .shape .prime)))
-  T = systemOf (s .modulus) (h .shape .prime) (s .rows) (s .columns) (equations s h)
+  T = equated limits s h
 
-  -- "numerators of degree at most 15 × r"
-  degrees : min (s .rows) (s .columns) * 15 ≤ 120
-  degrees =
-      let most : min (s .rows) (s .columns) ≤ 8 = omega (arith, h .shape .rows .1) in
-      omega (arith, mul-le-mul-right 15 most)
+  abbrev E : Euclidean (sized (residues (s .modulus) (h .shape .prime)))
+  E = euclidean (residues (s .modulus) (h .shape .prime))
 
-  solved : Solved (euclidean (residues (s .modulus) (h .shape .prime))) T 121 → RightCertificate s
-  unfolding CertificateWithin Right
-  solved C = record {
-    certificate =
-        solution (listOf p prime (C .d)) (lists p prime (s .columns) (C .N))
-        (listOf p prime (C .w)) (lists p prime (s .rows) (C .Z));
-    within = record {
-      denominator = list-within p prime (C .d) (C .small .denominator);
-      numerators = lists-within p prime (s .columns) (C .N) (C .small .numerators);
-      certifyingDenominator = list-within p prime (C .w) (C .small .certifying-denominator);
-      certifyingNumerators = lists-within p prime (s .rows) (C .Z) (C .small .certifying-numerators);
-    };
-    right = solution-right s h (C .right) _ _ _ _ refl refl
-        (listed-at (s .columns) (λ j. listOf p prime (C .N j)) []) (listed-at (s .rows) (λ i. listOf p prime (C .Z i)) []);
-  }
+  module _ {B : ℕ} (le : B ≤ limits .certificateCoefficients) where
+    solved : Solved E T B → RightCertificate limits s
+    unfolding CertificateWithin Right
+    solved C =
+        let small = small-solution-le E T le (C .small) in
+        record {
+          certificate =
+              solution (listOf p prime (C .d)) (lists p prime (s .columns) (C .N))
+              (listOf p prime (C .w)) (lists p prime (s .rows) (C .Z));
+          within = record {
+            denominator = list-within p prime (C .d) (small .denominator);
+            numerators = lists-within p prime (s .columns) (C .N) (small .numerators);
+            certifyingDenominator = list-within p prime (C .w) (small .certifying-denominator);
+            certifyingNumerators = lists-within p prime (s .rows) (C .Z) (small .certifying-numerators);
+          };
+          right = solution-right limits s h (C .right) _ _ _ _ refl refl
+              (listed-at (s .columns) (λ j. listOf p prime (C .N j)) []) (listed-at (s .rows) (λ i. listOf p prime (C .Z i)) []);
+        }
 
-  unsolvable : Unsolvable (euclidean (residues (s .modulus) (h .shape .prime))) T 121 → RightCertificate s
-  unfolding CertificateWithin Right
-  unsolvable C = record {
-    certificate = absence (lists p prime (s .rows) (C .q));
-    within = lists-within p prime (s .rows) (C .q) (C .small);
-    right = absence-right s h (C .right) _ (listed-at (s .rows) (λ i. listOf p prime (C .q i)) []);
-  }
+    unsolvable : Unsolvable E T B → RightCertificate limits s
+    unfolding CertificateWithin Right
+    unsolvable C = record {
+      certificate = absence (lists p prime (s .rows) (C .q));
+      within = lists-within p prime (s .rows) (C .q) (small-absence-le E T le {q = C .q} (C .small));
+      right = absence-right limits s h (C .right) _ (listed-at (s .rows) (λ i. listOf p prime (C .q i)) []);
+    }
 
-  pub certificate-exists : RightCertificate s
-  certificate-exists = ⊎-elim solved unsolvable (certificate-within (euclidean (residues p prime)) T 120 degrees)
+  pub certificate-exists : Suffices limits (s .rows) (s .columns) → RightCertificate limits s
+  certificate-exists room = ⊎-elim (solved (omega arith)) (unsolvable (omega arith))
+      (certificate-within E T (min (s .rows) (s .columns) * systemDegree limits) (le-refl _))
+
+  least : min (s .rows) (s .columns) ≤ min (limits .rows) (limits .columns)
+  least = omega (arith, h .shape .rows .1, h .shape .columns .1)
+
+  -- room for the greatest systems is room for all
+  pub suffices-all : Suffices limits (limits .rows) (limits .columns) → Suffices limits (s .rows) (s .columns)
+  suffices-all room = omega (arith, mul-le-mul-right (systemDegree limits) least)
+
+-- "Degree 120 always suffices", and degree 28 on the panel
+pub office-certificate-exists : (s : System) → SystemWithin office s → RightCertificate office s
+office-certificate-exists s h = certificate-exists office s h (suffices-all office s h (omega arith))
+
+pub panel-certificate-exists : (s : System) → SystemWithin panel s → RightCertificate panel s
+panel-certificate-exists s h = certificate-exists panel s h (suffices-all panel s h (omega arith))

@@ -86,7 +86,7 @@ module _ (s : System) (h : SystemWithin office s) {input : List ℕ} (L : Laid s
     column = λ j hj. block-flat (s .modulus) prime input (s .rows) (128 * j) (λ i. equations s h .matrix i j) (λ i. entry s i j)
         (record {
           rows = h .shape .rows .1;
-          list = λ i hi. matrix-list s h i j;
+          list = λ i hi. matrix-list office s h i j;
           small = λ i hi. equations s h .matrix-small i j hi hj;
           lane = λ i e hi he. L .matrix i j e hi hj he;
           beside = λ i e hn hi he. L .beside i j e hn hi (omega arith) he;
@@ -94,7 +94,7 @@ module _ (s : System) (h : SystemWithin office s) {input : List ℕ} (L : Laid s
     right = block-flat (s .modulus) prime input (s .rows) (128 * s .columns) (equations s h .right) (rightSide s)
         (record {
           rows = h .shape .rows .1;
-          list = λ i hi. right-list s h i;
+          list = λ i hi. right-list office s h i;
           small = λ i hi. equations s h .right-small i hi;
           lane = λ i e hi he. L .right i e hi he;
           beside = λ i e hn hi he. L .beside i (s .columns) e hn hi (omega arith) he;

@@ -21,14 +21,13 @@ use Rattle.modular.specs.Residue.{Residue, residues}
 use Rattle.reduction.specs.System.{System as Equated}
 use Rattle.reduction.specs.Polynomials.{euclidean}
 use Rattle.reduction.specs.Certificate.{RightSolution as RightSolutionIn, RightAbsence as RightAbsenceIn}
-use Rattle.words.specs.Limits.{office}
+use Rattle.words.specs.Limits.{Limits}
 use Rattle.words.specs.System.{System, SystemWithin, entry, rightSide}
 use Rattle.truth.specs.Solution.{Divides, Monic, rowOf, columnOf, sideOf}
 use Rattle.truth.specs.Right.{RightSolution, RightAbsence, certified}
-use Rattle.areas.specs.Input.{systemOf}
 use Rattle.meaning.specs.Lists
 use Rattle.meaning.specs.Lists.{listOf}
-use Rattle.meaning.specs.Equations.{equations, matrix-list, right-list}
+use Rattle.meaning.specs.Equations.{equated, matrix-list, right-list}
 
 -- w = d·g with g the monic greatest common divisor of w and b: document 01's way to d, on lists
 module _ (p : ℕ) (prime : Prime p) (d w b g : Polynomial (residues p prime)) where
@@ -48,7 +47,7 @@ module _ (p : ℕ) (prime : Prime p) (d w b g : Polynomial (residues p prime)) w
       ∙ sym (Lists.list-monic p prime (quotient F w (gcd F w b)))
       ∙ ap (listOf p prime) (ap (monic F) (quotient-is mg greatest e) ∙ monic-same F d md)
 
-module _ (s : System) (h : SystemWithin office s) where
+module _ (limits : Limits) (s : System) (h : SystemWithin limits s) where
   abbrev p : ℕ
   p = s .modulus
 
@@ -59,7 +58,7 @@ module _ (s : System) (h : SystemWithin office s) where
   R = polynomials (residues (s .modulus) (h .shape .prime))
 
   abbrev T : Equated (sized (residues (s .modulus) (h .shape .prime)))
-  T = systemOf (s .modulus) (h .shape .prime) (s .rows) (s .columns) (equations s h)
+  T = equated limits s h
 
   abbrev list : Polynomial (residues (s .modulus) (h .shape .prime)) → List ℕ
   list = listOf (s .modulus) (h .shape .prime)
@@ -70,18 +69,18 @@ module _ (s : System) (h : SystemWithin office s) where
         → rowOf s fs i ≡ list (sum R (s .columns) (λ j. R .mul (T .matrix i j) (x j)))
     unfolding rowOf
     row-is e i = Lists.list-products p prime (s .columns) (T .matrix i) x (entry s i) (λ j. getD fs j [])
-        (λ j l. sym (matrix-list s h i j)) e
+        (λ j l. sym (matrix-list limits s h i j)) e
 
     module _ (e : (i : ℕ) → i < s .rows → getD fs i [] ≡ list (x i)) where
       column-is : (j : ℕ) → columnOf s fs j ≡ list (sum R (s .rows) (λ i. R .mul (x i) (T .matrix i j)))
       unfolding columnOf
       column-is j = Lists.list-products p prime (s .rows) x (λ i. T .matrix i j) (λ i. getD fs i []) (λ i. entry s i j)
-          e (λ i l. sym (matrix-list s h i j))
+          e (λ i l. sym (matrix-list limits s h i j))
 
       side-is : sideOf s fs ≡ list (sum R (s .rows) (λ i. R .mul (x i) (T .right i)))
       unfolding sideOf
       side-is = Lists.list-products p prime (s .rows) x (T .right) (λ i. getD fs i []) (rightSide s)
-          e (λ i l. sym (right-list s h i))
+          e (λ i l. sym (right-list limits s h i))
 
   -- the lists of a right solution are a right solution
   module _
@@ -95,7 +94,7 @@ module _ (s : System) (h : SystemWithin office s) where
         row-is ν N eN i
         ∙ ap list (C .solves i k)
         ∙ Lists.list-mul p prime D (T .right i)
-        ∙ ap₂ (Coefficients.mul (modulo p)) (sym ed) (right-list s h i)
+        ∙ ap₂ (Coefficients.mul (modulo p)) (sym ed) (right-list limits s h i)
 
     column-divided : (j : ℕ) → j < s .columns → Divides p w (columnOf s Z j)
     column-divided j k = subst (λ f. Divides p f (columnOf s Z j)) (sym ew)

@@ -32,8 +32,8 @@ module _ (ws : List ℕ) {s : System} (read : readSystem office ws ≡ accepted 
       → Certifies (s .modulus) (s .rows) (s .columns) input output solved → Certified s output solved
   certified-system input output solved laid done =
       let h = written .1 in
-      let within = taken-within s h output (formOf solved) in
-      let right = taken-right s h output solved (done .holds (h .shape .prime) (equations s h) (laid-holds s h laid)) in
+      let within = taken-within office s h output (formOf solved) in
+      let right = taken-right office s h output solved (done .holds (h .shape .prime) (equations s h) (laid-holds s h laid)) in
       record {
         valid = done .valid;
         within = within;
