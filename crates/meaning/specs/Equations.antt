@@ -1,8 +1,7 @@
 -- The equations over the residues modulo p that a system's lists stand for: as `reduction` takes them, under any limits, and as the
 -- solver's contracts take them, under the office's.
-use Prim.Native.Nat.{ℕ, suc, _+_, _-_, _*_, _<_, _≤_}
+use Prim.Native.Nat.{ℕ, suc, _-_, _<_, _≤_}
 use mathlib.Core.Path.{_≡_, refl, ap}
-use mathlib.Core.List.{List}
 use native.Mathlib.Omega.{arith}
 use lib.ListN.{length}
 use Rattle.algebra.specs.Polynomial.{Polynomial}
@@ -12,9 +11,8 @@ use Rattle.modular.specs.Residue.{residues}
 use Rattle.modular.specs.Values.{toResidues, toResidues-list}
 use Rattle.reduction.specs.System.{System as Equated}
 use Rattle.words.specs.Limits.{Limits, office}
-use Rattle.words.specs.Polynomial.{Within}
-use Rattle.words.specs.VectorLaws.{all-at}
 use Rattle.words.specs.System.{System, SystemWithin, entry, rightSide}
+use Rattle.words.specs.SystemLaws.{entry-within, rightSide-within}
 use Rattle.areas.specs.Input.{Equations, systemOf}
 use Rattle.meaning.specs.Lists.{listOf, list-length}
 
@@ -29,45 +27,29 @@ module _ (limits : Limits) (s : System) (h : SystemWithin limits s) where
   abbrev prime : Prime (s .modulus)
   prime = h .shape .prime
 
-  abbrev most : ℕ
-  most = limits .systemCoefficients
-
-  entry-within : (i j : ℕ) → Within (s .modulus) (limits .systemCoefficients) (entry s i j)
-  entry-within i j = all-at p most (s .matrix) (h .matrix .entries) (i * s .columns + j)
-
-  side-within : (i : ℕ) → Within (s .modulus) (limits .systemCoefficients) (rightSide s i)
-  side-within i = all-at p most (s .right) (h .right .entries) i
-
-  small : (f : List ℕ) (w : Within (s .modulus) (limits .systemCoefficients) f)
-      → size (residues p prime) (toResidues p prime (f, w .canonical)) ≤ suc (systemDegree limits)
-  small f w =
-      let x = toResidues p prime (f, w .canonical) in
-      omega (arith, list-length p prime x, ap length (toResidues-list p prime (f, w .canonical)), w .size)
-
   pub matrix : ℕ → ℕ → Polynomial (residues (s .modulus) (h .shape .prime))
-  matrix i j = toResidues p prime (entry s i j, entry-within i j .canonical)
+  matrix i j = toResidues p prime (entry s i j, entry-within limits s h i j .canonical)
 
   pub right : ℕ → Polynomial (residues (s .modulus) (h .shape .prime))
-  right i = toResidues p prime (rightSide s i, side-within i .canonical)
+  right i = toResidues p prime (rightSide s i, rightSide-within limits s h i .canonical)
 
   -- their lists are the system's
   pub matrix-list : (i j : ℕ) → listOf (s .modulus) (h .shape .prime) (matrix i j) ≡ entry s i j
   unfolding matrix
-  matrix-list i j = toResidues-list p prime (entry s i j, entry-within i j .canonical)
+  matrix-list i j = toResidues-list p prime (entry s i j, entry-within limits s h i j .canonical)
 
   pub right-list : (i : ℕ) → listOf (s .modulus) (h .shape .prime) (right i) ≡ rightSide s i
   unfolding right
-  right-list i = toResidues-list p prime (rightSide s i, side-within i .canonical)
+  right-list i = toResidues-list p prime (rightSide s i, rightSide-within limits s h i .canonical)
 
   pub matrix-small : (i j : ℕ) → i < s .rows → j < s .columns
       → size (residues (s .modulus) (h .shape .prime)) (matrix i j) ≤ suc (systemDegree limits)
-  unfolding matrix
-  matrix-small i j k l = small (entry s i j) (entry-within i j)
+  matrix-small i j k l =
+      omega (arith, list-length p prime (matrix i j), ap length (matrix-list i j), entry-within limits s h i j .size)
 
   pub right-small : (i : ℕ) → i < s .rows
       → size (residues (s .modulus) (h .shape .prime)) (right i) ≤ suc (systemDegree limits)
-  unfolding right
-  right-small i k = small (rightSide s i) (side-within i)
+  right-small i k = omega (arith, list-length p prime (right i), ap length (right-list i), rightSide-within limits s h i .size)
 
   -- as `reduction` takes them
   abbrev pub equated : Equated (sized (residues (s .modulus) (h .shape .prime)))
