@@ -1,15 +1,16 @@
 // Where there is no solution: the certificate of that.
-use descent::coordinate::store_negated;
 use levels::copying::copy_level;
 use residue::modulus::Modulus;
 use second::solve::solve_second;
 use second::tails::take_row;
 use vector::copy;
 ghost use mathlib.Core.Path.{_≡_};
-ghost use Prim.Native.Nat.{ℕ, _<_, _≤_};
+ghost use Prim.Native.Nat.{ℕ, _%_, _<_, _≤_};
 ghost use lib.ListN.{length, getD};
+ghost use Rattle.modular.specs.Modulo.{modulo};
 ghost use Rattle.residue.specs.Modulus.{ValidModulus};
 ghost use Rattle.vector.specs.Bound.{AtMost};
+ghost use Rattle.vector.specs.Stored.{stored};
 ghost use Rattle.lattice.specs.Memory.{level, ValidLevel};
 ghost use Rattle.areas.specs.Output.{ValidOutput};
 ghost use Rattle.witness.specs.Inserted.{HasStuck};
@@ -36,6 +37,20 @@ pub fn copy_with_row(
     take_row(next, heights, h);
 }
 
+// h[j] = -y[j] modulo p for j below n, of numbers below p, which need no reduction.
+pub fn store_negatives(h: &mut [u64], y: &[u64], n: usize, modulus: Modulus)
+    requires { ⌜ ValidModulus modulus × (n ≤ length (now h)) × (n ≤ length (now y)) ⌝ }
+    requires small { ⌜ ((i : ℕ) → getD (now y) i 0 < modulus .p) ⌝ }
+    ensures { λ _. ⌜ now (h .exit) ≡ stored (λ j. modulo (modulus .p) .neg (getD (now (y .entry)) j 0 % modulus .p))
+        (now (h .entry)) 0 n ⌝ }
+{
+    let mut j = 0;
+    while j < n {
+        h[j] = modulus.neg(y[j]);
+        j += 1;
+    }
+}
+
 // Minus the n rows to their places in the output, and w to place h.
 pub fn store_absence(
     output: &mut [u64],
@@ -46,11 +61,12 @@ pub fn store_absence(
     modulus: Modulus,
 )
     requires { ⌜ ValidModulus modulus × (n ≤ 8) × (h < 8) × (length (now output) ≡ 2304) ⌝ }
-    requires parts { ⌜ (length (now w) ≡ 128) × (length (now rows) ≡ 1024) × AtMost (modulus .p) (now rows) ⌝ }
+    requires parts { ⌜ (length (now w) ≡ 128) × (length (now rows) ≡ 1024)
+        × ((i : ℕ) → getD (now rows) i 0 < modulus .p) ⌝ }
     ensures { λ _. ⌜ now (output .exit)
         ≡ storedAbsence (modulus .p) n h (now (w .entry)) (now (rows .entry)) (now (output .entry)) ⌝ }
 {
-    store_negated(output, 0, rows, 128 * n, modulus);
+    store_negatives(output, rows, 128 * n, modulus);
     copy(output, 128 * h, w, 0, 128);
 }
 

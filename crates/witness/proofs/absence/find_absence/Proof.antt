@@ -64,7 +64,7 @@ store-absence-requires c κs =
       (
         omega (arith, solved .solve-second .kept),
         omega (arith, solved .solve-second .kept),
-        λ i. omega (arith, solved .solve-second .ensures .rows-below i),
+        solved .solve-second .ensures .rows-below,
       ),
     )
 

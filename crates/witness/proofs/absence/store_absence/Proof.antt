@@ -4,23 +4,18 @@ use mathlib.Core.Path.{_∙_, ap}
 use mathlib.Core.List.{List}
 use native.Mathlib.Omega.{arith}
 use lib.ListN.{getD}
-use Rattle.residue.specs.Modulus.{ValidModulus}
-use Rattle.residue.specs.Sum.{residue-small}
 use Rattle.vector.specs.Stored.{stored}
-use Rattle.vector.specs.Bound.{at-most-reducible}
 use borrow.Author.Needs.{needs}
 use Rattle.witness.proofs.absence.store_absence.Statement.{statement}
 use Rattle.witness.proofs.absence.store_absence.Tie as tie
 
-mul-store-negated : tie.Need-mul-store-negated
-mul-store-negated c = search needs
+mul-store-negatives : tie.Need-mul-store-negatives
+mul-store-negatives c = search needs
 
-store-negated-requires : tie.Need-store-negated-requires
-store-negated-requires c κs =
+store-negatives-requires : tie.Need-store-negatives-requires
+store-negatives-requires c κs =
     let S = c .before .before .before .before in
-    let m : ValidModulus (S .args .modulus) = S .pre .0 .0 in
-    let one = residue-small (S .args .modulus .p) (S .args .modulus .p) (omega (arith, m .prime .large)) (omega arith) in
-    ((m, omega arith, omega arith), at-most-reducible (S .args .modulus .p) _ (S .args .rows .now) _ one (S .pre .1 .2))
+    ((S .pre .0 .0, omega arith, omega arith), S .pre .1 .2)
 
 mul-copy : tie.Need-mul-copy
 mul-copy c = search needs
@@ -37,9 +32,9 @@ returns c =
     let S = negated .before .before .before .before .before in
     c .before .before .copy .ensures
     ∙ ap (λ (l : List ℕ). stored (λ j. getD (S .args .w .now) (0 + j) 0) l (128 * S .args .h) 128)
-    (negated .store-negated .ensures)
+    (negated .store-negatives .ensures)
 
 pub store-absence-spec : {M : Type 1} → statement M
 store-absence-spec =
     tie.close
-    (tie.spec mul-store-negated store-negated-requires mul-copy copy-requires same-length returns)
+    (tie.spec mul-store-negatives store-negatives-requires mul-copy copy-requires same-length returns)
