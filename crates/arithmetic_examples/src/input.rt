@@ -2,13 +2,16 @@
 use polynomial::Polynomial;
 use polynomial::value::zeros;
 use residue::modulus::Modulus;
+ghost use mathlib.Core.Path.{_≡_};
 ghost use Prim.Native.Nat.{ℕ, _+_, _<_, _≤_};
 ghost use lib.ListN.{length, getD};
 ghost use Rattle.residue.specs.Modulus.{ValidModulus};
 ghost use Rattle.polynomial.specs.Value.{ValidPolynomial};
 
 // The word at a place, 0 behind the end.
-pub fn word(case: &[u32], place: usize) -> u64 {
+pub fn word(case: &[u32], place: usize) -> u64
+    ensures { λ r. ⌜ r ≡ getD (now (case .entry)) place 0 ⌝ }
+{
     cases::input::word(case, place) as u64
 }
 

@@ -8,14 +8,14 @@ use Rattle.algebra.specs.Coefficients.{leading}
 use Rattle.modular.specs.Modulo.{modulo}
 use Rattle.modular.specs.Prime.{Prime}
 use Rattle.residue.specs.Sum.{residue-small}
-use Rattle.vector.specs.Bound.{AtMost, Reducible, at-most-reducible}
+use Rattle.vector.specs.Bound.{AtMost, Reducible, at-most-reducible, zeros-none}
+use Rattle.second.specs.Zeros.{zeros-room}
 use Rattle.vector.specs.Reduced.{polynomial}
 use Rattle.vector.specs.Stored.{stored}
 use Rattle.vector.specs.declared.leading.Leading.{Leading}
 use Rattle.lattice.specs.Memory.{Level, level, ValidLevel, Memory, Valid}
 use Rattle.lattice.specs.Insertion.{Starts, Inserts}
 use Rattle.second.specs.Words.{InRoom, rightWord}
-use Rattle.second.specs.Zeros.{zeros-none, zeros-room}
 use Rattle.second.specs.RightInserted.{RightInserted, firstMemory, block-small, first-valid, first-starts, right-ends}
 use Rattle.second.specs.Laid.{Laid, laid-level, startingMemory}
 

@@ -16,9 +16,9 @@ use Rattle.writer.specs.declared.certificate.Form.the-variants as form
 use Rattle.writer.specs.Writing.{lentAfter}
 
 -- the count of the words, or number and place
-abbrev pub answerOf : Written → Outcome ℕ
-answerOf (written.Count n) = accepted n
-answerOf (written.Refused number place) = refused number place
+abbrev pub writtenOutcome : Written → Outcome ℕ
+writtenOutcome (written.Count n) = accepted n
+writtenOutcome (written.Refused number place) = refused number place
 
 -- nothing refused, or number and place
 abbrev pub trialOf : Tried → Outcome (Unit {0})
@@ -32,5 +32,5 @@ formOf form.Absence = absent
 
 -- a writer that is to give an outcome answers with it, and leaves the lent words so
 pub record Writes (outcome : Outcome (List ℕ)) (entry : List ℕ) (answer : Written) (exit : List ℕ) : Type 0 where
-  pub told : answerOf answer ≡ mapped length outcome
+  pub told : writtenOutcome answer ≡ mapped length outcome
   pub lent : exit ≡ lentAfter outcome entry

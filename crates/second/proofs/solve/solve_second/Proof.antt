@@ -1,7 +1,7 @@
 -- One law for each call, and `SecondEnds` for the whole.
 use native.Mathlib.Omega.{arith}
 use Rattle.residue.specs.Modulus.{ValidModulus}
-use Rattle.second.specs.Zeros.{zeros-none}
+use Rattle.vector.specs.Bound.{zeros-none}
 use Rattle.second.specs.RightFilling.{tails-end}
 use Rattle.second.specs.SecondReady.{level-room, block-reducible, ready-valid, ready-starts}
 use Rattle.second.specs.Denominator.{laid-denominator}
