@@ -1,1 +1,3 @@
+pub mod NumberLaws
 pub mod Packed
+pub mod PackedLaws
