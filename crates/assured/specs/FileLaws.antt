@@ -1,26 +1,26 @@
 -- Demand 3, its last sentence, on files: the check accepts the file that the solver gives for the same system's file.
-use Prim.Native.Nat.{ℕ, _*_, _%_}
-use mathlib.Core.Path.{_≡_, refl, ap, _∙_}
+use Prim.Native.Nat.{ℕ, _*_, _%_, _≤_}
+use mathlib.Core.Path.{_≡_, refl, ap, _∙_, subst}
 use mathlib.Core.Bool.{false, _||_}
 use mathlib.Core.List.{List}
 use native.Mathlib.Omega.{arith}
 use lib.ListN.{length, take}
-use borrow.Author.Tests.{eq-eqb}
+use borrow.Author.Tests.{eq-eqb, le-ltb}
 use Rattle.words.specs.Limits.{Limits, longestCertificate}
 use Rattle.words.specs.LimitsLaws.{LimitsFit}
-use Rattle.words.specs.Outcome.{Outcome}
+use Rattle.words.specs.Outcome.{Outcome, refuse}
 use Rattle.words.specs.Outcome.Outcome.{accepted}
 use Rattle.words.specs.OutcomeLaws.{refuse-passed}
-use Rattle.words.specs.System.{System, readSystem}
+use Rattle.words.specs.System.{System, SystemWithin, systemWords, readSystem}
 use Rattle.words.specs.SystemLaws.{system-written-of-read}
 use Rattle.words.specs.Bytes.{wordsOf, bytesOf, broken, tooLong, readSystemFile}
-use Rattle.words.specs.BytesLaws.{length-bytesOf, wordsOf-bytesOf}
+use Rattle.words.specs.BytesLaws.{length-bytesOf, wordsOf-bytesOf, file-read-of-written}
 use Rattle.words.specs.Certificate.{Certificate, certificateWords}
 use Rattle.truth.specs.Verdict.{verdict}
 use Rattle.truth.specs.Accepted.{accepted-of-words}
 use Rattle.verifier.specs.File.{firstOf, fileVerdict}
 use Rattle.verifier.specs.File.FileOutcome.{told}
-use Rattle.solver.specs.Solving.{certificateBytes, Gives, SolvesFile}
+use Rattle.solver.specs.Solving.{withRoom, fileToSolve, certificateBytes, Gives, SolvesOr, SolvesFile}
 use Rattle.solver.specs.SolvingLaws.{gives-words, solved-gives}
 
 words-whole : (ws : List ℕ) → broken (bytesOf ws) ≡ false
@@ -63,3 +63,21 @@ module _ (limits : Limits) (fit : LimitsFit limits) (file entry exit : List ℕ)
       let given = solved-gives limits certificateBytes (4 * longestCertificate limits) (length entry) (readSystemFile limits file)
       entry exit answer h count a in
       gives-accepted (given .1) (given .2)
+
+-- every system within the limits has a file, and for that file the solver gives a certificate's, which the check accepts
+module _ (limits : Limits) (fit : LimitsFit limits) (s : System) (within : SystemWithin limits s) (entry exit : List ℕ)
+    (room : 4 * longestCertificate limits ≤ length entry) (answer : Outcome ℕ) where
+  abbrev file : List ℕ
+  file = bytesOf (systemWords s)
+
+  to-solve : fileToSolve limits (length entry) file ≡ accepted s
+  to-solve =
+      ap (withRoom (4 * longestCertificate limits) (length entry)) (file-read-of-written limits fit s within)
+      ∙ ap (λ t. refuse t 11 0 (accepted s)) (le-ltb (length entry) (4 * longestCertificate limits) room)
+
+  pub every-file-solved : SolvesFile limits (bytesOf (systemWords s)) entry exit answer
+      → (count : ℕ) × (answer ≡ accepted count) × (fileVerdict limits (bytesOf (systemWords s)) (take count exit) ≡ told (accepted tt))
+  unfolding SolvesOr
+  every-file-solved h =
+      let given = subst (λ o. SolvesOr limits certificateBytes o entry exit answer) to-solve h in
+      (given .0, given .1, solved-file-accepted limits fit file entry exit answer h (given .0) (given .1))

@@ -1,1 +1,4 @@
+pub mod NumberLaws
 pub mod Packed
+pub mod PackedLaws
+pub mod Together

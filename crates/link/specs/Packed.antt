@@ -1,5 +1,5 @@
 -- Answers as one number, for programs in other languages (document 02, item 4, packs so): a refusal is 64 times its place plus its
--- number. No number is 64 or more, and none is 0.
+-- number. No number is 64 or more, and none is 0 (NumberLaws), so that they can be taken apart (PackedLaws).
 use Prim.Native.Nat.{ℕ, _+_, _*_}
 use mathlib.Core.Path.{_≡_}
 use mathlib.Core.List.{List}

@@ -1,0 +1,100 @@
+-- A packed answer can be taken apart: what the calls give has numbers 1 to 36, or 63, so `r % 64` is the number and `r / 64` the
+-- place or the count, and different answers are different numbers.
+use Prim.Native.Nat.{ℕ, _+_, _*_, _/_, _%_, _≤_}
+use mathlib.Core.Path.{_≡_, refl, sym, ap, ap₂, _∙_, subst}
+use mathlib.Core.Bool.{Bool, true, false, not}
+use mathlib.Core.List.{List}
+use native.Mathlib.Omega.{arith}
+use lib.Dec.{eqb}
+use borrow.Author.Tests.{ne-eqb}
+use Rattle.words.specs.Limits.{Limits}
+use Rattle.words.specs.Outcome.{Outcome, refuse}
+use Rattle.words.specs.Outcome.Outcome.{accepted, refused}
+use Rattle.solver.specs.Solving.{SolvesFile}
+use Rattle.verifier.specs.File.{FileOutcome, fileVerdict}
+use Rattle.verifier.specs.File.FileOutcome.{told, notCertificate}
+use Rattle.link.specs.Packed.{packed, packedVerdict, SolvesPacked}
+use Rattle.link.specs.NumberLaws.{Between, Refusals, refusals-wider, solver-numbers, check-numbers}
+
+-- ---- taking apart, as include/yezsdolak.h does: the number is what is left by 64, the place or count what is above it
+
+-- a refusal of this number, where it is not 0
+abbrev pub refusedUnless0 : {A : Type 0} → (number place : ℕ) → A → Outcome A
+refusedUnless0 number place a = refuse (not (eqb number 0)) number place (accepted a)
+
+abbrev pub unpacked : ℕ → Outcome ℕ
+unpacked r = refusedUnless0 (r % 64) (r / 64) (r / 64)
+
+abbrev pub unless63 : Bool → Outcome (Unit {0}) → FileOutcome
+unless63 true words = notCertificate
+unless63 false words = told words
+
+abbrev pub unpackedVerdict : ℕ → FileOutcome
+unpackedVerdict r = unless63 (eqb (r % 64) 63) (refusedUnless0 (r % 64) (r / 64) tt)
+
+refused-by : {A : Type 0} (number place : ℕ) (a : A) → 1 ≤ number → refusedUnless0 number place a ≡ refused number place
+refused-by number place a h =
+    ap (λ b. refuse (not b) number place (accepted a)) (ne-eqb number 0 (λ e. omega arith))
+
+module _ (number place : ℕ) (small : number ≤ 63) where
+  pub packed-number : (64 * place + number) % 64 ≡ number
+  packed-number = omega arith
+
+  pub packed-place : (64 * place + number) / 64 ≡ place
+  packed-place = omega arith
+
+-- ---- the solver
+
+pub unpacked-packed : (answer : Outcome ℕ) → Refusals 1 63 answer → unpacked (packed answer) ≡ answer
+unpacked-packed (accepted count) h =
+    let number : 64 * count % 64 ≡ 0 = omega arith in
+    let above : 64 * count / 64 ≡ count = omega arith in
+    ap₂ (λ n k. refusedUnless0 n k k) number above
+unpacked-packed (refused number place) h =
+    let between = h .numbers number place refl in
+    ap₂ (λ n k. refusedUnless0 n k k) (packed-number number place (between .1)) (packed-place number place (between .1))
+    ∙ refused-by number place place (between .0)
+
+-- what the solver gives, taken apart, is its answer
+pub solver-unpacked : {limits : Limits} {file entry exit : List ℕ} {r : ℕ} (h : SolvesPacked limits file entry exit r)
+    → unpacked r ≡ h .answer
+solver-unpacked {limits} {file} {entry} {exit} h =
+    let numbers = solver-numbers limits file entry exit (h .answer) (h .solves) in
+    ap unpacked (h .packs) ∙ unpacked-packed (h .answer) (refusals-wider 1 11 (omega arith) (omega arith) numbers)
+
+pub solves-unpacked : {limits : Limits} {file entry exit : List ℕ} {r : ℕ} → SolvesPacked limits file entry exit r
+    → SolvesFile limits file entry exit (unpacked r)
+solves-unpacked {limits} {file} {entry} {exit} h = subst (SolvesFile limits file entry exit) (sym (solver-unpacked h)) (h .solves)
+
+-- two answers, of any two calls, with the same packed number are equal
+pub solver-packs-apart : {limits limits′ : Limits} {file entry exit file′ entry′ exit′ : List ℕ} {r : ℕ}
+    (h : SolvesPacked limits file entry exit r) (k : SolvesPacked limits′ file′ entry′ exit′ r) → h .answer ≡ k .answer
+solver-packs-apart h k = sym (solver-unpacked h) ∙ solver-unpacked k
+
+-- ---- the check
+
+-- numbers that leave 63 to `notCertificate`
+unpacked-packedVerdict : (v : FileOutcome) → ((number place : ℕ) → v ≡ told (refused number place) → Between 1 62 number)
+    → unpackedVerdict (packedVerdict v) ≡ v
+unpacked-packedVerdict (told (accepted tt)) h = refl
+unpacked-packedVerdict (told (refused number place)) h =
+    let between = h number place refl in
+    let small : number ≤ 63 = omega arith in
+    ap₂ (λ n k. unless63 (eqb n 63) (refusedUnless0 n k tt)) (packed-number number place small) (packed-place number place small)
+    ∙ ap (λ b. unless63 b (refusedUnless0 number place tt)) (ne-eqb number 63 (λ e. omega arith))
+    ∙ ap told (refused-by number place tt (between .0))
+unpacked-packedVerdict notCertificate h = refl
+
+-- what the check gives, taken apart, is its verdict
+pub check-unpacked : (limits : Limits) (system certificate : List ℕ)
+    → unpackedVerdict (packedVerdict (fileVerdict limits system certificate)) ≡ fileVerdict limits system certificate
+check-unpacked limits system certificate =
+    unpacked-packedVerdict (fileVerdict limits system certificate) (λ number place e.
+    let between = check-numbers limits system certificate number place e in
+    (between .0, omega arith))
+
+pub check-packs-apart : (limits limits′ : Limits) (system certificate system′ certificate′ : List ℕ)
+    → packedVerdict (fileVerdict limits system certificate) ≡ packedVerdict (fileVerdict limits′ system′ certificate′)
+    → fileVerdict limits system certificate ≡ fileVerdict limits′ system′ certificate′
+check-packs-apart limits limits′ system certificate system′ certificate′ e =
+    sym (check-unpacked limits system certificate) ∙ ap unpackedVerdict e ∙ check-unpacked limits′ system′ certificate′

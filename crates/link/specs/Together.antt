@@ -1,0 +1,35 @@
+-- The two exported calls together (demand 3, its last sentence, on bytes): `yezsdolak_check` gives 0 on what `yezsdolak_solve` gave,
+-- and for every system's file `yezsdolak_solve` gives a count.
+use Prim.Native.Nat.{ℕ, _/_, _%_, _≤_}
+use mathlib.Core.Path.{_≡_, ap, _∙_}
+use mathlib.Core.List.{List}
+use native.Mathlib.Omega.{arith}
+use lib.ListN.{length, take}
+use Rattle.words.specs.Limits.{office}
+use Rattle.words.specs.LimitsLaws.{office-fits}
+use Rattle.words.specs.System.{System, SystemWithin, systemWords}
+use Rattle.words.specs.Bytes.{bytesOf}
+use Rattle.verifier.specs.File.{fileVerdict}
+use Rattle.assured.specs.FileLaws.{solved-file-accepted, every-file-solved}
+use Rattle.link.specs.Packed.{packed, packedVerdict, SolvesPacked}
+use Rattle.link.specs.PackedLaws.{refusedUnless0, unpacked, solves-unpacked}
+
+-- what the check is handed: the system's file, and as many of the lent bytes as the solver counted
+abbrev pub checkedAfter : (file exit : List ℕ) (r : ℕ) → ℕ
+checkedAfter file exit r = packedVerdict (fileVerdict office file (take (r / 64) exit))
+
+module _ {file entry exit : List ℕ} {r : ℕ} where
+  pub solved-checked : SolvesPacked office file entry exit r → r % 64 ≡ 0 → checkedAfter file exit r ≡ 0
+  solved-checked h count =
+      let counted = ap (λ n. refusedUnless0 n (r / 64) (r / 64)) count in
+      ap packedVerdict (solved-file-accepted office office-fits file entry exit (unpacked r) (solves-unpacked h) (r / 64) counted)
+
+-- for every system within the limits, with 8,792 bytes lent, it is a count
+module _ (s : System) (within : SystemWithin office s) {entry exit : List ℕ} {r : ℕ} (room : 8792 ≤ length entry) where
+  pub every-system-checked : SolvesPacked office (bytesOf (systemWords s)) entry exit r
+      → (r % 64 ≡ 0) × (checkedAfter (bytesOf (systemWords s)) exit r ≡ 0)
+  every-system-checked h =
+      let solved = every-file-solved office office-fits s within entry exit room (h .answer) (h .solves) in
+      let packs = h .packs ∙ ap packed (solved .1) in
+      let count : r % 64 ≡ 0 = omega arith in
+      (count, solved-checked h count)
