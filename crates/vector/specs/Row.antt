@@ -26,4 +26,5 @@ module _ (p : ℕ) (l : List ℕ) where
   reduced-take-row k a zero next inside e = reduced-take-word k a (omega arith) inside e
   reduced-take-row k a (suc n) next inside e =
       let parts = or-zero (orTo l a n) (getD l (a + suc n) 0) e in
-      reduced-take-word k (a + suc n) next inside (parts .1) ∙ reduced-take-row (a + suc n) a n (omega arith) (omega arith) (parts .0)
+      reduced-take-word k (a + suc n) next inside (parts .1)
+      ∙ reduced-take-row (a + suc n) a n (omega arith) (omega arith) (parts .0)
