@@ -1,12 +1,13 @@
 // Size and leading coefficient of a hand, found from its end.
 ghost use mathlib.Core.Path.{_≡_};
-ghost use Prim.Native.Nat.{_≤_};
+ghost use Prim.Native.Nat.{_+_, _≤_};
 ghost use lib.ListN.{length};
 ghost use Rattle.algebra.specs.Coefficients.{leading};
 ghost use Rattle.modular.specs.Modulo.{modulo};
 ghost use Rattle.residue.specs.Modulus.{ValidModulus};
 ghost use Rattle.vector.specs.Bound.{Reducible};
 ghost use Rattle.vector.specs.Reduced.{polynomial};
+ghost use Rattle.vector.specs.Row.{orTo};
 use residue::modulus::Modulus;
 
 // The number of a polynomial's coefficients, and the last of them; both 0 for the zero polynomial.
@@ -15,8 +16,16 @@ pub struct Leading {
     pub value: u64,
 }
 
+// h[a] | .. | h[a + 7], which is 0 only where all eight words are: one test for a row of them.
+fn or_of_row(h: &[u64], a: usize) -> u64
+    requires { ⌜ a + 8 ≤ length (now h) ⌝ }
+    ensures { λ r. ⌜ r ≡ orTo (now (h .entry)) a 7 ⌝ }
+{
+    h[a] | h[a + 1] | h[a + 2] | h[a + 3] | h[a + 4] | h[a + 5] | h[a + 6] | h[a + 7]
+}
+
 // Size and leading coefficient of the polynomial that h[0] .. h[n - 1] stand for modulo p. Words that are 0, of which there may be
-// many, take no reduction.
+// many at the end, are passed over in rows of eight; those that are left take no reduction.
 pub fn find_leading(h: &[u64], n: usize, modulus: Modulus) -> Leading
     requires { ⌜ ValidModulus modulus × (n ≤ length (now h)) ⌝ }
     requires sums { ⌜ Reducible (modulus .p) (now h) n ⌝ }
@@ -24,6 +33,9 @@ pub fn find_leading(h: &[u64], n: usize, modulus: Modulus) -> Leading
     ensures value { λ r. ⌜ r .value ≡ leading (modulo (modulus .p)) (polynomial (modulus .p) (now (h .entry)) 0 n) ⌝ }
 {
     let mut k = n;
+    while 8 <= k && or_of_row(h, k - 8) == 0 {
+        k -= 8;
+    }
     while 0 < k {
         let i = k - 1;
         if h[i] != 0 {

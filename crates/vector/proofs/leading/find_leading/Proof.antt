@@ -1,13 +1,14 @@
--- `vector::leading::find_leading` meets its contract: what lies from k on is 0 modulo p. Assumes nothing.
+-- `vector::leading::find_leading` meets its contract: in both loops, what lies from k on is 0 modulo p. Assumes nothing.
 use mathlib.Core.Path.{_≡_, refl, sym, ap, _∙_}
 use Prim.Native.Nat.{_+_, _-_, _%_, _≤_}
-use native.Mathlib.Nat.{zero-mod}
 use native.Mathlib.Omega.{arith}
+use borrow.Author.Tests.{eqb-true}
 use lib.ListN.{length, getD}
 use Rattle.algebra.specs.Coefficients.{leading}
 use Rattle.modular.specs.Modulo.{modulo}
 use Rattle.vector.specs.Reduced.{polynomial}
 use Rattle.vector.specs.Size.{reduced-take-none, reduced-take-zero, size-take, leading-take}
+use Rattle.vector.specs.Row.{reduced-take-word, reduced-take-row}
 use Rattle.vector.proofs.leading.find_leading.Statement.{statement}
 use Rattle.vector.proofs.leading.find_leading.Tie as tie
 
@@ -17,70 +18,92 @@ Inv-loop h n modulus k₀ k = (k ≤ n) × (polynomial (modulus .p) h 0 n ≡ po
 abbrev μ-loop : tie.MeasureT-loop
 μ-loop h n modulus k₀ k = k
 
-loop-holds : tie.Need-loop-holds Inv-loop μ-loop
+abbrev Inv-loop2 : tie.InvT-loop2
+Inv-loop2 = Inv-loop
+
+abbrev μ-loop2 : tie.MeasureT-loop2
+μ-loop2 = μ-loop
+
+loop-holds : tie.Need-loop-holds Inv-loop μ-loop Inv-loop2 μ-loop2
 loop-holds c = (omega arith, refl)
 
-sub-i : tie.Need-sub-i Inv-loop μ-loop
-sub-i c = omega arith
+or-of-row-requires : tie.Need-or-of-row-requires Inv-loop μ-loop Inv-loop2 μ-loop2
+or-of-row-requires c κs = omega arith
 
-mul-if1 : tie.Need-mul-if1 Inv-loop μ-loop
-mul-if1 c = omega arith
-
-shared-slice-read-if1 : tie.Need-shared-slice-read-if1 Inv-loop μ-loop
-shared-slice-read-if1 c = omega arith
-
-mul-reduce : tie.Need-mul-reduce Inv-loop μ-loop
-mul-reduce c = omega arith
-
-shared-slice-read-reduce : tie.Need-shared-slice-read-reduce Inv-loop μ-loop
-shared-slice-read-reduce c = omega arith
-
-reduce-requires : tie.Need-reduce-requires Inv-loop μ-loop
-reduce-requires c κs =
-    let L = c .before .before .before .before in
-    let given = L .before .before .pre in
-    (given .0 .0, given .1 (L .loop .k - 1) (omega arith))
-
-returns : tie.Need-returns Inv-loop μ-loop
-returns c =
-    let L = c .before .before .before .before .before .before in
-    let A = L .before .before .args in
-    let value = c .before .reduce .ensures in
-    let counts : getD (A .h .now) (L .loop .k - 1) 0 % A .modulus .p ≡ 0 → ⊥ = λ z. c .if2 .taken (value ∙ z) in
-    let next : L .loop .k ≡ L .loop .k - 1 + 1 = omega arith in
-    let inside : L .loop .k ≤ length (A .h .now) = omega arith in (
-      sym (ap length (L .loop .inv .1) ∙ size-take (A .modulus .p) (A .h .now) _ _ next inside counts),
-      value ∙ sym (ap (leading _) (L .loop .inv .1) ∙ leading-take (A .modulus .p) (A .h .now) _ _ next inside counts),
-    )
-
-loop-less : tie.Need-loop-less Inv-loop μ-loop
+loop-less : tie.Need-loop-less Inv-loop μ-loop Inv-loop2 μ-loop2
 loop-less c = omega arith
 
-loop-again : tie.Need-loop-again Inv-loop μ-loop
+loop-again : tie.Need-loop-again Inv-loop μ-loop Inv-loop2 μ-loop2
 loop-again c =
-    let L = c .before .before .before .before .before .before in
-    let A = L .before .before .args in
-    let zero = sym (c .before .reduce .ensures) ∙ c .if2 .left in
-    let next : L .loop .k ≡ L .loop .k - 1 + 1 = omega arith in
-    (omega arith, L .loop .inv .1 ∙ reduced-take-zero (A .modulus .p) (A .h .now) _ _ next (omega arith) zero)
-
-loop-less-2 : tie.Need-loop-less-2 Inv-loop μ-loop
-loop-less-2 c = omega arith
-
-loop-again-2 : tie.Need-loop-again-2 Inv-loop μ-loop
-loop-again-2 c =
     let L = c .before .before .before in
     let A = L .before .before .args in
-    let zero = ap (λ w. w % A .modulus .p) (c .if1 .left) ∙ zero-mod (A .modulus .p) in
-    let next : L .loop .k ≡ L .loop .k - 1 + 1 = omega arith in
-    (omega arith, L .loop .inv .1 ∙ reduced-take-zero (A .modulus .p) (A .h .now) _ _ next (omega arith) zero)
+    let none = sym (c .before .or-of-row .ensures) ∙ eqb-true (c .before .or-of-row .result) 0 (c .if1 .taken) in
+    let next : L .loop .k ≡ L .loop .k - 8 + 7 + 1 = omega arith in
+    (omega arith, L .loop .inv .1 ∙ reduced-take-row (A .modulus .p) (A .h .now) _ _ 7 next (omega arith) none)
 
-returns-2 : tie.Need-returns-2 Inv-loop μ-loop
+loop2-holds : tie.Need-loop2-holds Inv-loop μ-loop Inv-loop2 μ-loop2
+loop2-holds c = c .before .loop .inv
+
+sub-i : tie.Need-sub-i Inv-loop μ-loop Inv-loop2 μ-loop2
+sub-i c = omega arith
+
+mul-if2 : tie.Need-mul-if2 Inv-loop μ-loop Inv-loop2 μ-loop2
+mul-if2 c = omega arith
+
+shared-slice-read-if2 : tie.Need-shared-slice-read-if2 Inv-loop μ-loop Inv-loop2 μ-loop2
+shared-slice-read-if2 c = omega arith
+
+mul-reduce : tie.Need-mul-reduce Inv-loop μ-loop Inv-loop2 μ-loop2
+mul-reduce c = omega arith
+
+shared-slice-read-reduce : tie.Need-shared-slice-read-reduce Inv-loop μ-loop Inv-loop2 μ-loop2
+shared-slice-read-reduce c = omega arith
+
+reduce-requires : tie.Need-reduce-requires Inv-loop μ-loop Inv-loop2 μ-loop2
+reduce-requires c κs =
+    let L = c .before .before .before .before in
+    let given = L .before .before .before .before .pre in
+    (given .0 .0, given .1 (L .loop2 .k - 1) (omega arith))
+
+returns : tie.Need-returns Inv-loop μ-loop Inv-loop2 μ-loop2
+returns c =
+    let L = c .before .before .before .before .before .before in
+    let A = L .before .before .before .before .args in
+    let value = c .before .reduce .ensures in
+    let counts : getD (A .h .now) (L .loop2 .k - 1) 0 % A .modulus .p ≡ 0 → ⊥ = λ z. c .if3 .taken (value ∙ z) in
+    let next : L .loop2 .k ≡ L .loop2 .k - 1 + 1 = omega arith in
+    let inside : L .loop2 .k ≤ length (A .h .now) = omega arith in (
+      sym (ap length (L .loop2 .inv .1) ∙ size-take (A .modulus .p) (A .h .now) _ _ next inside counts),
+      value ∙ sym (ap (leading _) (L .loop2 .inv .1) ∙ leading-take (A .modulus .p) (A .h .now) _ _ next inside counts),
+    )
+
+loop2-less : tie.Need-loop2-less Inv-loop μ-loop Inv-loop2 μ-loop2
+loop2-less c = omega arith
+
+loop2-again : tie.Need-loop2-again Inv-loop μ-loop Inv-loop2 μ-loop2
+loop2-again c =
+    let L = c .before .before .before .before .before .before in
+    let A = L .before .before .before .before .args in
+    let zero = sym (c .before .reduce .ensures) ∙ c .if3 .left in
+    let next : L .loop2 .k ≡ L .loop2 .k - 1 + 1 = omega arith in
+    (omega arith, L .loop2 .inv .1 ∙ reduced-take-zero (A .modulus .p) (A .h .now) _ _ next (omega arith) zero)
+
+loop2-less-2 : tie.Need-loop2-less-2 Inv-loop μ-loop Inv-loop2 μ-loop2
+loop2-less-2 c = omega arith
+
+loop2-again-2 : tie.Need-loop2-again-2 Inv-loop μ-loop Inv-loop2 μ-loop2
+loop2-again-2 c =
+    let L = c .before .before .before in
+    let A = L .before .before .before .before .args in
+    let next : L .loop2 .k ≡ L .loop2 .k - 1 + 1 = omega arith in
+    (omega arith, L .loop2 .inv .1 ∙ reduced-take-word (A .modulus .p) (A .h .now) _ _ next (omega arith) (c .if2 .left))
+
+returns-2 : tie.Need-returns-2 Inv-loop μ-loop Inv-loop2 μ-loop2
 unfolding leading modulo
 returns-2 c =
     let L = c .before in
-    let A = L .before .before .args in
-    let none = L .loop .inv .1 ∙ reduced-take-none (A .modulus .p) (A .h .now) (L .loop .k) (c .loop-test .left) in
+    let A = L .before .before .before .before .args in
+    let none = L .loop2 .inv .1 ∙ reduced-take-none (A .modulus .p) (A .h .now) (L .loop2 .k) (c .loop2-test .left) in
     (sym (ap length none), sym (ap (leading (modulo (A .modulus .p))) none))
 
 pub find-leading-spec : {M : Type 1} → statement M
@@ -89,16 +112,22 @@ find-leading-spec =
     (tie.spec
     Inv-loop
     μ-loop
+    Inv-loop2
+    μ-loop2
     loop-holds
+    or-of-row-requires
+    loop-less
+    loop-again
+    loop2-holds
     sub-i
-    mul-if1
-    shared-slice-read-if1
+    mul-if2
+    shared-slice-read-if2
     mul-reduce
     shared-slice-read-reduce
     reduce-requires
     returns
-    loop-less
-    loop-again
-    loop-less-2
-    loop-again-2
+    loop2-less
+    loop2-again
+    loop2-less-2
+    loop2-again-2
     returns-2)
