@@ -49,5 +49,7 @@ module _ (limits : Limits) (ss cs : List ℕ) (side : Side) (k from to : ℕ)
       ∙ sym (shows .cut)
       ∙ ap wordsShown (sym (told-part .1))
 
-  pub found-cut : (from ≤ to) × (to ≤ length v) × (take (to - from) (drop from v) ≡ wordsShown (polynomialLookup limits ss cs side k))
+  pub found-cut : (from ≤ to)
+      × (to ≤ length v)
+      × (take (to - from) (drop from v) ≡ wordsShown (polynomialLookup limits ss cs side k))
   found-cut = (found-inside .0, found-inside .1, found-shown)

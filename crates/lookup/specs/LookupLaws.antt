@@ -1,5 +1,5 @@
--- The lookup's equations, and what the part that it shows is: it stands where the polynomial of that number of the values read stands,
--- and has its words. It shows none exactly on a refusal.
+-- The lookup's equations, and what the part that it shows is: it has the place and the words of the polynomial of that number among
+-- the values read. It shows none exactly on a refusal.
 use mathlib.Core.Path.{_≡_, refl, sym, ap, _∙_, subst}
 use mathlib.Core.Logic.{_↔_}
 use mathlib.Core.List.{List, []}

@@ -35,8 +35,9 @@ part-of-requires c κs =
     let f = w .before .enum-told .given in
     let system = ap systemOutcome (sym (e .1)) ∙ r .read-system .ensures in
     let certificate = ap certificateOutcome (sym (f .1)) ∙ y .read-certificate .ensures in
-    find-holding (limitsOf (a .limits)) (a .system .now) (a .certificate .now) (sideOf (a .side)) (a .number) (shapeOf (e .0 .0)) system
-    (formOf (f .0 .0)) certificate (omega (arith, S .good)) (omega (arith, S .good)) (w .words-on .result .now) (w .words-on .ensures)
+    find-holding (limitsOf (a .limits)) (a .system .now) (a .certificate .now) (sideOf (a .side)) (a .number)
+    (shapeOf (e .0 .0)) system (formOf (f .0 .0)) certificate (omega (arith, S .good)) (omega (arith, S .good))
+    (w .words-on .result .now) (w .words-on .ensures)
 
 enum-known-read-2 : tie.Need-enum-known-read-2
 enum-known-read-2 c = search needs
@@ -55,8 +56,9 @@ returns c =
     let f = w .before .enum-told .given in
     let system = ap systemOutcome (sym (e .1)) ∙ r .read-system .ensures in
     let certificate = ap certificateOutcome (sym (f .1)) ∙ y .read-certificate .ensures in
-    find-part (limitsOf (a .limits)) (a .system .now) (a .certificate .now) (sideOf (a .side)) (a .number) (shapeOf (e .0 .0)) system
-    (formOf (f .0 .0)) certificate (omega (arith, S .good)) (omega (arith, S .good)) (w .words-on .result .now) (w .words-on .ensures)
+    find-part (limitsOf (a .limits)) (a .system .now) (a .certificate .now) (sideOf (a .side)) (a .number)
+    (shapeOf (e .0 .0)) system (formOf (f .0 .0)) certificate (omega (arith, S .good)) (omega (arith, S .good))
+    (w .words-on .result .now) (w .words-on .ensures)
     (c .part-of .result) (c .part-of .ensures)
 
 returns-2 : tie.Need-returns-2
