@@ -1,5 +1,5 @@
 -- The whole lookup, from what is told of the system, of the certificate and of the polynomial.
-use mathlib.Core.Path.{_≡_, sym, ap, _∙_, subst}
+use mathlib.Core.Path.{_≡_, sym, ap, _∙_}
 use mathlib.Core.List.{List}
 use Prim.Native.Nat.{ℕ, _≤_}
 use native.Mathlib.Omega.{arith}
@@ -9,27 +9,32 @@ use Rattle.words.specs.Outcome.Outcome.{accepted, refused}
 use Rattle.words.specs.Frame.{Due}
 use Rattle.words.specs.System.{System, Shape, shape, readSystem}
 use Rattle.words.specs.Certificate.{Certificate, Form, certificateForm, readCertificate}
-use Rattle.lookup.specs.Lookup.{Side, on, entriesOn, shown, polynomialLookup}
+use Rattle.lookup.specs.Lookup.{Side, Part, on, entriesOn, shown, polynomialLookup, boundsShown}
+use Rattle.lookup.specs.Answer.{partOutcome}
 use Rattle.lookup.specs.Lookup.Side.{system, certificate}
-use Rattle.lookup.specs.Holding.{Holds, Holding, Finds}
+use Rattle.lookup.specs.Holding.{Holds, Holding}
 use Rattle.words.specs.OutcomeLaws.{mapped-accepted, mapped-refused}
 use Rattle.lookup.specs.FramedLaws.{FramedIn, system-framed, certificate-framed, framed-size}
 use Rattle.lookup.specs.LookupLaws.{lookup-system-refused, lookup-certificate-refused, lookup-read}
-use Rattle.lookup.specs.declared.part.Part.{Part}
+use Rattle.lookup.specs.declared.part.Part.{Part as PartValue}
 use Rattle.lookup.specs.declared.part.Part.the-variants.{Refused}
 
 holds : {ws : List ℕ} {due : Due} {fs : List (List ℕ)} → due .limit ≤ 65535 → FramedIn ws due fs → Holds ws fs
 holds few f = record { head = f .head; words = f .words; sizes = λ k. let s = framed-size f k in omega arith }
 
 module _ (limits : Limits) (ss cs : List ℕ) (side : Side) (k : ℕ) where
-  abbrev pub Told : Outcome (List ℕ)
+  abbrev pub Told : Outcome Part
   Told = polynomialLookup limits ss cs side k
 
+  -- a value of the code tells the part
+  abbrev pub Tells : PartValue → Type 0
+  Tells r = partOutcome r ≡ boundsShown Told
+
   pub find-system-refused : (number place : ℕ) → refused number place ≡ mapped shape (readSystem limits ss)
-      → Finds (on side ss cs) Told (Refused number place)
+      → Tells (Refused number place)
   find-system-refused number place t =
       let e = mapped-refused shape (readSystem limits ss) (sym t) in
-      record { outcome = sym (lookup-system-refused limits ss cs side k number place e); inside = tt }
+      ap boundsShown (sym (lookup-system-refused limits ss cs side k number place e))
 
   module _ (h : Shape) (told : accepted h ≡ mapped shape (readSystem limits ss)) where
     read-system : (s : System) × (readSystem limits ss ≡ accepted s) × (shape s ≡ h)
@@ -45,11 +50,11 @@ module _ (limits : Limits) (ss cs : List ℕ) (side : Side) (k : ℕ) where
     of-shape t = t ∙ ap (λ (g : Shape). mapped certificateForm (readCertificate limits g cs)) (sym (read-system .2))
 
     pub find-certificate-refused : (number place : ℕ) → refused number place ≡ mapped certificateForm (readCertificate limits h cs)
-        → Finds (on side ss cs) Told (Refused number place)
+        → Tells (Refused number place)
     unfolding s
     find-certificate-refused number place t =
         let e = mapped-refused certificateForm (readCertificate limits (shape s) cs) (sym (of-shape t)) in
-        record { outcome = sym (lookup-certificate-refused limits ss cs side k s (read-system .1) number place e); inside = tt }
+        ap boundsShown (sym (lookup-certificate-refused limits ss cs side k s (read-system .1) number place e))
 
     module _ (form : Form) (told′ : accepted form ≡ mapped certificateForm (readCertificate limits h cs)) where
       read-certificate : (c : Certificate) × (readCertificate limits (shape s) cs ≡ accepted c) × (certificateForm c ≡ form)
@@ -67,10 +72,10 @@ module _ (limits : Limits) (ss cs : List ℕ) (side : Side) (k : ℕ) where
         pub find-holding : (ws : List ℕ) → ws ≡ on side ss cs → Holding ws
         find-holding ws e = rw e (_, holds-on side)
 
-        pub find-part : (ws : List ℕ) → ws ≡ on side ss cs → (r : Part) → ((fs : List (List ℕ)) → Holds ws fs → Finds ws (shown k fs) r)
-            → Finds (on side ss cs) Told r
+        pub find-part : (ws : List ℕ) → ws ≡ on side ss cs → (r : PartValue)
+            → ((fs : List (List ℕ)) → Holds ws fs → partOutcome r ≡ boundsShown (shown k fs))
+            → Tells r
         unfolding s c
         find-part ws e r found =
             let told = lookup-read limits ss cs side k s (read-system .1) c (read-certificate .1) in
-            let f = found (entriesOn side s c) (rw e (holds-on side)) in
-            rw (← e) (record { outcome = f .outcome ∙ sym told; inside = f .inside })
+            found (entriesOn side s c) (rw e (holds-on side)) ∙ ap boundsShown (sym told)

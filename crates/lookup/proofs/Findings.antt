@@ -1,34 +1,55 @@
 -- What was found, for the two who tell of it: the part that is shown, or the refusal.
-use mathlib.Core.Path.{_≡_, refl, sym, ap, _∙_, subst}
+use mathlib.Core.Path.{_≡_, refl, sym, ap, _∙_}
 use mathlib.Core.List.{List, []}
-use Prim.Native.Nat.{ℕ, _-_, _≤_}
+use Prim.Native.Nat.{ℕ, _+_, _-_, _≤_}
+use native.Mathlib.Omega.{arith}
 use lib.ListN.{length, take, drop}
+use Rattle.words.specs.Limits.{Limits}
 use Rattle.words.specs.Outcome.{Outcome}
 use Rattle.words.specs.Outcome.Outcome.{accepted, refused}
-use Rattle.lookup.specs.Lookup.{wordsShown, companion}
-use Rattle.lookup.specs.Holding.{partOutcome, Inside, Finds}
-use Rattle.lookup.specs.declared.part.Part.{Part}
-use Rattle.lookup.specs.declared.part.Part.the-variants.{Words, Refused}
+use Rattle.words.specs.OutcomeLaws.{mapped-accepted, mapped-refused}
+use Rattle.lookup.specs.Lookup.{Side, Part, on, polynomialLookup, wordsShown, companion, bounds, boundsShown}
+use Rattle.lookup.specs.LookupLaws.{Shows, lookup-shown}
 
-module _ {ws : List ℕ} {told : Outcome (List ℕ)} {r : Part} (f : Finds ws told r) where
-  as-found : (p : Part) → r ≡ p → told ≡ partOutcome ws p
-  as-found p e = sym (f .outcome) ∙ ap (partOutcome ws) e
+module _ (told : Outcome Part) where
+  pub found-companion : (b : ℕ × ℕ) → accepted b ≡ boundsShown told → accepted tt ≡ companion told
+  found-companion b found = rw (mapped-accepted bounds told (sym found) .1) refl
 
-  module _ (from to : ℕ) (e : r ≡ Words from to) where
-    pub found-companion : accepted tt ≡ companion told
-    found-companion = rw (as-found (Words from to) e) refl
-
-    -- in the words v, which are those in which it was found
-    module _ (v : List ℕ) (same : v ≡ ws) where
-      pub found-inside : (from ≤ to) × (to ≤ length v)
-      found-inside = rw same (subst (Inside ws) e (f .inside))
-
-      pub found-shown : take (to - from) (drop from v) ≡ wordsShown told
-      found-shown = rw (same, as-found (Words from to) e) refl
-
-  module _ (number place : ℕ) (e : r ≡ Refused number place) where
+  module _ (number place : ℕ) (found : refused number place ≡ boundsShown told) where
     pub refused-companion : refused number place ≡ companion told
-    refused-companion = rw (as-found (Refused number place) e) refl
+    refused-companion = rw (mapped-refused bounds told (sym found)) refl
 
     pub refused-empty : [] ≡ wordsShown told
-    refused-empty = rw (as-found (Refused number place) e) refl
+    refused-empty = rw (mapped-refused bounds told (sym found)) refl
+
+-- in the words v, which are those of the side
+module _ (limits : Limits) (ss cs : List ℕ) (side : Side) (k from to : ℕ)
+    (found : accepted (from, to) ≡ boundsShown (polynomialLookup limits ss cs side k)) (v : List ℕ) (same : v ≡ on side ss cs) where
+  told-part : (part : Part) × (polynomialLookup limits ss cs side k ≡ accepted part) × (bounds part ≡ (from, to))
+  told-part = mapped-accepted bounds (polynomialLookup limits ss cs side k) (sym found)
+
+  shows : Shows limits ss cs side k (told-part .0)
+  shows = lookup-shown limits ss cs side k (told-part .0) (told-part .1)
+
+  starts : told-part .0 .from ≡ from
+  starts = ap (λ (b : ℕ × ℕ). b .0) (told-part .2)
+
+  ends : told-part .0 .from + length (told-part .0 .words) ≡ to
+  ends = ap (λ (b : ℕ × ℕ). b .1) (told-part .2)
+
+  found-inside : (from ≤ to) × (to ≤ length v)
+  found-inside = rw same (omega (arith, starts, ends), omega (arith, ends, shows .inside))
+
+  found-shown : take (to - from) (drop from v) ≡ wordsShown (polynomialLookup limits ss cs side k)
+  found-shown =
+      let n : to - from ≡ length (told-part .0 .words) = omega (arith, starts, ends) in
+      ap (take (to - from)) (ap (drop from) same)
+      ∙ ap (λ (i : ℕ). take i (drop from (on side ss cs))) n
+      ∙ ap (λ (i : ℕ). take (length (told-part .0 .words)) (drop i (on side ss cs))) (sym starts)
+      ∙ sym (shows .cut)
+      ∙ ap wordsShown (sym (told-part .1))
+
+  pub found-cut : (from ≤ to)
+      × (to ≤ length v)
+      × (take (to - from) (drop from v) ≡ wordsShown (polynomialLookup limits ss cs side k))
+  found-cut = (found-inside .0, found-inside .1, found-shown)

@@ -2,10 +2,10 @@
 use mathlib.Core.Path.{_≡_, refl, sym, ap, _∙_}
 use mathlib.Core.Bool.{Bool, true, false}
 use mathlib.Core.List.{List, [], _∷_, _++_}
-use Prim.Native.Nat.{ℕ, suc, _+_, _-_, _≤_, _<_}
+use Prim.Native.Nat.{ℕ, suc, _+_, _≤_, _<_}
 use native.Mathlib.Omega.{arith}
-use lib.ListN.{length, getD, take, drop, length-append, length-drop, drop-of-length-le}
-use lib.Seq.{getD-drop, take-at, take-all}
+use lib.ListN.{length, getD, drop, length-append, length-drop, drop-of-length-le}
+use lib.Seq.{getD-drop, take-all}
 use lib.Dec.{leb}
 use borrow.Author.Tests.{leb-true, leb-false, le-leb, lt-leb}
 use Rattle.words.specs.Word.{kind, payload, word}
@@ -14,9 +14,10 @@ use Rattle.words.specs.Polynomial.{polynomialWords, polynomialsWords}
 use Rattle.words.specs.Frame.{endWord, entryPlace}
 use Rattle.words.specs.PolynomialLaws.{length-polynomialWords}
 use Rattle.words.specs.PlaceLaws.{entry-words, entryPlace-zero, entryPlace-next}
-use Rattle.lookup.specs.Lookup.{shown}
-use Rattle.lookup.specs.FramedLaws.{polynomial-from}
-use Rattle.lookup.specs.Holding.{Holds, Holding, Stands, Finds}
+use Rattle.lookup.specs.Lookup.{partOf, shown, bounds, boundsShown}
+use Rattle.lookup.specs.Answer.{partOutcome}
+use Rattle.lookup.specs.FramedLaws.{polynomial-from, polynomial-inside}
+use Rattle.lookup.specs.Holding.{Holds, Holding, Stands}
 use Rattle.lookup.specs.declared.part.Part.the-variants.{Words, Refused}
 
 -- ---- what stands at a place
@@ -57,7 +58,7 @@ module _ {ws : List ℕ} {fs : List (List ℕ)} (h : Holds ws fs) (k at : ℕ) (
     start-count : payload (getD ws at 0) ≡ length f
     start-count = let s = h .sizes k in omega (arith, start-word)
 
-    pub shown-some : shown k fs ≡ accepted (polynomialWords f)
+    pub shown-some : shown k fs ≡ accepted (partOf fs k)
     shown-some = simp (lt-leb _ _ some)
 
     -- the place behind it, by the number of coefficients that its start word has
@@ -65,22 +66,15 @@ module _ {ws : List ℕ} {fs : List (List ℕ)} (h : Holds ws fs) (k at : ℕ) (
       pub next-place : at + 1 + count ≡ entryPlace fs (suc k)
       next-place = omega (arith, entryPlace-next fs k some, start-count)
 
-      pub next-inside : at + 1 + count ≤ length ws
-      next-inside =
-          omega (
-            arith,
-            start-count,
-            length-drop at ws,
-            ap length (start-left .1),
-            length-append (polynomialWords f) (start-left .0),
-            length-polynomialWords f,
-          )
+      part-end : at + 1 + count ≡ entryPlace fs k + length (polynomialWords f)
+      part-end = omega (arith, place, start-count, length-polynomialWords f)
 
-      -- the words from the one place to the other
-      pub part-words : take (at + 1 + count - at) (drop at ws) ≡ polynomialWords f
-      part-words =
-          let n : length (polynomialWords f) ≡ at + 1 + count - at = omega (arith, start-count, length-polynomialWords f) in
-          ap (take (at + 1 + count - at)) (start-left .1) ∙ take-at (polynomialWords f) (start-left .0) (at + 1 + count - at) n
+      pub next-inside : at + 1 + count ≤ length ws
+      next-inside = omega (arith, part-end, polynomial-inside ws (h .head) fs (h .words) k some)
+
+      -- from the one place to the other
+      pub part-bounds : (at, at + 1 + count) ≡ bounds (partOf fs k)
+      part-bounds = rw (part-end, place) refl
 
   -- the end word
   module _ (none : length fs ≤ k) where
@@ -131,10 +125,10 @@ module _ {ws : List ℕ} {k at : ℕ} (s : Stands ws k at) where
           e ∙ rw (take-all k fs n, take-all j fs (omega arith)) refl;
     }
 
-    pub stands-none : (fs : List (List ℕ)) → Holds ws fs → Finds ws (shown k fs) (Refused 12 0)
+    pub stands-none : (fs : List (List ℕ)) → Holds ws fs → partOutcome (Refused 12 0) ≡ boundsShown (shown k fs)
     stands-none fs h =
         let e = s .place fs h in
-        record { outcome = sym (shown-none h k at e (none-by-kind h k at e other)); inside = tt }
+        ap boundsShown (sym (shown-none h k at e (none-by-kind h k at e other)))
 
   -- a polynomial with so many coefficients
   module _ (two : kind (getD ws at 0) ≡ 2) (count : ℕ) (counted : count ≡ payload (getD ws at 0)) where
@@ -150,11 +144,8 @@ module _ {ws : List ℕ} {k at : ℕ} (s : Stands ws k at) where
           next-place h k at e (some-by-kind h k at e two) count counted;
     }
 
-    pub stands-shown : (fs : List (List ℕ)) → Holds ws fs → Finds ws (shown k fs) (Words at (at + 1 + count))
+    pub stands-shown : (fs : List (List ℕ)) → Holds ws fs → partOutcome (Words at (at + 1 + count)) ≡ boundsShown (shown k fs)
     stands-shown fs h =
         let e = s .place fs h in
         let some = some-by-kind h k at e two in
-        record {
-          outcome = ap accepted (part-words h k at e some count counted) ∙ sym (shown-some h k at e some);
-          inside = (omega arith, next-inside h k at e some count counted);
-        }
+        ap accepted (part-bounds h k at e some count counted) ∙ ap boundsShown (sym (shown-some h k at e some))

@@ -1,4 +1,5 @@
--- What the code's values say: the side asked for, and the number and the place of document 01's table.
+-- What the code's values say: the side asked for, where the polynomial stands, and the number and the place of document 01's table.
+use Prim.Native.Nat.{ℕ}
 use Rattle.words.specs.Outcome.{Outcome}
 use Rattle.words.specs.Outcome.Outcome.{accepted, refused}
 use Rattle.lookup.specs.Lookup.{Side}
@@ -7,6 +8,8 @@ use Rattle.lookup.specs.declared.Side.{Side as SideValue}
 use Rattle.lookup.specs.declared.Side.the-variants.{System, Certificate}
 use Rattle.lookup.specs.declared.Found.{Found}
 use Rattle.lookup.specs.declared.Found.the-variants.{Shown, Refused}
+use Rattle.lookup.specs.declared.part.Part.{Part}
+use Rattle.lookup.specs.declared.part.Part.the-variants.{Words, Refused as RefusedPart}
 
 abbrev pub sideOf : SideValue → Side
 sideOf System = system
@@ -16,3 +19,8 @@ sideOf Certificate = certificate
 abbrev pub foundOutcome : Found → Outcome (Unit {0})
 foundOutcome Shown = accepted tt
 foundOutcome (Refused number place) = refused number place
+
+-- from one place up to before another, or why nowhere
+abbrev pub partOutcome : Part → Outcome (ℕ × ℕ)
+partOutcome (Words from to) = accepted (from, to)
+partOutcome (RefusedPart number place) = refused number place

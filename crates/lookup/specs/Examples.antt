@@ -3,8 +3,10 @@ use mathlib.Core.Path.{_≡_, refl}
 use mathlib.Core.List.{List, [], _∷_, map}
 use Prim.Native.Nat.{ℕ}
 use Rattle.words.specs.Limits.{office}
+use Rattle.words.specs.Polynomial.{polynomialsWords}
+use Rattle.words.specs.Outcome.{Outcome}
 use Rattle.words.specs.Outcome.Outcome.{accepted, refused}
-use Rattle.lookup.specs.Lookup.{polynomialLookup}
+use Rattle.lookup.specs.Lookup.{Part, polynomialLookup}
 use Rattle.lookup.specs.Lookup.Side.{system, certificate}
 
 system-words : List ℕ
@@ -22,14 +24,19 @@ x = 0x20000002 ∷ 0x30000000 ∷ 0x30000001 ∷ []
 one : List ℕ
 one = 0x20000001 ∷ 0x30000001 ∷ []
 
+abbrev at : ℕ → List ℕ → Outcome Part
+at from words = accepted (record { from = from; words = words })
+
 -- x, then 1, then no more
-system-words-shown : map (polynomialLookup office system-words certificate-words system) (0 ∷ 1 ∷ 2 ∷ []) ≡ accepted x ∷ accepted one ∷ refused 12 0 ∷ []
-unfolding polynomialLookup system-words certificate-words x one
+system-words-shown : map (polynomialLookup office system-words certificate-words system) (0 ∷ 1 ∷ 2 ∷ [])
+    ≡ at 1 x ∷ at 4 one ∷ refused 12 0 ∷ []
+unfolding polynomialLookup polynomialsWords system-words certificate-words x one
 system-words-shown = refl
 
+-- equal words at another place are another part
 certificate-words-shown : map (polynomialLookup office system-words certificate-words certificate) (0 ∷ 1 ∷ 2 ∷ 3 ∷ 4 ∷ [])
-    ≡ accepted x ∷ accepted one ∷ accepted x ∷ accepted one ∷ refused 12 0 ∷ []
-unfolding polynomialLookup system-words certificate-words x one
+    ≡ at 1 x ∷ at 4 one ∷ at 6 x ∷ at 9 one ∷ refused 12 0 ∷ []
+unfolding polynomialLookup polynomialsWords system-words certificate-words x one
 certificate-words-shown = refl
 
 -- both are read, whichever is asked for, and the system first

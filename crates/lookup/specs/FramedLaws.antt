@@ -4,7 +4,7 @@ use mathlib.Core.Path.{_≡_, refl, sym, ap, _∙_, subst}
 use mathlib.Core.List.{List, [], _∷_, _++_, append-assoc}
 use Prim.Native.Nat.{ℕ, suc, _+_, _*_, _≤_, _<_}
 use native.Mathlib.Omega.{arith}
-use lib.ListN.{length, getD, take, drop, length-append, take-append-drop}
+use lib.ListN.{length, getD, take, drop, length-append, length-drop, take-append-drop}
 use lib.Seq.{drop-cons, take-at}
 use Rattle.words.specs.Limits.{Limits}
 use Rattle.words.specs.Word.{word}
@@ -18,6 +18,7 @@ use Rattle.words.specs.System.{headWord, systemHeadFrom, systemDue, systemOf, s
 use Rattle.words.specs.Certificate.{Certificate, certificateForm, certificateEntries, readCertificate}
 use Rattle.words.specs.Certificate.{formWord, certificateDue, certificateWords}
 use Rattle.words.specs.ReadingLaws.{andThen-read, renumber-read, outcome-accepted}
+use Rattle.words.specs.PolynomialLaws.{length-polynomialWords}
 use Rattle.words.specs.PlaceLaws.{entry-words}
 use Rattle.words.specs.VectorLaws.{all-at}
 use Rattle.words.specs.FrameLaws.{Entries, body-read}
@@ -92,6 +93,17 @@ module _ (ws : List ℕ) (head : ℕ) (fs : List (List ℕ)) (framed : ws ≡ fr
             ∙ entry-words head fs k
             ∙ ap (λ (gs : List (List ℕ)). polynomialsWords gs ++ end) (drop-cons fs k [] some)
             ∙ append-assoc (polynomialWords f) rest end,
+      )
+
+  pub polynomial-inside : entryPlace fs k + length (polynomialWords f) ≤ length ws
+  polynomial-inside =
+      let t = polynomial-from in
+      omega (
+        arith,
+        length-drop (entryPlace fs k) ws,
+        ap length (t .1),
+        length-append (polynomialWords f) (t .0),
+        length-polynomialWords f,
       )
 
   -- the words from its start word to its last coefficient

@@ -1,6 +1,6 @@
 -- The lookup (document 01, end of "Turned back"): it "reads sheet and card likewise, then tries 12 and none of 31 to 36, then shows
 -- one polynomial of either".
-use Prim.Native.Nat.{ℕ}
+use Prim.Native.Nat.{ℕ, _+_}
 use mathlib.Core.List.{List, []}
 use lib.ListN.{length, getD}
 use lib.Dec.{leb}
@@ -8,6 +8,7 @@ use Rattle.words.specs.Limits.{Limits}
 use Rattle.words.specs.Outcome.{Outcome, refuse, followedBy, mapped}
 use Rattle.words.specs.Outcome.Outcome.{accepted, refused}
 use Rattle.words.specs.Polynomial.{polynomialWords}
+use Rattle.words.specs.Frame.{entryPlace}
 use Rattle.words.specs.System.{System, shape, systemEntries, readSystem}
 use Rattle.words.specs.Certificate.{Certificate, certificateEntries, readCertificate}
 
@@ -25,22 +26,38 @@ on certificate a b = b
 abbrev pub entriesOn : Side → System → Certificate → List (List ℕ)
 entriesOn side s c = on side (systemEntries s) (certificateEntries c)
 
--- the words of the polynomial of that number, "from its start word to its last coefficient"
-abbrev pub shown : ℕ → List (List ℕ) → Outcome (List ℕ)
-shown k fs = refuse (leb (length fs) k) 12 0 (accepted (polynomialWords (getD fs k [])))  -- 12: no polynomial of that number; 0
+-- "that part of the lent words": the place of its first word, and its words
+pub record Part : Type 0 where
+  pub from : ℕ
+  pub words : List ℕ
 
-unfoldable pub polynomialLookup : Limits → List ℕ → List ℕ → Side → ℕ → Outcome (List ℕ)
-unfolding readSystem readCertificate certificateEntries polynomialWords
+-- a polynomial's, "from its start word to its last coefficient"
+abbrev pub partOf : List (List ℕ) → ℕ → Part
+partOf fs k = record { from = entryPlace fs k; words = polynomialWords (getD fs k []) }
+
+-- the polynomial of that number
+abbrev pub shown : ℕ → List (List ℕ) → Outcome Part
+shown k fs = refuse (leb (length fs) k) 12 0 (accepted (partOf fs k))  -- 12: no polynomial of that number; 0
+
+unfoldable pub polynomialLookup : Limits → List ℕ → List ℕ → Side → ℕ → Outcome Part
+unfolding readSystem readCertificate certificateEntries polynomialWords entryPlace
 polynomialLookup limits ss cs side k =
     followedBy (readSystem limits ss) (λ s.
     followedBy (readCertificate limits (shape s) cs) (λ c.
     shown k (entriesOn side s c)))
 
 -- "On a refusal the part is empty"
-abbrev pub wordsShown : Outcome (List ℕ) → List ℕ
-wordsShown (accepted ws) = ws
+abbrev pub wordsShown : Outcome Part → List ℕ
+wordsShown (accepted part) = part .words
 wordsShown (refused number place) = []
 
 -- "a companion call on the same words gives number and place"
-abbrev pub companion : Outcome (List ℕ) → Outcome (Unit {0})
-companion told = mapped (λ ws. tt) told
+abbrev pub companion : Outcome Part → Outcome (Unit {0})
+companion told = mapped (λ part. tt) told
+
+-- where a part stands: from its first word up to before the second place
+abbrev pub bounds : Part → ℕ × ℕ
+bounds part = (part .from, part .from + length (part .words))
+
+abbrev pub boundsShown : Outcome Part → Outcome (ℕ × ℕ)
+boundsShown told = mapped bounds told

@@ -1,6 +1,6 @@
-// The lookup of one polynomial of a system or of a certificate (document 01, end of "Turned back"). `lookup` gives its words as a
-// part of the lent words, and its companion `lookup_refusal` says why there are none.
-mod part;
+// The lookup of one polynomial of a system or of a certificate (document 01, end of "Turned back"). `lookup_part` says where it
+// stands, `lookup` gives that part of the lent words, and its companion `lookup_refusal` says why there is none.
+pub mod part;
 
 use crate::part::Part;
 use crate::part::part_of;
@@ -11,9 +11,8 @@ use reader::system::SystemRead;
 use reader::system::read_system;
 ghost use mathlib.Core.Path.{_≡_};
 ghost use Rattle.limits.specs.Value.{limitsOf};
-ghost use Rattle.lookup.specs.Lookup.{on, polynomialLookup, wordsShown, companion};
-ghost use Rattle.lookup.specs.Answer.{sideOf, foundOutcome};
-ghost use Rattle.lookup.specs.Holding.{Finds};
+ghost use Rattle.lookup.specs.Lookup.{on, polynomialLookup, wordsShown, companion, boundsShown};
+ghost use Rattle.lookup.specs.Answer.{sideOf, foundOutcome, partOutcome};
 
 // Where the polynomial is to be looked up.
 pub enum Side {
@@ -41,16 +40,17 @@ fn words_on<'a>(side: Side, system: &'a [u32], certificate: &'a [u32]) -> &'a [u
     }
 }
 
-// Reads both, then finds the polynomial.
-fn find<'a>(
+// Where polynomial `number` of the side that is asked for stands, from its start word to its last coefficient. Both sides are read
+// first. The contract gives the place by numbers; that of a slice gives its words, and two polynomials may have equal words.
+pub fn lookup_part<'a>(
     system: &'a [u32],
     certificate: &'a [u32],
     side: Side,
     number: usize,
     limits: Limits,
 ) -> Part
-    ensures { λ r. ⌜ Finds (on (sideOf side) (now (system .entry)) (now (certificate .entry)))
-        (polynomialLookup (limitsOf limits) (now (system .entry)) (now (certificate .entry)) (sideOf side) number) r ⌝ }
+    ensures { λ r. ⌜ partOutcome r ≡
+        boundsShown (polynomialLookup (limitsOf limits) (now (system .entry)) (now (certificate .entry)) (sideOf side) number) ⌝ }
 {
     let read = read_system(system, limits);
     match read {
@@ -68,7 +68,7 @@ fn find<'a>(
     }
 }
 
-// The words of polynomial `number` of the side that is asked for: that part of the lent words, empty on a refusal.
+// The part that `lookup_part` tells of the lent words: the words of that polynomial; empty on a refusal.
 pub fn lookup<'a>(
     system: &'a [u32],
     certificate: &'a [u32],
@@ -80,7 +80,7 @@ pub fn lookup<'a>(
         wordsShown (polynomialLookup (limitsOf limits) (now (system .entry)) (now (certificate .entry)) (sideOf side) number) ⌝ }
 {
     let words = words_on(side, system, certificate);
-    let part = find(system, certificate, side, number, limits);
+    let part = lookup_part(system, certificate, side, number, limits);
     match part {
         Part::Words(from, to) => &words[from..to],
         Part::Refused(_, _) => &words[..0],
@@ -98,7 +98,7 @@ pub fn lookup_refusal<'a>(
     ensures { λ r. ⌜ foundOutcome r ≡
         companion (polynomialLookup (limitsOf limits) (now (system .entry)) (now (certificate .entry)) (sideOf side) number) ⌝ }
 {
-    let part = find(system, certificate, side, number, limits);
+    let part = lookup_part(system, certificate, side, number, limits);
     match part {
         Part::Words(_, _) => Found::Shown,
         Part::Refused(refusal, place) => Found::Refused(refusal, place),

@@ -2,14 +2,16 @@
 // coefficients stand behind it.
 use reader::word::kind_of;
 use reader::word::payload_of;
+ghost use mathlib.Core.Path.{_≡_};
 ghost use mathlib.Core.List.{List};
 ghost use Prim.Native.Nat.{ℕ};
-ghost use Rattle.lookup.specs.Lookup.{shown};
-ghost use Rattle.lookup.specs.Holding.{Holds, Holding, Stands, Finds};
+ghost use Rattle.lookup.specs.Lookup.{shown, boundsShown};
+ghost use Rattle.lookup.specs.Answer.{partOutcome};
+ghost use Rattle.lookup.specs.Holding.{Holds, Holding, Stands};
 
-// What is found of a polynomial.
+// Where a polynomial stands in the words of its side.
 pub enum Part {
-    // It stands in the words from the first place up to before the second.
+    // From the first place up to before the second.
     Words(usize, usize),
     // The number of the refusal, and its place.
     Refused(u8, usize),
@@ -33,10 +35,10 @@ fn start_of(words: &[u32], number: usize) -> usize
     at
 }
 
-// The polynomial of that number.
+// Where the polynomial of that number stands.
 pub fn part_of(words: &[u32], number: usize) -> Part
     requires { ⌜ Holding (now words) ⌝ }
-    ensures { λ r. ⌜ ((fs : List (List ℕ)) → Holds (now (words .entry)) fs → Finds (now (words .entry)) (shown number fs) r) ⌝ }
+    ensures { λ r. ⌜ ((fs : List (List ℕ)) → Holds (now (words .entry)) fs → partOutcome r ≡ boundsShown (shown number fs)) ⌝ }
 {
     let from = start_of(words, number);
     let word = words[from];

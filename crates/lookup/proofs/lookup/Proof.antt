@@ -1,49 +1,69 @@
 -- `lookup::lookup` meets its contract: what was found is that part of the words.
-use Rattle.lookup.proofs.Findings.{found-inside, found-shown, refused-empty}
+use mathlib.Core.Path.{_≡_, sym, ap, _∙_}
+use mathlib.Core.List.{List}
+use Prim.Native.Nat.{ℕ, _-_, _≤_}
+use lib.ListN.{length, take, drop}
+use Rattle.words.specs.Outcome.{Outcome}
+use Rattle.limits.specs.Value.{limitsOf}
+use Rattle.lookup.specs.Lookup.{Part, polynomialLookup, wordsShown, boundsShown}
+use Rattle.lookup.specs.Answer.{sideOf, partOutcome}
+use Rattle.lookup.specs.declared.part.Part.{Part as PartValue}
+use Rattle.lookup.proofs.Findings.{found-cut, refused-empty}
 use borrow.Author.Needs.{needs}
 use Rattle.lookup.proofs.lookup.Statement.{statement}
 use Rattle.lookup.proofs.lookup.Tie as tie
 
+abbrev entry : tie.After-lookup-part → tie.Start
+entry f = f .before .before .before .before
+
+abbrev told : tie.After-lookup-part → Outcome Part
+told f =
+    let a = entry f .args in
+    polynomialLookup (limitsOf (a .limits)) (a .system .now) (a .certificate .now) (sideOf (a .side)) (a .number)
+
+found : (f : tie.After-lookup-part) (p : PartValue) → f .lookup-part .result ≡ p → partOutcome p ≡ boundsShown (told f)
+found f p e = ap partOutcome (sym e) ∙ f .lookup-part .ensures
+
+-- a part that was found
+module _ (p : tie.After-part) where
+  abbrev f : tie.After-lookup-part
+  f = p .before .before
+
+  abbrev from : ℕ
+  from = p .part .given .0 .0
+
+  abbrev to : ℕ
+  to = p .part .given .0 .1 .0
+
+  abbrev words : List ℕ
+  words = f .before .words-on .result .now
+
+  cut : (from ≤ to) × (to ≤ length words) × (take (to - from) (drop from words) ≡ wordsShown (told f))
+  cut =
+      let a = entry f .args in
+      found-cut (limitsOf (a .limits)) (a .system .now) (a .certificate .now) (sideOf (a .side)) (a .number) from to
+      (found f _ (p .part .given .1)) words (f .before .words-on .ensures)
+
 words-on-requires : tie.Need-words-on-requires
 words-on-requires c κs = search needs
 
-find-requires : tie.Need-find-requires
-find-requires c κs = search needs
+lookup-part-requires : tie.Need-lookup-part-requires
+lookup-part-requires c κs = search needs
 
 enum-known-part : tie.Need-enum-known-part
 enum-known-part c = search needs
 
 mul-result : tie.Need-mul-result
-mul-result c =
-    let f = c .before .before .before in
-    let e = c .before .part .given in
-    let w = f .before .words-on in
-    let h = found-inside (f .find .ensures) (e .0 .0) (e .0 .1 .0) (e .1) (w .result .now) (w .ensures) in
-    search needs
+mul-result c = let h = cut (c .before) in search needs
 
 sub-result : tie.Need-sub-result
-sub-result c =
-    let f = c .before .before .before in
-    let e = c .before .part .given in
-    let w = f .before .words-on in
-    let h = found-inside (f .find .ensures) (e .0 .0) (e .0 .1 .0) (e .1) (w .result .now) (w .ensures) in
-    search needs
+sub-result c = let h = cut (c .before) in search needs
 
 part-result-start : tie.Need-part-result-start
-part-result-start c =
-    let f = c .before .before .before in
-    let e = c .before .part .given in
-    let w = f .before .words-on in
-    let h = found-inside (f .find .ensures) (e .0 .0) (e .0 .1 .0) (e .1) (w .result .now) (w .ensures) in
-    search needs
+part-result-start c = let h = cut (c .before) in search needs
 
 part-result-end : tie.Need-part-result-end
-part-result-end c =
-    let f = c .before .before .before in
-    let e = c .before .part .given in
-    let w = f .before .words-on in
-    let h = found-inside (f .find .ensures) (e .0 .0) (e .0 .1 .0) (e .1) (w .result .now) (w .ensures) in
-    search needs
+part-result-end c = let h = cut (c .before) in search needs
 
 enum-told : tie.Need-enum-told
 enum-told c = search needs
@@ -52,23 +72,20 @@ slice-aggregate-result : tie.Need-slice-aggregate-result
 slice-aggregate-result c = search needs
 
 returns : tie.Need-returns
-returns c =
-    let f = c .before .before .before .before in
-    let e = c .before .before .part .given in
-    let w = f .before .words-on in
-    found-shown (f .find .ensures) (e .0 .0) (e .0 .1 .0) (e .1) (w .result .now) (w .ensures)
+returns c = cut (c .before .before) .2
 
 returns-2 : tie.Need-returns-2
 returns-2 c =
     let e = c .before .enum-told .given in
-    refused-empty (c .before .before .before .find .ensures) _ _ (e .1)
+    let f = c .before .before .before in
+    refused-empty (told f) _ _ (found f _ (e .1))
 
 pub lookup-spec : {M : Type 1} → statement M
 lookup-spec =
     tie.close
     (tie.spec
     words-on-requires
-    find-requires
+    lookup-part-requires
     enum-known-part
     mul-result
     sub-result

@@ -1,11 +1,25 @@
 -- `lookup::lookup_refusal` meets its contract: that something was found, or why not.
+use mathlib.Core.Path.{_≡_, sym, ap, _∙_}
+use Rattle.words.specs.Outcome.{Outcome}
+use Rattle.limits.specs.Value.{limitsOf}
+use Rattle.lookup.specs.Lookup.{Part, polynomialLookup, boundsShown}
+use Rattle.lookup.specs.Answer.{sideOf, partOutcome}
+use Rattle.lookup.specs.declared.part.Part.{Part as PartValue}
 use Rattle.lookup.proofs.Findings.{found-companion, refused-companion}
 use borrow.Author.Needs.{needs}
 use Rattle.lookup.proofs.lookup_refusal.Statement.{statement}
 use Rattle.lookup.proofs.lookup_refusal.Tie as tie
 
-find-requires : tie.Need-find-requires
-find-requires c κs = search needs
+abbrev told : tie.After-lookup-part → Outcome Part
+told f =
+    let a = f .before .before .before .args in
+    polynomialLookup (limitsOf (a .limits)) (a .system .now) (a .certificate .now) (sideOf (a .side)) (a .number)
+
+found : (f : tie.After-lookup-part) (p : PartValue) → f .lookup-part .result ≡ p → partOutcome p ≡ boundsShown (told f)
+found f p e = ap partOutcome (sym e) ∙ f .lookup-part .ensures
+
+lookup-part-requires : tie.Need-lookup-part-requires
+lookup-part-requires c κs = search needs
 
 enum-told : tie.Need-enum-told
 enum-told c = search needs
@@ -16,13 +30,15 @@ enum-known-part c = search needs
 returns : tie.Need-returns
 returns c =
     let e = c .enum-told .given in
-    found-companion (c .before .before .find .ensures) _ _ (e .1)
+    let f = c .before .before in
+    found-companion (told f) _ (found f _ (e .1))
 
 returns-2 : tie.Need-returns-2
 returns-2 c =
     let e = c .before .part .given in
-    refused-companion (c .before .before .before .find .ensures) _ _ (e .1)
+    let f = c .before .before .before in
+    refused-companion (told f) _ _ (found f _ (e .1))
 
 pub lookup-refusal-spec : {M : Type 1} → statement M
 lookup-refusal-spec =
-    tie.close (tie.spec find-requires enum-told enum-known-part returns returns-2)
+    tie.close (tie.spec lookup-part-requires enum-told enum-known-part returns returns-2)

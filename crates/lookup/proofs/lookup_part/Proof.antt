@@ -1,4 +1,4 @@
--- `lookup::find` meets its contract, from what the two readers tell and what is found in the words of the side.
+-- `lookup::lookup_part` meets its contract, from what the two readers tell and what is found in the words of the side.
 use mathlib.Core.Path.{sym, ap, _∙_}
 use native.Mathlib.Omega.{arith}
 use Rattle.reader.specs.Answer.{shapeOf, formOf, systemOutcome, certificateOutcome}
@@ -6,8 +6,8 @@ use Rattle.limits.specs.Value.{limitsOf}
 use Rattle.lookup.specs.Answer.{sideOf}
 use Rattle.lookup.proofs.FindSteps.{find-system-refused, find-certificate-refused, find-holding, find-part}
 use borrow.Author.Needs.{needs}
-use Rattle.lookup.proofs.find.Statement.{statement}
-use Rattle.lookup.proofs.find.Tie as tie
+use Rattle.lookup.proofs.lookup_part.Statement.{statement}
+use Rattle.lookup.proofs.lookup_part.Tie as tie
 
 read-system-requires : tie.Need-read-system-requires
 read-system-requires c κs = search needs
@@ -35,8 +35,9 @@ part-of-requires c κs =
     let f = w .before .enum-told .given in
     let system = ap systemOutcome (sym (e .1)) ∙ r .read-system .ensures in
     let certificate = ap certificateOutcome (sym (f .1)) ∙ y .read-certificate .ensures in
-    find-holding (limitsOf (a .limits)) (a .system .now) (a .certificate .now) (sideOf (a .side)) (a .number) (shapeOf (e .0 .0)) system
-    (formOf (f .0 .0)) certificate (omega (arith, S .good)) (omega (arith, S .good)) (w .words-on .result .now) (w .words-on .ensures)
+    find-holding (limitsOf (a .limits)) (a .system .now) (a .certificate .now) (sideOf (a .side)) (a .number)
+    (shapeOf (e .0 .0)) system (formOf (f .0 .0)) certificate (omega (arith, S .good)) (omega (arith, S .good))
+    (w .words-on .result .now) (w .words-on .ensures)
 
 enum-known-read-2 : tie.Need-enum-known-read-2
 enum-known-read-2 c = search needs
@@ -55,9 +56,10 @@ returns c =
     let f = w .before .enum-told .given in
     let system = ap systemOutcome (sym (e .1)) ∙ r .read-system .ensures in
     let certificate = ap certificateOutcome (sym (f .1)) ∙ y .read-certificate .ensures in
-    find-part (limitsOf (a .limits)) (a .system .now) (a .certificate .now) (sideOf (a .side)) (a .number) (shapeOf (e .0 .0)) system
-    (formOf (f .0 .0)) certificate (omega (arith, S .good)) (omega (arith, S .good)) (w .words-on .result .now) (w .words-on .ensures) _
-    (c .part-of .ensures)
+    find-part (limitsOf (a .limits)) (a .system .now) (a .certificate .now) (sideOf (a .side)) (a .number)
+    (shapeOf (e .0 .0)) system (formOf (f .0 .0)) certificate (omega (arith, S .good)) (omega (arith, S .good))
+    (w .words-on .result .now) (w .words-on .ensures)
+    (c .part-of .result) (c .part-of .ensures)
 
 returns-2 : tie.Need-returns-2
 returns-2 c =
@@ -79,8 +81,8 @@ returns-3 c =
     let system = ap systemOutcome (sym (e .1)) ∙ r .read-system .ensures in
     find-system-refused (limitsOf (a .limits)) (a .system .now) (a .certificate .now) (sideOf (a .side)) (a .number) _ _ system
 
-pub find-spec : {M : Type 1} → statement M
-find-spec =
+pub lookup-part-spec : {M : Type 1} → statement M
+lookup-part-spec =
     tie.close
     (tie.spec
     read-system-requires
