@@ -33,7 +33,8 @@ pub fn find_leading(h: &[u64], n: usize, modulus: Modulus) -> Leading
     ensures value { λ r. ⌜ r .value ≡ leading (modulo (modulus .p)) (polynomial (modulus .p) (now (h .entry)) 0 n) ⌝ }
 {
     let mut k = n;
-    while 8 <= k && or_of_row(h, k - 8) == 0 {
+    // the last word first: where it is not 0, as behind a step, the row need not be read, which was just written
+    while 8 <= k && h[k - 1] == 0 && or_of_row(h, k - 8) == 0 {
         k -= 8;
     }
     while 0 < k {

@@ -27,6 +27,15 @@ abbrev μ-loop2 : tie.MeasureT-loop2
 loop-holds : tie.Need-loop-holds Inv-loop μ-loop Inv-loop2 μ-loop2
 loop-holds c = (omega arith, refl)
 
+sub-if1 : tie.Need-sub-if1 Inv-loop μ-loop Inv-loop2 μ-loop2
+sub-if1 c = omega arith
+
+mul-if1 : tie.Need-mul-if1 Inv-loop μ-loop Inv-loop2 μ-loop2
+mul-if1 c = omega arith
+
+shared-slice-read-if1 : tie.Need-shared-slice-read-if1 Inv-loop μ-loop Inv-loop2 μ-loop2
+shared-slice-read-if1 c = omega arith
+
 or-of-row-requires : tie.Need-or-of-row-requires Inv-loop μ-loop Inv-loop2 μ-loop2
 or-of-row-requires c κs = omega arith
 
@@ -35,9 +44,9 @@ loop-less c = omega arith
 
 loop-again : tie.Need-loop-again Inv-loop μ-loop Inv-loop2 μ-loop2
 loop-again c =
-    let L = c .before .before .before in
+    let L = c .before .before .before .before .before in
     let A = L .before .before .args in
-    let none = sym (c .before .or-of-row .ensures) ∙ eqb-true (c .before .or-of-row .result) 0 (c .if1 .taken) in
+    let none = sym (c .before .or-of-row .ensures) ∙ eqb-true (c .before .or-of-row .result) 0 (c .if2 .taken) in
     let next : L .loop .k ≡ L .loop .k - 8 + 7 + 1 = omega arith in
     (omega arith, L .loop .inv .1 ∙ reduced-take-row (A .modulus .p) (A .h .now) _ _ 7 next (omega arith) none)
 
@@ -47,11 +56,11 @@ loop2-holds c = c .before .loop .inv
 sub-i : tie.Need-sub-i Inv-loop μ-loop Inv-loop2 μ-loop2
 sub-i c = omega arith
 
-mul-if2 : tie.Need-mul-if2 Inv-loop μ-loop Inv-loop2 μ-loop2
-mul-if2 c = omega arith
+mul-if3 : tie.Need-mul-if3 Inv-loop μ-loop Inv-loop2 μ-loop2
+mul-if3 c = omega arith
 
-shared-slice-read-if2 : tie.Need-shared-slice-read-if2 Inv-loop μ-loop Inv-loop2 μ-loop2
-shared-slice-read-if2 c = omega arith
+shared-slice-read-if3 : tie.Need-shared-slice-read-if3 Inv-loop μ-loop Inv-loop2 μ-loop2
+shared-slice-read-if3 c = omega arith
 
 mul-reduce : tie.Need-mul-reduce Inv-loop μ-loop Inv-loop2 μ-loop2
 mul-reduce c = omega arith
@@ -70,7 +79,7 @@ returns c =
     let L = c .before .before .before .before .before .before in
     let A = L .before .before .before .before .args in
     let value = c .before .reduce .ensures in
-    let counts : getD (A .h .now) (L .loop2 .k - 1) 0 % A .modulus .p ≡ 0 → ⊥ = λ z. c .if3 .taken (value ∙ z) in
+    let counts : getD (A .h .now) (L .loop2 .k - 1) 0 % A .modulus .p ≡ 0 → ⊥ = λ z. c .if4 .taken (value ∙ z) in
     let next : L .loop2 .k ≡ L .loop2 .k - 1 + 1 = omega arith in
     let inside : L .loop2 .k ≤ length (A .h .now) = omega arith in (
       sym (ap length (L .loop2 .inv .1) ∙ size-take (A .modulus .p) (A .h .now) _ _ next inside counts),
@@ -84,7 +93,7 @@ loop2-again : tie.Need-loop2-again Inv-loop μ-loop Inv-loop2 μ-loop2
 loop2-again c =
     let L = c .before .before .before .before .before .before in
     let A = L .before .before .before .before .args in
-    let zero = sym (c .before .reduce .ensures) ∙ c .if3 .left in
+    let zero = sym (c .before .reduce .ensures) ∙ c .if4 .left in
     let next : L .loop2 .k ≡ L .loop2 .k - 1 + 1 = omega arith in
     (omega arith, L .loop2 .inv .1 ∙ reduced-take-zero (A .modulus .p) (A .h .now) _ _ next (omega arith) zero)
 
@@ -96,7 +105,7 @@ loop2-again-2 c =
     let L = c .before .before .before in
     let A = L .before .before .before .before .args in
     let next : L .loop2 .k ≡ L .loop2 .k - 1 + 1 = omega arith in
-    (omega arith, L .loop2 .inv .1 ∙ reduced-take-word (A .modulus .p) (A .h .now) _ _ next (omega arith) (c .if2 .left))
+    (omega arith, L .loop2 .inv .1 ∙ reduced-take-word (A .modulus .p) (A .h .now) _ _ next (omega arith) (c .if3 .left))
 
 returns-2 : tie.Need-returns-2 Inv-loop μ-loop Inv-loop2 μ-loop2
 unfolding leading modulo
@@ -115,13 +124,16 @@ find-leading-spec =
     Inv-loop2
     μ-loop2
     loop-holds
+    sub-if1
+    mul-if1
+    shared-slice-read-if1
     or-of-row-requires
     loop-less
     loop-again
     loop2-holds
     sub-i
-    mul-if2
-    shared-slice-read-if2
+    mul-if3
+    shared-slice-read-if3
     mul-reduce
     shared-slice-read-reduce
     reduce-requires
