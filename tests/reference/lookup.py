@@ -7,7 +7,8 @@ IN_SYSTEM, IN_CERTIFICATE = 0, 1
 
 
 def look_up(system_words, certificate_words, side, number):
-    """The words of polynomial `number` of the side, from its start word to its last coefficient, or a refusal.
+    """Polynomial `number` of the side, from its start word to its last coefficient: the place of the first word, the place behind
+    the last, and the words; or a refusal.
 
     System and certificate are both read, whichever side is asked for; number 12 is tried after that.
     """
@@ -20,4 +21,4 @@ def look_up(system_words, certificate_words, side, number):
     if number >= len(parts):
         raise Refusal(12, 0)
     first, behind = parts[number]
-    return words[first:behind]
+    return first, behind, words[first:behind]

@@ -32,8 +32,11 @@ def says_certificate(system_words, certificate_words):
 
 
 def says_lookup(system_words, certificate_words, side, number):
-    """The lookup: the words shown."""
-    return answer(lambda: hexadecimal(look_up(system_words, certificate_words, side, number)))
+    """The lookup: `FROM to TO: ` and the words shown."""
+    def call():
+        first, behind, words = look_up(system_words, certificate_words, side, number)
+        return f"{first} to {behind}: {hexadecimal(words)}"
+    return answer(call)
 
 
 def says_written(write, *values):

@@ -71,7 +71,7 @@ def table():
     expect(answer(solve_words, examples.SYSTEM_1_WORDS, 2197), "refused 11 at 0")
     expect(len(solve_words(examples.SYSTEM_1_WORDS, 2198)), 12)
     expect(says_lookup(examples.SYSTEM_1_WORDS, examples.CERTIFICATE_1_WORDS, IN_SYSTEM, 2), "refused 12 at 0")
-    expect(says_lookup(examples.SYSTEM_1_WORDS, examples.CERTIFICATE_1_WORDS, IN_SYSTEM, 1), "20000001 30000001")
+    expect(says_lookup(examples.SYSTEM_1_WORDS, examples.CERTIFICATE_1_WORDS, IN_SYSTEM, 1), "4 to 6: 20000001 30000001")
     for words, says in examples.TABLE_CERTIFICATES:
         expect(says_certificate(examples.SYSTEM_1_WORDS, words), says)
     for system, certificate, says in examples.TABLE_VERDICTS:

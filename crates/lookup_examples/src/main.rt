@@ -4,6 +4,7 @@ use cases::input::CASES;
 use cases::input::WORDS;
 use cases::input::read_words;
 use cases::input::word;
+use cases::output::number;
 use cases::output::refused;
 use cases::output::text;
 use cases::output::words;
@@ -11,7 +12,9 @@ use limits::Office;
 use lookup::Found;
 use lookup::Side;
 use lookup::lookup;
+use lookup::lookup_part;
 use lookup::lookup_refusal;
+use lookup::part::Part;
 
 fn side_of(n: u32) -> Side {
     if n == 0 {
@@ -21,11 +24,25 @@ fn side_of(n: u32) -> Side {
     }
 }
 
+// From and to, before the words.
+fn place(part: Part) {
+    match part {
+        Part::Words(from, to) => {
+            number(from as u64);
+            text(b" to ");
+            number(to as u64);
+            text(b": ");
+        }
+        Part::Refused(_, _) => {}
+    }
+}
+
 fn answer<'a>(system: &'a [u32], certificate: &'a [u32], side: Side, number: usize) {
     let limits = Office::limits();
     let found = lookup_refusal(system, certificate, side, number, limits);
     match found {
         Found::Shown => {
+            place(lookup_part(system, certificate, side, number, limits));
             words(lookup(system, certificate, side, number, limits));
             text(b"\n");
         }
