@@ -10,6 +10,7 @@ use Rattle.lattice.specs.Found.{found-ends, found-leading}
 use Rattle.lattice.specs.Sums.{sums-room, sums-fewer}
 use Rattle.lattice.specs.Quotients.{Divided}
 use Rattle.lattice.specs.Step.{takes-left}
+use Rattle.lattice.proofs.Rows
 use Rattle.lattice.proofs.Stepping
 use Rattle.lattice.proofs.Dividing.{Dividing, dividing-start, dividing-step, dividing-turn, dividing-end}
 use Rattle.lattice.proofs.division.divide.Statement.{statement}
@@ -40,16 +41,16 @@ loop-holds c =
     (found-leading _ positive _ 1088 _ (given .1) (given .2) _ (found .0) _ (found .1)) (given .3) (S .pre .1 .1 .1)
 
 sub-q : tie.Need-sub-q Inv-loop μ-loop
-sub-q c = search needs
+sub-q c = c .if1 .taken
 
 sub-q-2 : tie.Need-sub-q-2 Inv-loop μ-loop
-sub-q-2 c = search needs
+sub-q-2 c = Rows.lane-most (c .before .before .loop .found .size)
 
 mul-size : tie.Need-mul-size Inv-loop μ-loop
-mul-size c = search needs
+mul-size c = Rows.row-bytes (c .before .before .loop .found .size)
 
 shared-slice-read-size : tie.Need-shared-slice-read-size Inv-loop μ-loop
-shared-slice-read-size c = search needs
+shared-slice-read-size c = Rows.size-there (c .before .before .before .before .before .before .before .before .before .before .before .pre .0 .1) (c .before .before .before .loop .found .size)
 
 same-length : tie.Need-same-length Inv-loop μ-loop
 same-length c = search needs
@@ -85,7 +86,7 @@ take-multiple-requires c κs =
     (S .pre .0 .0, (step, sums-fewer _ (L .loop .block) _ 1 some (I .sums)))
 
 sub-place : tie.Need-sub-place Inv-loop μ-loop
-sub-place c = search needs
+sub-place c = Rows.row-most (c .before .before .before .before .before .before .before .before .before .loop .found .size)
 
 add-place : tie.Need-add-place Inv-loop μ-loop
 add-place c = search needs

@@ -2,6 +2,7 @@
 use native.Mathlib.Omega.{arith}
 use borrow.Author.Needs.{needs}
 use Rattle.lattice.specs.Memory.{level, memory, places}
+use Rattle.lattice.proofs.Rows
 use Rattle.lattice.proofs.Inserting.{Inserting, inserting-start, inserting-turn, inserting-on, inserting-end}
 use Rattle.lattice.proofs.insertion.insert.Statement.{statement}
 use Rattle.lattice.proofs.insertion.insert.Tie as tie
@@ -24,13 +25,13 @@ sub-q : tie.Need-sub-q Inv-loop μ-loop
 sub-q c = search needs
 
 sub-q-2 : tie.Need-sub-q-2 Inv-loop μ-loop
-sub-q-2 c = search needs
+sub-q-2 c = Rows.lane-most (c .before .before .before .loop .hand .size)
 
 mul-if2 : tie.Need-mul-if2 Inv-loop μ-loop
-mul-if2 c = search needs
+mul-if2 c = Rows.row-bytes (c .before .before .before .loop .hand .size)
 
 slice-read-if2 : tie.Need-slice-read-if2 Inv-loop μ-loop
-slice-read-if2 c = search needs
+slice-read-if2 c = Rows.size-there (c .before .before .before .before .loop .inv .moved .valid .level) (c .before .before .before .before .loop .hand .size)
 
 same-length : tie.Need-same-length Inv-loop μ-loop
 same-length c = search needs

@@ -3,20 +3,21 @@ use native.Mathlib.Omega.{arith}
 use borrow.Author.Needs.{needs}
 use Rattle.lattice.specs.Memory.{row}
 use Rattle.lattice.specs.Leading.{kept-lengthened, swapped-lengthened}
+use Rattle.lattice.proofs.Rows
 use Rattle.lattice.proofs.insertion.lengthen.Statement.{statement}
 use Rattle.lattice.proofs.insertion.lengthen.Tie as tie
 
 sub-q : tie.Need-sub-q
-sub-q c = search needs
+sub-q c = c .before .before .before .before .before .pre .1 .1 .some
 
 sub-q-2 : tie.Need-sub-q-2
-sub-q-2 c = search needs
+sub-q-2 c = Rows.lane-most (c .before .before .before .before .before .args .hand .size)
 
 mul-if1 : tie.Need-mul-if1
-mul-if1 c = search needs
+mul-if1 c = Rows.row-bytes (c .before .before .before .before .before .args .hand .size)
 
 slice-read-if1 : tie.Need-slice-read-if1
-slice-read-if1 c = search needs
+slice-read-if1 c = Rows.size-there (c .before .before .before .before .before .before .pre .1 .0 .level) (c .before .before .before .before .before .before .args .hand .size)
 
 swap-with-slot-requires : tie.Need-swap-with-slot-requires
 swap-with-slot-requires c κs =

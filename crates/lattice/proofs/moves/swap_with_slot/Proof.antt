@@ -7,31 +7,32 @@ use Rattle.residue.specs.Modulus.{ValidModulus}
 use Rattle.lattice.specs.Memory.{row}
 use Rattle.lattice.specs.Sums.{sums-room}
 use Rattle.lattice.specs.Reading.{leading-residue}
+use Rattle.lattice.proofs.Rows
 use Rattle.lattice.proofs.SwappedWords.{swap-of, tails-fit, block-reducible}
 use Rattle.lattice.proofs.Swapping.{swapping}
 use Rattle.lattice.proofs.moves.swap_with_slot.Statement.{statement}
 use Rattle.lattice.proofs.moves.swap_with_slot.Tie as tie
 
 sub-q : tie.Need-sub-q
-sub-q c = search needs
+sub-q c = c .before .before .before .before .before .pre .1 .1 .some
 
 sub-q-2 : tie.Need-sub-q-2
-sub-q-2 c = search needs
+sub-q-2 c = Rows.lane-most (c .before .before .before .before .before .args .hand .size)
 
 mul-size : tie.Need-mul-size
-mul-size c = search needs
+mul-size c = Rows.row-bytes (c .before .before .before .before .before .args .hand .size)
 
 slice-read-size : tie.Need-slice-read-size
-slice-read-size c = search needs
+slice-read-size c = Rows.size-there (c .before .before .before .before .before .before .pre .1 .0 .level) (c .before .before .before .before .before .before .args .hand .size)
 
 add-slot-tail : tie.Need-add-slot-tail
-add-slot-tail c = search needs
+add-slot-tail c = Rows.tail-place (c .before .before .before .before .before .before .args .hand .size)
 
 mul-slot-tail : tie.Need-mul-slot-tail
-mul-slot-tail c = search needs
+mul-slot-tail c = Rows.tail-bytes (c .before .before .before .before .before .before .args .hand .size)
 
 slice-read-slot-tail : tie.Need-slice-read-slot-tail
-slice-read-slot-tail c = search needs
+slice-read-slot-tail c = Rows.tail-size-there (c .before .before .before .before .before .before .before .pre .1 .0 .level) (c .before .before .before .before .before .before .before .args .hand .size)
 
 find-leading-requires : tie.Need-find-leading-requires
 find-leading-requires c κs =
@@ -43,10 +44,10 @@ find-leading-requires c κs =
     ((m, omega (arith, valid .hand .tail-within, valid .hand .tail-room)), λ j lt. omega (arith, room j))
 
 larger-requires : tie.Need-larger-requires
-larger-requires c κs = search needs
+larger-requires c κs = tt
 
 mul-exchange : tie.Need-mul-exchange
-mul-exchange c = search needs
+mul-exchange c = Rows.block-start (c .before .before .before .before .before .before .before .before .before .before .before .before .args .hand .size)
 
 exchange-requires : tie.Need-exchange-requires
 exchange-requires c κs =
@@ -62,13 +63,13 @@ exchange-requires c κs =
     ((m, omega (arith, valid .hand .room), omega (arith, valid .level .room)), λ j lt. omega (arith, room j))
 
 larger-requires-2 : tie.Need-larger-requires-2
-larger-requires-2 c κs = search needs
+larger-requires-2 c κs = tt
 
 mul-exchange-2 : tie.Need-mul-exchange-2
-mul-exchange-2 c = search needs
+mul-exchange-2 c = Rows.block-start (c .before .before .before .before .before .before .before .before .before .before .before .before .before .before .before .before .before .before .before .before .args .hand .size)
 
 add-exchange : tie.Need-add-exchange
-add-exchange c = search needs
+add-exchange c = Rows.tail-start (c .before .before .before .before .before .before .before .before .before .before .before .before .before .before .before .before .before .before .before .before .args .hand .size)
 
 exchange-requires-2 : tie.Need-exchange-requires-2
 exchange-requires-2 c κs =
@@ -94,7 +95,7 @@ inverse-requires c κs =
     (S .pre .0, first .0, first .1)
 
 mul-inverses : tie.Need-mul-inverses
-mul-inverses c = search needs
+mul-inverses c = Rows.row-bytes (c .before .before .before .before .before .before .before .before .before .before .before .before .before .before .before .before .before .before .before .before .before .before .before .before .before .before .args .hand .size)
 
 slice-write-inverses : tie.Need-slice-write-inverses
 slice-write-inverses c =
@@ -103,7 +104,7 @@ slice-write-inverses c =
     omega (arith, S .pre .1 .0 .level .all-inverses)
 
 mul-sizes : tie.Need-mul-sizes
-mul-sizes c = search needs
+mul-sizes c = Rows.row-bytes (c .before .before .before .before .before .before .before .before .before .before .before .before .before .before .before .before .before .before .before .before .before .before .before .before .before .before .args .hand .size)
 
 slice-write-sizes : tie.Need-slice-write-sizes
 slice-write-sizes c =
@@ -112,10 +113,10 @@ slice-write-sizes c =
     omega (arith, S .pre .1 .0 .level .all-sizes)
 
 add-sizes : tie.Need-add-sizes
-add-sizes c = search needs
+add-sizes c = Rows.tail-place (c .before .before .before .before .before .before .before .before .before .before .before .before .before .before .before .before .before .before .before .before .before .before .before .before .before .before .args .hand .size)
 
 mul-sizes-2 : tie.Need-mul-sizes-2
-mul-sizes-2 c = search needs
+mul-sizes-2 c = Rows.tail-bytes (c .before .before .before .before .before .before .before .before .before .before .before .before .before .before .before .before .before .before .before .before .before .before .before .before .before .before .args .hand .size)
 
 slice-write-sizes-2 : tie.Need-slice-write-sizes-2
 slice-write-sizes-2 c =

@@ -7,33 +7,34 @@ use Rattle.residue.specs.Modulus.{ValidModulus}
 use Rattle.lattice.specs.Memory.{row}
 use Rattle.lattice.specs.Sums.{sums-fewer}
 use Rattle.lattice.specs.Step.{takes-left}
+use Rattle.lattice.proofs.Rows
 use Rattle.lattice.proofs.Taking
 use Rattle.lattice.proofs.moves.take_from_hand.Statement.{statement}
 use Rattle.lattice.proofs.moves.take_from_hand.Tie as tie
 
 sub-q : tie.Need-sub-q
-sub-q c = search needs
+sub-q c = c .before .before .before .before .before .pre .1 .1 .some
 
 sub-q-2 : tie.Need-sub-q-2
-sub-q-2 c = search needs
+sub-q-2 c = Rows.lane-most (c .before .before .before .before .before .args .hand .size)
 
 mul-shift : tie.Need-mul-shift
-mul-shift c = search needs
+mul-shift c = Rows.row-bytes (c .before .before .before .before .before .args .hand .size)
 
 shared-slice-read-shift : tie.Need-shared-slice-read-shift
-shared-slice-read-shift c = search needs
+shared-slice-read-shift c = Rows.size-there (c .before .before .before .before .before .before .pre .1 .0 .level) (c .before .before .before .before .before .before .args .hand .size)
 
 sub-shift : tie.Need-sub-shift
-sub-shift c = search needs
+sub-shift c = c .before .before .before .before .before .before .pre .1 .1 .shorter
 
 add-size : tie.Need-add-size
-add-size c = search needs
+add-size c = Rows.tail-place (c .before .before .before .before .before .before .args .hand .size)
 
 mul-size : tie.Need-mul-size
-mul-size c = search needs
+mul-size c = Rows.tail-bytes (c .before .before .before .before .before .before .args .hand .size)
 
 shared-slice-read-size : tie.Need-shared-slice-read-size
-shared-slice-read-size c = search needs
+shared-slice-read-size c = Rows.tail-size-there (c .before .before .before .before .before .before .before .pre .1 .0 .level) (c .before .before .before .before .before .before .before .args .hand .size)
 
 take-multiple-requires : tie.Need-take-multiple-requires
 take-multiple-requires c κs =
@@ -72,10 +73,10 @@ mul-words c =
     omega (arith, S .pre .1 .0 .level .slot (row (S .args .hand .size)) (omega arith) .tail-within)
 
 mul-add-scaled : tie.Need-mul-add-scaled
-mul-add-scaled c = search needs
+mul-add-scaled c = Rows.block-start (c .before .before .before .before .before .before .before .before .before .before .before .before .before .before .before .before .args .hand .size)
 
 add-add-scaled : tie.Need-add-add-scaled
-add-add-scaled c = search needs
+add-add-scaled c = Rows.tail-start (c .before .before .before .before .before .before .before .before .before .before .before .before .before .before .before .before .args .hand .size)
 
 add-scaled-requires : tie.Need-add-scaled-requires
 add-scaled-requires c κs =
@@ -110,7 +111,7 @@ add-larger c =
     )
 
 larger-requires : tie.Need-larger-requires
-larger-requires c κs = search needs
+larger-requires c κs = tt
 
 same-length : tie.Need-same-length
 same-length c = search needs

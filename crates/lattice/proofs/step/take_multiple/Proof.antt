@@ -5,27 +5,28 @@ use native.Mathlib.Omega.{arith}
 use borrow.Author.Needs.{needs}
 use Rattle.residue.specs.Modulus.{ValidModulus}
 use Rattle.lattice.specs.Memory.{row}
+use Rattle.lattice.proofs.Rows
 use Rattle.lattice.proofs.Stepping
 use Rattle.lattice.proofs.step.take_multiple.Statement.{statement}
 use Rattle.lattice.proofs.step.take_multiple.Tie as tie
 
 sub-q : tie.Need-sub-q
-sub-q c = search needs
+sub-q c = c .before .before .before .before .pre .1 .0 .some
 
 sub-q-2 : tie.Need-sub-q-2
-sub-q-2 c = search needs
+sub-q-2 c = Rows.lane-most (c .before .before .before .before .args .found .size)
 
 mul-size : tie.Need-mul-size
-mul-size c = search needs
+mul-size c = Rows.row-bytes (c .before .before .before .before .args .found .size)
 
 shared-slice-read-size : tie.Need-shared-slice-read-size
-shared-slice-read-size c = search needs
+shared-slice-read-size c = Rows.size-there (c .before .before .before .before .before .pre .1 .0 .level) (c .before .before .before .before .before .args .found .size)
 
 mul-mul : tie.Need-mul-mul
-mul-mul c = search needs
+mul-mul c = Rows.row-bytes (c .before .before .before .before .before .args .found .size)
 
 shared-slice-read-mul : tie.Need-shared-slice-read-mul
-shared-slice-read-mul c = search needs
+shared-slice-read-mul c = Rows.inverse-there (c .before .before .before .before .before .before .pre .1 .0 .level) (c .before .before .before .before .before .before .args .found .size)
 
 mul-requires : tie.Need-mul-requires
 mul-requires c κs =
@@ -41,16 +42,16 @@ sub-minus c =
     omega (arith, Stepping.step-factor _ (S .pre .0 .prime) (S .pre .1 .0) _ (A .mul .ensures))
 
 add-words : tie.Need-add-words
-add-words c = search needs
+add-words c = Rows.rounded-size (c .before .before .before .before .before .before .before .before .pre .1 .0 .level) (c .before .before .before .before .before .before .before .before .args .found .size)
 
 mul-words : tie.Need-mul-words
-mul-words c = search needs
+mul-words c = Rows.degree-words (c .before .before .before .before .before .before .before .before .pre .1 .0 .level) (c .before .before .before .before .before .before .before .before .args .found .size)
 
 sub-word-before : tie.Need-sub-word-before
-sub-word-before c = search needs
+sub-word-before c = c .before .before .before .before .before .before .before .before .before .pre .1 .0 .fits
 
 mul-word-before : tie.Need-mul-word-before
-mul-word-before c = search needs
+mul-word-before c = Rows.block-start (c .before .before .before .before .before .before .before .before .before .args .found .size)
 
 word-before-requires : tie.Need-word-before-requires
 word-before-requires c κs =
@@ -65,10 +66,10 @@ word-before-requires c κs =
     )
 
 sub-add-scaled : tie.Need-sub-add-scaled
-sub-add-scaled c = search needs
+sub-add-scaled c = c .before .before .before .before .before .before .before .before .before .before .before .pre .1 .0 .fits
 
 mul-add-scaled : tie.Need-mul-add-scaled
-mul-add-scaled c = search needs
+mul-add-scaled c = Rows.block-start (c .before .before .before .before .before .before .before .before .before .before .before .args .found .size)
 
 add-scaled-requires : tie.Need-add-scaled-requires
 add-scaled-requires c κs =
@@ -86,7 +87,7 @@ add-scaled-requires c κs =
     )
 
 sub-rest : tie.Need-sub-rest
-sub-rest c = search needs
+sub-rest c = c .before .before .before .before .before .before .before .before .before .before .before .before .before .before .pre .1 .0 .some
 
 same-length : tie.Need-same-length
 same-length c = search needs
