@@ -49,3 +49,10 @@ module _ {p : ℕ} {L : Level} (valid : ValidLevel p L) (k : ℕ) where
 
   pub degree-words : Fits w64 ((slotSize L (row k) + 7) / 8 * 8)
   degree-words = omega (arith, valid .slot (row k) (omega arith) .block .within)
+
+-- the place of a factor among the quotients, and the bytes before it
+pub quotient-place : (k size : ℕ) → k ≤ 1088 → Fits w64 (k - size + (7 - row k))
+quotient-place k size within = omega arith
+
+pub quotient-bytes : (k size : ℕ) → k ≤ 1088 → Fits w64 ((k - size + (7 - row k)) * 8)
+quotient-bytes k size within = omega arith

@@ -3,7 +3,6 @@ use Prim.Native.Nat.{_<_}
 use mathlib.Core.Path.{_≡_, subst}
 use mathlib.Core.Logic.{inl, inr}
 use native.Mathlib.Omega.{arith}
-use borrow.Author.Needs.{needs}
 use Rattle.residue.specs.Modulus.{ValidModulus}
 use Rattle.lattice.specs.Memory.{level}
 use Rattle.lattice.specs.Found.{found-ends, found-leading}
@@ -53,10 +52,10 @@ shared-slice-read-size : tie.Need-shared-slice-read-size Inv-loop μ-loop
 shared-slice-read-size c = Rows.size-there (c .before .before .before .before .before .before .before .before .before .before .before .pre .0 .1) (c .before .before .before .loop .found .size)
 
 same-length : tie.Need-same-length Inv-loop μ-loop
-same-length c = search needs
+same-length c = c .before .before .before .before .loop .inv .same-block
 
 same-length-2 : tie.Need-same-length-2 Inv-loop μ-loop
-same-length-2 c = search needs
+same-length-2 c = c .before .before .before .before .loop .inv .same-quotients
 
 returns : tie.Need-returns Inv-loop μ-loop
 returns c =
@@ -65,10 +64,10 @@ returns c =
     dividing-end (S .pre .0 .0 .prime) (L .loop .inv) (S .pre .0 .1) (inr (inl (c .if2 .taken)))
 
 same-length-3 : tie.Need-same-length-3 Inv-loop μ-loop
-same-length-3 c = search needs
+same-length-3 c = c .before .before .before .before .before .loop .inv .same-block
 
 same-length-4 : tie.Need-same-length-4 Inv-loop μ-loop
-same-length-4 c = search needs
+same-length-4 c = c .before .before .before .before .before .loop .inv .same-quotients
 
 returns-2 : tie.Need-returns-2 Inv-loop μ-loop
 returns-2 c =
@@ -89,10 +88,10 @@ sub-place : tie.Need-sub-place Inv-loop μ-loop
 sub-place c = Rows.row-most (c .before .before .before .before .before .before .before .before .before .loop .found .size)
 
 add-place : tie.Need-add-place Inv-loop μ-loop
-add-place c = search needs
+add-place c = Rows.quotient-place (c .before .before .before .before .before .before .before .before .before .loop .found .size) _ (c .before .before .before .before .before .before .before .before .before .loop .inv .ends .within)
 
 mul-add : tie.Need-mul-add Inv-loop μ-loop
-mul-add c = search needs
+mul-add c = Rows.quotient-bytes (c .before .before .before .before .before .before .before .before .before .loop .found .size) _ (c .before .before .before .before .before .before .before .before .before .loop .inv .ends .within)
 
 slice-read-add : tie.Need-slice-read-add Inv-loop μ-loop
 slice-read-add c =
@@ -113,7 +112,7 @@ add-requires c κs =
     (S .pre .0 .0, I .below _, small)
 
 mul-quotients : tie.Need-mul-quotients Inv-loop μ-loop
-mul-quotients c = search needs
+mul-quotients c = Rows.quotient-bytes (c .before .before .before .before .before .before .before .before .before .before .before .loop .found .size) _ (c .before .before .before .before .before .before .before .before .before .before .before .loop .inv .ends .within)
 
 slice-write-quotients : tie.Need-slice-write-quotients Inv-loop μ-loop
 slice-write-quotients c =
@@ -147,10 +146,10 @@ loop-again c =
     (S .pre .1 .1 .0) _ (A .add .ensures)
 
 same-length-5 : tie.Need-same-length-5 Inv-loop μ-loop
-same-length-5 c = search needs
+same-length-5 c = c .before .before .loop .inv .same-block
 
 same-length-6 : tie.Need-same-length-6 Inv-loop μ-loop
-same-length-6 c = search needs
+same-length-6 c = c .before .before .loop .inv .same-quotients
 
 returns-3 : tie.Need-returns-3 Inv-loop μ-loop
 returns-3 c =

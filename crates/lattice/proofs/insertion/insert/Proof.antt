@@ -1,6 +1,5 @@
 -- The loop keeps an `Inserting`; its measure is the places.
 use native.Mathlib.Omega.{arith}
-use borrow.Author.Needs.{needs}
 use Rattle.lattice.specs.Memory.{level, memory, places}
 use Rattle.lattice.proofs.Rows
 use Rattle.lattice.proofs.Inserting.{Inserting, inserting-start, inserting-turn, inserting-on, inserting-end}
@@ -22,7 +21,7 @@ loop-holds c =
     inserting-start (S .pre .1 .0) (S .pre .1 .1)
 
 sub-q : tie.Need-sub-q Inv-loop μ-loop
-sub-q c = search needs
+sub-q c = c .before .if1 .taken
 
 sub-q-2 : tie.Need-sub-q-2 Inv-loop μ-loop
 sub-q-2 c = Rows.lane-most (c .before .before .before .loop .hand .size)
@@ -34,19 +33,19 @@ slice-read-if2 : tie.Need-slice-read-if2 Inv-loop μ-loop
 slice-read-if2 c = Rows.size-there (c .before .before .before .before .loop .inv .moved .valid .level) (c .before .before .before .before .loop .hand .size)
 
 same-length : tie.Need-same-length Inv-loop μ-loop
-same-length c = search needs
+same-length c = c .before .before .before .before .before .loop .inv .lengths .slots
 
 same-length-2 : tie.Need-same-length-2 Inv-loop μ-loop
-same-length-2 c = search needs
+same-length-2 c = c .before .before .before .before .before .loop .inv .lengths .sizes
 
 same-length-3 : tie.Need-same-length-3 Inv-loop μ-loop
-same-length-3 c = search needs
+same-length-3 c = c .before .before .before .before .before .loop .inv .lengths .inverses
 
 same-length-4 : tie.Need-same-length-4 Inv-loop μ-loop
-same-length-4 c = search needs
+same-length-4 c = c .before .before .before .before .before .loop .inv .lengths .block
 
 same-length-5 : tie.Need-same-length-5 Inv-loop μ-loop
-same-length-5 c = search needs
+same-length-5 c = c .before .before .before .before .before .loop .inv .lengths .tail
 
 returns : tie.Need-returns Inv-loop μ-loop
 returns c =
@@ -83,19 +82,19 @@ loop-again c =
     (T .turn .ensures)
 
 same-length-6 : tie.Need-same-length-6 Inv-loop μ-loop
-same-length-6 c = search needs
+same-length-6 c = c .before .before .loop .inv .lengths .slots
 
 same-length-7 : tie.Need-same-length-7 Inv-loop μ-loop
-same-length-7 c = search needs
+same-length-7 c = c .before .before .loop .inv .lengths .sizes
 
 same-length-8 : tie.Need-same-length-8 Inv-loop μ-loop
-same-length-8 c = search needs
+same-length-8 c = c .before .before .loop .inv .lengths .inverses
 
 same-length-9 : tie.Need-same-length-9 Inv-loop μ-loop
-same-length-9 c = search needs
+same-length-9 c = c .before .before .loop .inv .lengths .block
 
 same-length-10 : tie.Need-same-length-10 Inv-loop μ-loop
-same-length-10 c = search needs
+same-length-10 c = c .before .before .loop .inv .lengths .tail
 
 returns-2 : tie.Need-returns-2 Inv-loop μ-loop
 returns-2 c =

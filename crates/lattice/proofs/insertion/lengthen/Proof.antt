@@ -1,6 +1,5 @@
 -- A shorter hand has room in the slot; a hand that is long enough stays.
 use native.Mathlib.Omega.{arith}
-use borrow.Author.Needs.{needs}
 use Rattle.lattice.specs.Memory.{row}
 use Rattle.lattice.specs.Leading.{kept-lengthened, swapped-lengthened}
 use Rattle.lattice.proofs.Rows
@@ -27,19 +26,19 @@ swap-with-slot-requires c κs =
     (S .pre .0, (S .pre .1 .0, record { some = on .some; block = omega arith; tail = on .tail }))
 
 same-length : tie.Need-same-length
-same-length c = search needs
+same-length c = c .before .before .before .before .before .before .before .before .before .before .swap-with-slot .kept .0
 
 same-length-2 : tie.Need-same-length-2
-same-length-2 c = search needs
+same-length-2 c = c .before .before .before .before .before .before .before .before .before .before .swap-with-slot .kept .1 .0
 
 same-length-3 : tie.Need-same-length-3
-same-length-3 c = search needs
+same-length-3 c = c .before .before .before .before .before .before .before .before .before .before .swap-with-slot .kept .1 .1 .0
 
 same-length-4 : tie.Need-same-length-4
-same-length-4 c = search needs
+same-length-4 c = c .before .before .before .before .before .before .before .before .before .before .swap-with-slot .kept .1 .1 .1 .0
 
 same-length-5 : tie.Need-same-length-5
-same-length-5 c = search needs
+same-length-5 c = c .before .before .before .before .before .before .before .before .before .before .swap-with-slot .kept .1 .1 .1 .1 .0
 
 returns : tie.Need-returns
 returns c =

@@ -2,7 +2,6 @@
 use Prim.Native.Nat.{ℕ, _+_, _-_, _*_, _≤_, _<_}
 use mathlib.Core.Path.{refl}
 use native.Mathlib.Omega.{arith}
-use borrow.Author.Needs.{needs}
 use Rattle.residue.specs.Modulus.{ValidModulus}
 use Rattle.lattice.specs.Memory.{row}
 use Rattle.lattice.proofs.Rows
@@ -90,7 +89,7 @@ sub-rest : tie.Need-sub-rest
 sub-rest c = c .before .before .before .before .before .before .before .before .before .before .before .before .before .before .pre .1 .0 .some
 
 same-length : tie.Need-same-length
-same-length c = search needs
+same-length c = c .before .before .add-scaled .kept .0
 
 returns : tie.Need-returns
 returns c =
