@@ -5,8 +5,7 @@ use native.Mathlib.Omega.{arith}
 use mir.Syntax.{w64}
 use mir.Val.{Fits}
 use lib.ListN.{length}
-use Rattle.lattice.specs.Memory.{row, Level, slotSize, ValidLevel}
-use Rattle.lattice.specs.Step.{HasStep}
+use Rattle.lattice.specs.Memory.{row, Level, slotSize, tailSize, ValidLevel}
 
 pub lane-most : (k : ℕ) → (k - 1) % 8 ≤ 7
 lane-most k = omega arith
@@ -42,13 +41,18 @@ module _ {p : ℕ} {L : Level} (valid : ValidLevel p L) (k : ℕ) where
   pub inverse-there : row k < length (L .inverses)
   inverse-there = omega (arith, valid .all-inverses)
 
--- the words of the slot's degrees
-module _ {p : ℕ} {L : Level} (valid : ValidLevel p L) (k : ℕ) where
+  -- the words of the degrees of the slot's block, and of its tail's
   pub rounded-size : Fits w64 (slotSize L (row k) + 7)
   rounded-size = omega (arith, valid .slot (row k) (omega arith) .block .within)
 
   pub degree-words : Fits w64 ((slotSize L (row k) + 7) / 8 * 8)
   degree-words = omega (arith, valid .slot (row k) (omega arith) .block .within)
+
+  pub rounded-tail : Fits w64 (tailSize L (row k) + 7)
+  rounded-tail = omega (arith, valid .slot (row k) (omega arith) .tail-within)
+
+  pub tail-words : Fits w64 ((tailSize L (row k) + 7) / 8 * 8)
+  tail-words = omega (arith, valid .slot (row k) (omega arith) .tail-within)
 
 -- the place of a factor among the quotients, and the bytes before it
 pub quotient-place : (k size : ℕ) → k ≤ 1088 → Fits w64 (k - size + (7 - row k))

@@ -2,6 +2,7 @@
 use Prim.Native.Nat.{_<_}
 use mathlib.Core.Path.{_≡_, subst}
 use mathlib.Core.Logic.{inl, inr}
+use native.Mathlib.Nat.{le-of-lt, pos-of-ne-zero}
 use native.Mathlib.Omega.{arith}
 use Rattle.residue.specs.Modulus.{ValidModulus}
 use Rattle.lattice.specs.Memory.{level}
@@ -26,14 +27,14 @@ find-leading-requires : tie.Need-find-leading-requires Inv-loop μ-loop
 find-leading-requires c κs =
     let S = c .before .before .before .before .before .before in
     let m : ValidModulus (S .args .modulus) = S .pre .0 .0 in
-    let room = sums-room _ (S .args .block .now) 2112 (omega (arith, m .prime .large)) (S .pre .1 .0 .3) in
+    let room = sums-room _ (S .args .block .now) 2112 (le-of-lt (m .prime .large)) (S .pre .1 .0 .3) in
     ((m, omega arith), λ j lt. omega (arith, room j))
 
 loop-holds : tie.Need-loop-holds Inv-loop μ-loop
 loop-holds c =
     let S = c .before .before .before .before .before .before .before in
     let m : ValidModulus (S .args .modulus) = S .pre .0 .0 in
-    let positive : 0 < S .args .modulus .p = omega (arith, m .prime .large) in
+    let positive : 0 < S .args .modulus .p = le-of-lt (m .prime .large) in
     let given = S .pre .1 .0 in
     let found = c .find-leading .ensures in
     dividing-start (m .prime) (found-ends _ positive _ 1088 _ (given .1) (given .2) _ (found .0))
@@ -43,13 +44,13 @@ sub-q : tie.Need-sub-q Inv-loop μ-loop
 sub-q c = c .if1 .taken
 
 sub-q-2 : tie.Need-sub-q-2 Inv-loop μ-loop
-sub-q-2 c = Rows.lane-most (c .before .before .loop .found .size)
+sub-q-2 c = Rows.lane-most _
 
 mul-size : tie.Need-mul-size Inv-loop μ-loop
-mul-size c = Rows.row-bytes (c .before .before .loop .found .size)
+mul-size c = Rows.row-bytes _
 
 shared-slice-read-size : tie.Need-shared-slice-read-size Inv-loop μ-loop
-shared-slice-read-size c = Rows.size-there (c .before .before .before .before .before .before .before .before .before .before .before .pre .0 .1) (c .before .before .before .loop .found .size)
+shared-slice-read-size c = Rows.size-there (c .before .before .before .before .before .before .before .before .before .before .before .pre .0 .1) _
 
 same-length : tie.Need-same-length Inv-loop μ-loop
 same-length c = c .before .before .before .before .loop .inv .same-block
@@ -80,25 +81,30 @@ take-multiple-requires c κs =
     let L = c .before .before .before .before .before .before in
     let S = L .before .before .before .before .before .before .before .before in
     let I = L .loop .inv in
-    let step = dividing-step (S .pre .0 .0 .prime) I (S .pre .0 .1) (S .pre .1 .0 .0) (omega arith) (omega arith) (omega arith) in
-    let some : 0 < L .loop .found .size = omega arith in
+    let on = c .before in
+    let some = on .before .before .before .if1 .taken in
+    let filled = pos-of-ne-zero (on .before .if2 .left) in
+    let step = dividing-step (S .pre .0 .0 .prime) I (S .pre .0 .1) (S .pre .1 .0 .0) some filled (on .if3 .left) in
     (S .pre .0 .0, (step, sums-fewer _ (L .loop .block) _ 1 some (I .sums)))
 
 sub-place : tie.Need-sub-place Inv-loop μ-loop
-sub-place c = Rows.row-most (c .before .before .before .before .before .before .before .before .before .loop .found .size)
+sub-place c = Rows.row-most _
 
 add-place : tie.Need-add-place Inv-loop μ-loop
-add-place c = Rows.quotient-place (c .before .before .before .before .before .before .before .before .before .loop .found .size) _ (c .before .before .before .before .before .before .before .before .before .loop .inv .ends .within)
+add-place c = Rows.quotient-place _ _ (c .before .before .before .before .before .before .before .before .before .loop .inv .ends .within)
 
 mul-add : tie.Need-mul-add Inv-loop μ-loop
-mul-add c = Rows.quotient-bytes (c .before .before .before .before .before .before .before .before .before .loop .found .size) _ (c .before .before .before .before .before .before .before .before .before .loop .inv .ends .within)
+mul-add c = Rows.quotient-bytes _ _ (c .before .before .before .before .before .before .before .before .before .loop .inv .ends .within)
 
 slice-read-add : tie.Need-slice-read-add Inv-loop μ-loop
 slice-read-add c =
     let L = c .before .before .before .before .before .before .before .before .before .before in
     let S = L .before .before .before .before .before .before .before .before in
     let I = L .loop .inv in
-    let step = dividing-step (S .pre .0 .0 .prime) I (S .pre .0 .1) (S .pre .1 .0 .0) (omega arith) (omega arith) (omega arith) in
+    let on = c .before .before .before .before .before in
+    let some = on .before .before .before .if1 .taken in
+    let filled = pos-of-ne-zero (on .before .if2 .left) in
+    let step = dividing-step (S .pre .0 .0 .prime) I (S .pre .0 .1) (S .pre .1 .0 .0) some filled (on .if3 .left) in
     omega (arith, Stepping.place-inside step, I .same-quotients)
 
 add-requires : tie.Need-add-requires Inv-loop μ-loop
@@ -107,19 +113,25 @@ add-requires c κs =
     let L = T .before .before .before .before .before .before .before in
     let S = L .before .before .before .before .before .before .before .before in
     let I = L .loop .inv in
-    let step = dividing-step (S .pre .0 .0 .prime) I (S .pre .0 .1) (S .pre .1 .0 .0) (omega arith) (omega arith) (omega arith) in
+    let on = T .before .before in
+    let some = on .before .before .before .if1 .taken in
+    let filled = pos-of-ne-zero (on .before .if2 .left) in
+    let step = dividing-step (S .pre .0 .0 .prime) I (S .pre .0 .1) (S .pre .1 .0 .0) some filled (on .if3 .left) in
     let small = Stepping.step-factor _ (S .pre .0 .0 .prime) step _ (T .take-multiple .ensures .factor) in
     (S .pre .0 .0, I .below _, small)
 
 mul-quotients : tie.Need-mul-quotients Inv-loop μ-loop
-mul-quotients c = Rows.quotient-bytes (c .before .before .before .before .before .before .before .before .before .before .before .loop .found .size) _ (c .before .before .before .before .before .before .before .before .before .before .before .loop .inv .ends .within)
+mul-quotients c = Rows.quotient-bytes _ _ (c .before .before .before .before .before .before .before .before .before .before .before .loop .inv .ends .within)
 
 slice-write-quotients : tie.Need-slice-write-quotients Inv-loop μ-loop
 slice-write-quotients c =
     let L = c .before .before .before .before .before .before .before .before .before .before .before in
     let S = L .before .before .before .before .before .before .before .before in
     let I = L .loop .inv in
-    let step = dividing-step (S .pre .0 .0 .prime) I (S .pre .0 .1) (S .pre .1 .0 .0) (omega arith) (omega arith) (omega arith) in
+    let on = c .before .before .before .before .before .before in
+    let some = on .before .before .before .if1 .taken in
+    let filled = pos-of-ne-zero (on .before .if2 .left) in
+    let step = dividing-step (S .pre .0 .0 .prime) I (S .pre .0 .1) (S .pre .1 .0 .0) some filled (on .if3 .left) in
     omega (arith, Stepping.place-inside step, I .same-quotients)
 
 find-rest-requires : tie.Need-find-rest-requires Inv-loop μ-loop
@@ -141,7 +153,10 @@ loop-again c =
     let L = T .before .before .before .before .before .before .before in
     let S = L .before .before .before .before .before .before .before .before in
     let I = L .loop .inv in
-    let step = dividing-step (S .pre .0 .0 .prime) I (S .pre .0 .1) (S .pre .1 .0 .0) (omega arith) (omega arith) (omega arith) in
+    let on = T .before .before in
+    let some = on .before .before .before .if1 .taken in
+    let filled = pos-of-ne-zero (on .before .if2 .left) in
+    let step = dividing-step (S .pre .0 .0 .prime) I (S .pre .0 .1) (S .pre .1 .0 .0) some filled (on .if3 .left) in
     dividing-turn (S .pre .0 .0 .prime) I step (takes-left (step .some) (T .take-multiple .ensures) (c .find-rest .ensures))
     (S .pre .1 .1 .0) _ (A .add .ensures)
 

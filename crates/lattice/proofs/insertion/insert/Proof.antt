@@ -24,13 +24,13 @@ sub-q : tie.Need-sub-q Inv-loop μ-loop
 sub-q c = c .before .if1 .taken
 
 sub-q-2 : tie.Need-sub-q-2 Inv-loop μ-loop
-sub-q-2 c = Rows.lane-most (c .before .before .before .loop .hand .size)
+sub-q-2 c = Rows.lane-most _
 
 mul-if2 : tie.Need-mul-if2 Inv-loop μ-loop
-mul-if2 c = Rows.row-bytes (c .before .before .before .loop .hand .size)
+mul-if2 c = Rows.row-bytes _
 
 slice-read-if2 : tie.Need-slice-read-if2 Inv-loop μ-loop
-slice-read-if2 c = Rows.size-there (c .before .before .before .before .loop .inv .moved .valid .level) (c .before .before .before .before .loop .hand .size)
+slice-read-if2 c = Rows.size-there (c .before .before .before .before .loop .inv .moved .valid .level) _
 
 same-length : tie.Need-same-length Inv-loop μ-loop
 same-length c = c .before .before .before .before .before .loop .inv .lengths .slots

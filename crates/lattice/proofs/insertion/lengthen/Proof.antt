@@ -10,13 +10,13 @@ sub-q : tie.Need-sub-q
 sub-q c = c .before .before .before .before .before .pre .1 .1 .some
 
 sub-q-2 : tie.Need-sub-q-2
-sub-q-2 c = Rows.lane-most (c .before .before .before .before .before .args .hand .size)
+sub-q-2 c = Rows.lane-most _
 
 mul-if1 : tie.Need-mul-if1
-mul-if1 c = Rows.row-bytes (c .before .before .before .before .before .args .hand .size)
+mul-if1 c = Rows.row-bytes _
 
 slice-read-if1 : tie.Need-slice-read-if1
-slice-read-if1 c = Rows.size-there (c .before .before .before .before .before .before .pre .1 .0 .level) (c .before .before .before .before .before .before .args .hand .size)
+slice-read-if1 c = Rows.size-there (c .before .before .before .before .before .before .pre .1 .0 .level) _
 
 swap-with-slot-requires : tie.Need-swap-with-slot-requires
 swap-with-slot-requires c κs =

@@ -1,6 +1,7 @@
 -- Two calls of `exchange`, for the blocks and for the tails; what they leave is the memory of `Swapping`.
 use mathlib.Core.Path.{_∙_}
 use Prim.Native.Nat.{_≤_, _<_}
+use native.Mathlib.Nat.{le-of-lt}
 use native.Mathlib.Omega.{arith}
 use lib.ListN.{length-set}
 use borrow.Author.Needs.{needs}
@@ -18,29 +19,29 @@ sub-q : tie.Need-sub-q
 sub-q c = c .before .before .before .before .before .pre .1 .1 .some
 
 sub-q-2 : tie.Need-sub-q-2
-sub-q-2 c = Rows.lane-most (c .before .before .before .before .before .args .hand .size)
+sub-q-2 c = Rows.lane-most _
 
 mul-size : tie.Need-mul-size
-mul-size c = Rows.row-bytes (c .before .before .before .before .before .args .hand .size)
+mul-size c = Rows.row-bytes _
 
 slice-read-size : tie.Need-slice-read-size
-slice-read-size c = Rows.size-there (c .before .before .before .before .before .before .pre .1 .0 .level) (c .before .before .before .before .before .before .args .hand .size)
+slice-read-size c = Rows.size-there (c .before .before .before .before .before .before .pre .1 .0 .level) _
 
 add-slot-tail : tie.Need-add-slot-tail
-add-slot-tail c = Rows.tail-place (c .before .before .before .before .before .before .args .hand .size)
+add-slot-tail c = Rows.tail-place _
 
 mul-slot-tail : tie.Need-mul-slot-tail
-mul-slot-tail c = Rows.tail-bytes (c .before .before .before .before .before .before .args .hand .size)
+mul-slot-tail c = Rows.tail-bytes _
 
 slice-read-slot-tail : tie.Need-slice-read-slot-tail
-slice-read-slot-tail c = Rows.tail-size-there (c .before .before .before .before .before .before .before .pre .1 .0 .level) (c .before .before .before .before .before .before .before .args .hand .size)
+slice-read-slot-tail c = Rows.tail-size-there (c .before .before .before .before .before .before .before .pre .1 .0 .level) _
 
 find-leading-requires : tie.Need-find-leading-requires
 find-leading-requires c κs =
     let S = c .before .before .before .before .before .before .before .before in
     let valid = S .pre .1 .0 in
     let m : ValidModulus (S .args .modulus) = S .pre .0 in
-    let positive : 0 < S .args .modulus .p = omega (arith, m .prime .large) in
+    let positive : 0 < S .args .modulus .p = le-of-lt (m .prime .large) in
     let room = sums-room _ (S .args .tail .now) _ positive (valid .hand .tail-sums) in
     ((m, omega (arith, valid .hand .tail-within, valid .hand .tail-room)), λ j lt. omega (arith, room j))
 
@@ -48,7 +49,7 @@ larger-requires : tie.Need-larger-requires
 larger-requires c κs = tt
 
 mul-exchange : tie.Need-mul-exchange
-mul-exchange c = Rows.block-start (c .before .before .before .before .before .before .before .before .before .before .before .before .args .hand .size)
+mul-exchange c = Rows.block-start _
 
 exchange-requires : tie.Need-exchange-requires
 exchange-requires c κs =
@@ -56,7 +57,7 @@ exchange-requires c κs =
     let S = W .before .before .before .before .before .before .before .before .before .before in
     let valid = S .pre .1 .0 in
     let m : ValidModulus (S .args .modulus) = S .pre .0 in
-    let positive : 0 < S .args .modulus .p = omega (arith, m .prime .large) in
+    let positive : 0 < S .args .modulus .p = le-of-lt (m .prime .large) in
     let slot = valid .level .slot (row (S .args .hand .size)) (omega arith) in
     let room = sums-room _ (S .args .block .now) _ positive (valid .hand .sums) in
     let most = W .larger .ensures in
@@ -67,10 +68,10 @@ larger-requires-2 : tie.Need-larger-requires-2
 larger-requires-2 c κs = tt
 
 mul-exchange-2 : tie.Need-mul-exchange-2
-mul-exchange-2 c = Rows.block-start (c .before .before .before .before .before .before .before .before .before .before .before .before .before .before .before .before .before .before .before .before .args .hand .size)
+mul-exchange-2 c = Rows.block-start _
 
 add-exchange : tie.Need-add-exchange
-add-exchange c = Rows.tail-start (c .before .before .before .before .before .before .before .before .before .before .before .before .before .before .before .before .before .before .before .before .args .hand .size)
+add-exchange c = Rows.tail-start _
 
 exchange-requires-2 : tie.Need-exchange-requires-2
 exchange-requires-2 c κs =
@@ -81,7 +82,7 @@ exchange-requires-2 c κs =
     let S = T .before .before .before .before .before .before .before .before .before in
     let valid = S .pre .1 .0 in
     let m : ValidModulus (S .args .modulus) = S .pre .0 in
-    let positive : 0 < S .args .modulus .p = omega (arith, m .prime .large) in
+    let positive : 0 < S .args .modulus .p = le-of-lt (m .prime .large) in
     let room = sums-room _ (S .args .tail .now) _ positive (valid .hand .tail-sums) in
     let E = swap-of positive valid (S .pre .1 .1) _ (T .find-leading .ensures .0) _ (W .larger .ensures) _ (Y .larger2 .ensures) in
     let within = tails-fit E in
@@ -96,28 +97,28 @@ inverse-requires c κs =
     (S .pre .0, first .0, first .1)
 
 mul-inverses : tie.Need-mul-inverses
-mul-inverses c = Rows.row-bytes (c .before .before .before .before .before .before .before .before .before .before .before .before .before .before .before .before .before .before .before .before .before .before .before .before .before .before .args .hand .size)
+mul-inverses c = Rows.row-bytes _
 
 slice-write-inverses : tie.Need-slice-write-inverses
 slice-write-inverses c =
     let X = c .before .before .before .before .before .before .before .before .before .before .before .before .before in
     let S = X .before .before .before .before .before .before .before .before .before .before .before .before .before in
-    omega (arith, S .pre .1 .0 .level .all-inverses)
+    Rows.inverse-there (S .pre .1 .0 .level) (S .args .hand .size)
 
 mul-sizes : tie.Need-mul-sizes
-mul-sizes c = Rows.row-bytes (c .before .before .before .before .before .before .before .before .before .before .before .before .before .before .before .before .before .before .before .before .before .before .before .before .before .before .args .hand .size)
+mul-sizes c = Rows.row-bytes _
 
 slice-write-sizes : tie.Need-slice-write-sizes
 slice-write-sizes c =
     let X = c .before .before .before .before .before .before .before .before .before .before .before .before .before in
     let S = X .before .before .before .before .before .before .before .before .before .before .before .before .before in
-    omega (arith, S .pre .1 .0 .level .all-sizes)
+    Rows.size-there (S .pre .1 .0 .level) (S .args .hand .size)
 
 add-sizes : tie.Need-add-sizes
-add-sizes c = Rows.tail-place (c .before .before .before .before .before .before .before .before .before .before .before .before .before .before .before .before .before .before .before .before .before .before .before .before .before .before .args .hand .size)
+add-sizes c = Rows.tail-place _
 
 mul-sizes-2 : tie.Need-mul-sizes-2
-mul-sizes-2 c = Rows.tail-bytes (c .before .before .before .before .before .before .before .before .before .before .before .before .before .before .before .before .before .before .before .before .before .before .before .before .before .before .args .hand .size)
+mul-sizes-2 c = Rows.tail-bytes _
 
 slice-write-sizes-2 : tie.Need-slice-write-sizes-2
 slice-write-sizes-2 c =
@@ -135,7 +136,7 @@ find-leading-requires-2 c κs =
     let S = T .before .before .before .before .before .before .before .before .before in
     let valid = S .pre .1 .0 in
     let m : ValidModulus (S .args .modulus) = S .pre .0 in
-    let positive : 0 < S .args .modulus .p = omega (arith, m .prime .large) in
+    let positive : 0 < S .args .modulus .p = le-of-lt (m .prime .large) in
     let slot = valid .level .slot (row (S .args .hand .size)) (omega arith) in
     let E = swap-of positive valid (S .pre .1 .1) _ (T .find-leading .ensures .0) _ (W .larger .ensures) _ (Y .larger2 .ensures) in
     let same = X .exchange .kept .0 in (
@@ -169,7 +170,7 @@ returns c =
     let S = T .before .before .before .before .before .before .before .before .before in
     let valid = S .pre .1 .0 in
     let m : ValidModulus (S .args .modulus) = S .pre .0 in
-    let positive : 0 < S .args .modulus .p = omega (arith, m .prime .large) in
+    let positive : 0 < S .args .modulus .p = le-of-lt (m .prime .large) in
     let E = swap-of positive valid (S .pre .1 .1) _ (T .find-leading .ensures .0) _ (W .larger .ensures) _ (Y .larger2 .ensures) in
     let blocks = X .exchange .ensures in
     let tails = Z .exchange2 .ensures in

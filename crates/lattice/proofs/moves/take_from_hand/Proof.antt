@@ -1,6 +1,7 @@
 -- The step on the block is that of `take_multiple`, and the same multiple is taken off the tail.
 use Prim.Native.Nat.{_+_, _*_, _≤_}
 use mathlib.Core.Path.{refl}
+use native.Mathlib.Nat.{le-of-lt}
 use native.Mathlib.Omega.{arith}
 use Rattle.residue.specs.Modulus.{ValidModulus}
 use Rattle.lattice.specs.Memory.{row}
@@ -15,25 +16,25 @@ sub-q : tie.Need-sub-q
 sub-q c = c .before .before .before .before .before .pre .1 .1 .some
 
 sub-q-2 : tie.Need-sub-q-2
-sub-q-2 c = Rows.lane-most (c .before .before .before .before .before .args .hand .size)
+sub-q-2 c = Rows.lane-most _
 
 mul-shift : tie.Need-mul-shift
-mul-shift c = Rows.row-bytes (c .before .before .before .before .before .args .hand .size)
+mul-shift c = Rows.row-bytes _
 
 shared-slice-read-shift : tie.Need-shared-slice-read-shift
-shared-slice-read-shift c = Rows.size-there (c .before .before .before .before .before .before .pre .1 .0 .level) (c .before .before .before .before .before .before .args .hand .size)
+shared-slice-read-shift c = Rows.size-there (c .before .before .before .before .before .before .pre .1 .0 .level) _
 
 sub-shift : tie.Need-sub-shift
 sub-shift c = c .before .before .before .before .before .before .pre .1 .1 .shorter
 
 add-size : tie.Need-add-size
-add-size c = Rows.tail-place (c .before .before .before .before .before .before .args .hand .size)
+add-size c = Rows.tail-place _
 
 mul-size : tie.Need-mul-size
-mul-size c = Rows.tail-bytes (c .before .before .before .before .before .before .args .hand .size)
+mul-size c = Rows.tail-bytes _
 
 shared-slice-read-size : tie.Need-shared-slice-read-size
-shared-slice-read-size c = Rows.tail-size-there (c .before .before .before .before .before .before .before .pre .1 .0 .level) (c .before .before .before .before .before .before .before .args .hand .size)
+shared-slice-read-size c = Rows.tail-size-there (c .before .before .before .before .before .before .before .pre .1 .0 .level) _
 
 take-multiple-requires : tie.Need-take-multiple-requires
 take-multiple-requires c κs =
@@ -55,27 +56,24 @@ sub-minus c =
     let F = c .before .before in
     let A = F .before .before .before .before in
     let S = A .before .before .before .before .before .before .before .before .before in
-    omega (
-      arith,
-      Taking.factor-below (S .pre .0 .prime) (S .pre .1 .0) (S .pre .1 .1)
-          (takes-left (S .pre .1 .1 .some) (A .take-multiple .ensures) (F .find-rest .ensures)),
-    )
+    le-of-lt (Taking.factor-below (S .pre .0 .prime) (S .pre .1 .0) (S .pre .1 .1)
+    (takes-left (S .pre .1 .1 .some) (A .take-multiple .ensures) (F .find-rest .ensures)))
 
 add-words : tie.Need-add-words
 add-words c =
     let S = c .before .before .before .before .before .before .before .before .before .before .before .before .before .before .before in
-    omega (arith, S .pre .1 .0 .level .slot (row (S .args .hand .size)) (omega arith) .tail-within)
+    Rows.rounded-tail (S .pre .1 .0 .level) (S .args .hand .size)
 
 mul-words : tie.Need-mul-words
 mul-words c =
     let S = c .before .before .before .before .before .before .before .before .before .before .before .before .before .before .before in
-    omega (arith, S .pre .1 .0 .level .slot (row (S .args .hand .size)) (omega arith) .tail-within)
+    Rows.tail-words (S .pre .1 .0 .level) (S .args .hand .size)
 
 mul-add-scaled : tie.Need-mul-add-scaled
-mul-add-scaled c = Rows.block-start (c .before .before .before .before .before .before .before .before .before .before .before .before .before .before .before .before .args .hand .size)
+mul-add-scaled c = Rows.block-start _
 
 add-add-scaled : tie.Need-add-add-scaled
-add-add-scaled c = Rows.tail-start (c .before .before .before .before .before .before .before .before .before .before .before .before .before .before .before .before .args .hand .size)
+add-add-scaled c = Rows.tail-start _
 
 add-scaled-requires : tie.Need-add-scaled-requires
 add-scaled-requires c κs =

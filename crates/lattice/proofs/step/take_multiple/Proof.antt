@@ -1,6 +1,7 @@
 -- The words are those of `add_scaled`; the word before the leading one is known before it.
 use Prim.Native.Nat.{ℕ, _+_, _-_, _*_, _≤_, _<_}
 use mathlib.Core.Path.{refl}
+use native.Mathlib.Nat.{le-of-lt}
 use native.Mathlib.Omega.{arith}
 use Rattle.residue.specs.Modulus.{ValidModulus}
 use Rattle.lattice.specs.Memory.{row}
@@ -13,44 +14,44 @@ sub-q : tie.Need-sub-q
 sub-q c = c .before .before .before .before .pre .1 .0 .some
 
 sub-q-2 : tie.Need-sub-q-2
-sub-q-2 c = Rows.lane-most (c .before .before .before .before .args .found .size)
+sub-q-2 c = Rows.lane-most _
 
 mul-size : tie.Need-mul-size
-mul-size c = Rows.row-bytes (c .before .before .before .before .args .found .size)
+mul-size c = Rows.row-bytes _
 
 shared-slice-read-size : tie.Need-shared-slice-read-size
-shared-slice-read-size c = Rows.size-there (c .before .before .before .before .before .pre .1 .0 .level) (c .before .before .before .before .before .args .found .size)
+shared-slice-read-size c = Rows.size-there (c .before .before .before .before .before .pre .1 .0 .level) _
 
 mul-mul : tie.Need-mul-mul
-mul-mul c = Rows.row-bytes (c .before .before .before .before .before .args .found .size)
+mul-mul c = Rows.row-bytes _
 
 shared-slice-read-mul : tie.Need-shared-slice-read-mul
-shared-slice-read-mul c = Rows.inverse-there (c .before .before .before .before .before .before .pre .1 .0 .level) (c .before .before .before .before .before .before .args .found .size)
+shared-slice-read-mul c = Rows.inverse-there (c .before .before .before .before .before .before .pre .1 .0 .level) _
 
 mul-requires : tie.Need-mul-requires
 mul-requires c κs =
     let S = c .before .before .before .before .before .before in
     let m : ValidModulus (S .args .modulus) = S .pre .0 in
     let step = S .pre .1 .0 in
-    (m, Stepping.value-below (omega (arith, m .prime .large)) step, Stepping.slot-inverse-below (m .prime) step)
+    (m, Stepping.value-below (le-of-lt (m .prime .large)) step, Stepping.slot-inverse-below (m .prime) step)
 
 sub-minus : tie.Need-sub-minus
 sub-minus c =
     let A = c .before in
     let S = A .before .before .before .before .before .before .before in
-    omega (arith, Stepping.step-factor _ (S .pre .0 .prime) (S .pre .1 .0) _ (A .mul .ensures))
+    le-of-lt (Stepping.step-factor _ (S .pre .0 .prime) (S .pre .1 .0) _ (A .mul .ensures))
 
 add-words : tie.Need-add-words
-add-words c = Rows.rounded-size (c .before .before .before .before .before .before .before .before .pre .1 .0 .level) (c .before .before .before .before .before .before .before .before .args .found .size)
+add-words c = Rows.rounded-size (c .before .before .before .before .before .before .before .before .pre .1 .0 .level) _
 
 mul-words : tie.Need-mul-words
-mul-words c = Rows.degree-words (c .before .before .before .before .before .before .before .before .pre .1 .0 .level) (c .before .before .before .before .before .before .before .before .args .found .size)
+mul-words c = Rows.degree-words (c .before .before .before .before .before .before .before .before .pre .1 .0 .level) _
 
 sub-word-before : tie.Need-sub-word-before
 sub-word-before c = c .before .before .before .before .before .before .before .before .before .pre .1 .0 .fits
 
 mul-word-before : tie.Need-mul-word-before
-mul-word-before c = Rows.block-start (c .before .before .before .before .before .before .before .before .before .args .found .size)
+mul-word-before c = Rows.block-start _
 
 word-before-requires : tie.Need-word-before-requires
 word-before-requires c κs =
@@ -68,7 +69,7 @@ sub-add-scaled : tie.Need-sub-add-scaled
 sub-add-scaled c = c .before .before .before .before .before .before .before .before .before .before .before .pre .1 .0 .fits
 
 mul-add-scaled : tie.Need-mul-add-scaled
-mul-add-scaled c = Rows.block-start (c .before .before .before .before .before .before .before .before .before .before .before .args .found .size)
+mul-add-scaled c = Rows.block-start _
 
 add-scaled-requires : tie.Need-add-scaled-requires
 add-scaled-requires c κs =
