@@ -16,19 +16,34 @@ take-from-hand-requires c κs =
     (S .pre .0, (X .lengthen .ensures .moved .valid, X .lengthen .ensures .fits))
 
 same-length : tie.Need-same-length
-same-length c = c .before .before .before .before .before .before .before .before .before .before .before .before .before .before .before .before .before .before .before .before .lengthen .kept .0
+same-length c =
+    let Z = c .before .before .before .before in
+    let X = Z .before .before .before .before .before .before .before .before .before .before .before .before .before .before .before .before in
+    X .lengthen .kept .0
 
 same-length-2 : tie.Need-same-length-2
-same-length-2 c = c .before .before .before .before .before .before .before .before .before .before .before .before .before .before .before .before .before .before .before .before .lengthen .kept .1 .0
+same-length-2 c =
+    let Z = c .before .before .before .before in
+    let X = Z .before .before .before .before .before .before .before .before .before .before .before .before .before .before .before .before in
+    X .lengthen .kept .1 .0
 
 same-length-3 : tie.Need-same-length-3
-same-length-3 c = c .before .before .before .before .before .before .before .before .before .before .before .before .before .before .before .before .before .before .before .before .lengthen .kept .1 .1 .0
+same-length-3 c =
+    let Z = c .before .before .before .before in
+    let X = Z .before .before .before .before .before .before .before .before .before .before .before .before .before .before .before .before in
+    X .lengthen .kept .1 .1 .0
 
 same-length-4 : tie.Need-same-length-4
-same-length-4 c = c .before .before .before .before .take-from-hand .kept .1 .1 .1 .0 ∙ c .before .before .before .before .before .before .before .before .before .before .before .before .before .before .before .before .before .before .before .before .lengthen .kept .1 .1 .1 .0
+same-length-4 c =
+    let Z = c .before .before .before .before in
+    let X = Z .before .before .before .before .before .before .before .before .before .before .before .before .before .before .before .before in
+    Z .take-from-hand .kept .1 .1 .1 .0 ∙ X .lengthen .kept .1 .1 .1 .0
 
 same-length-5 : tie.Need-same-length-5
-same-length-5 c = c .before .before .before .before .take-from-hand .kept .1 .1 .1 .1 .0 ∙ c .before .before .before .before .before .before .before .before .before .before .before .before .before .before .before .before .before .before .before .before .lengthen .kept .1 .1 .1 .1 .0
+same-length-5 c =
+    let Z = c .before .before .before .before in
+    let X = Z .before .before .before .before .before .before .before .before .before .before .before .before .before .before .before .before in
+    Z .take-from-hand .kept .1 .1 .1 .1 .0 ∙ X .lengthen .kept .1 .1 .1 .1 .0
 
 returns : tie.Need-returns
 returns c =

@@ -4,7 +4,6 @@ use Prim.Native.Nat.{_≤_, _<_}
 use native.Mathlib.Nat.{le-of-lt}
 use native.Mathlib.Omega.{arith}
 use lib.ListN.{length-set}
-use borrow.Author.Needs.{needs}
 use Rattle.residue.specs.Modulus.{ValidModulus}
 use Rattle.lattice.specs.Memory.{row}
 use Rattle.lattice.specs.Sums.{sums-room}
@@ -145,16 +144,20 @@ find-leading-requires-2 c κs =
     )
 
 same-length : tie.Need-same-length
-same-length c = c .before .before .before .before .before .before .before .exchange2 .kept .1 .0 ∙ c .before .before .before .before .before .before .before .before .before .before .before .before .before .before .before .exchange .kept .1 .0
+same-length c =
+    let Z = c .before .before .before .before .before .before .before in
+    Z .exchange2 .kept .1 .0 ∙ Z .before .before .before .before .before .before .before .before .exchange .kept .1 .0
 
 same-length-2 : tie.Need-same-length-2
-same-length-2 c = search needs
+same-length-2 c = simp length-set
 
 same-length-3 : tie.Need-same-length-3
-same-length-3 c = search needs
+same-length-3 c = simp length-set
 
 same-length-4 : tie.Need-same-length-4
-same-length-4 c = c .before .before .before .before .before .before .before .before .before .before .before .before .before .before .before .exchange .kept .0
+same-length-4 c =
+    let Z = c .before .before .before .before .before .before .before in
+    Z .before .before .before .before .before .before .before .before .exchange .kept .0
 
 same-length-5 : tie.Need-same-length-5
 same-length-5 c = c .before .before .before .before .before .before .before .exchange2 .kept .0
