@@ -1,7 +1,7 @@
 -- Two calls of `exchange`, for the blocks and for the tails; what they leave is the memory of `Swapping`.
 use mathlib.Core.Path.{_∙_}
 use Prim.Native.Nat.{_≤_, _<_}
-use native.Mathlib.Nat.{le-of-lt}
+use native.Mathlib.Nat.{le-of-lt, le-trans, le-add-right}
 use native.Mathlib.Omega.{arith}
 use lib.ListN.{length-set}
 use Rattle.residue.specs.Modulus.{ValidModulus}
@@ -9,7 +9,7 @@ use Rattle.lattice.specs.Memory.{row}
 use Rattle.lattice.specs.Sums.{sums-room}
 use Rattle.lattice.specs.Reading.{leading-residue}
 use Rattle.lattice.proofs.Rows
-use Rattle.lattice.proofs.SwappedWords.{swap-of, tails-fit, block-reducible}
+use Rattle.lattice.proofs.SwappedWords.{swap-of, blocks-there, tails-there, block-there, block-reducible}
 use Rattle.lattice.proofs.Swapping.{swapping}
 use Rattle.lattice.proofs.moves.swap_with_slot.Statement.{statement}
 use Rattle.lattice.proofs.moves.swap_with_slot.Tie as tie
@@ -42,7 +42,7 @@ find-leading-requires c κs =
     let m : ValidModulus (S .args .modulus) = S .pre .0 in
     let positive : 0 < S .args .modulus .p = le-of-lt (m .prime .large) in
     let room = sums-room _ (S .args .tail .now) _ positive (valid .hand .tail-sums) in
-    ((m, omega (arith, valid .hand .tail-within, valid .hand .tail-room)), λ j lt. omega (arith, room j))
+    ((m, le-trans (valid .hand .tail-within) (valid .hand .tail-room)), λ j lt. le-trans (le-add-right _ _) (room j))
 
 larger-requires : tie.Need-larger-requires
 larger-requires c κs = tt
@@ -57,11 +57,9 @@ exchange-requires c κs =
     let valid = S .pre .1 .0 in
     let m : ValidModulus (S .args .modulus) = S .pre .0 in
     let positive : 0 < S .args .modulus .p = le-of-lt (m .prime .large) in
-    let slot = valid .level .slot (row (S .args .hand .size)) (omega arith) in
     let room = sums-room _ (S .args .block .now) _ positive (valid .hand .sums) in
-    let most = W .larger .ensures in
-    let within : W .larger .result ≤ 128 = omega (arith, slot .block .within, S .pre .1 .1 .block) in
-    ((m, omega (arith, valid .hand .room), omega (arith, valid .level .room)), λ j lt. omega (arith, room j))
+    let there = blocks-there valid (S .pre .1 .1) _ (W .larger .ensures) in
+    ((m, there .0, there .1), λ j lt. le-trans (le-add-right _ _) (room j))
 
 larger-requires-2 : tie.Need-larger-requires-2
 larger-requires-2 c κs = tt
@@ -84,9 +82,8 @@ exchange-requires-2 c κs =
     let positive : 0 < S .args .modulus .p = le-of-lt (m .prime .large) in
     let room = sums-room _ (S .args .tail .now) _ positive (valid .hand .tail-sums) in
     let E = swap-of positive valid (S .pre .1 .1) _ (T .find-leading .ensures .0) _ (W .larger .ensures) _ (Y .larger2 .ensures) in
-    let within = tails-fit E in
-    let same = X .exchange .kept .1 .0 in
-    ((m, omega (arith, valid .hand .tail-room), omega (arith, valid .level .room)), λ j lt. omega (arith, room j))
+    let there = tails-there E (X .exchange .last .1 .0) (X .exchange .kept .1 .0) in
+    ((m, there .0, there .1), λ j lt. le-trans (le-add-right _ _) (room j))
 
 inverse-requires : tie.Need-inverse-requires
 inverse-requires c κs =
@@ -136,10 +133,8 @@ find-leading-requires-2 c κs =
     let valid = S .pre .1 .0 in
     let m : ValidModulus (S .args .modulus) = S .pre .0 in
     let positive : 0 < S .args .modulus .p = le-of-lt (m .prime .large) in
-    let slot = valid .level .slot (row (S .args .hand .size)) (omega arith) in
-    let E = swap-of positive valid (S .pre .1 .1) _ (T .find-leading .ensures .0) _ (W .larger .ensures) _ (Y .larger2 .ensures) in
-    let same = X .exchange .kept .0 in (
-      (m, omega (arith, slot .block .within, valid .hand .room)),
+    let E = swap-of positive valid (S .pre .1 .1) _ (T .find-leading .ensures .0) _ (W .larger .ensures) _ (Y .larger2 .ensures) in (
+      (m, block-there E (X .exchange .last .0) (X .exchange .kept .0)),
       λ j lt. block-reducible E _ (X .exchange .ensures .0) positive j,
     )
 
