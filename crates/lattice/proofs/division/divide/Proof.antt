@@ -2,7 +2,7 @@
 use Prim.Native.Nat.{_<_}
 use mathlib.Core.Path.{_≡_, subst}
 use mathlib.Core.Logic.{inl, inr}
-use native.Mathlib.Nat.{le-of-lt, pos-of-ne-zero}
+use native.Mathlib.Nat.{le-of-lt, le-trans, le-add-right, pos-of-ne-zero}
 use native.Mathlib.Omega.{arith}
 use Rattle.residue.specs.Modulus.{ValidModulus}
 use Rattle.lattice.specs.Memory.{level}
@@ -28,7 +28,7 @@ find-leading-requires c κs =
     let S = c .before .before .before .before .before .before in
     let m : ValidModulus (S .args .modulus) = S .pre .0 .0 in
     let room = sums-room _ (S .args .block .now) 2112 (le-of-lt (m .prime .large)) (S .pre .1 .0 .3) in
-    ((m, omega arith), λ j lt. omega (arith, room j))
+    ((m, le-trans (S .pre .1 .0 .1) (S .pre .1 .0 .0)), λ j lt. le-trans (le-add-right _ _) (room j))
 
 loop-holds : tie.Need-loop-holds Inv-loop μ-loop
 loop-holds c =
