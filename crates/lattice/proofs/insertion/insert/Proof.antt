@@ -1,4 +1,5 @@
 -- The loop keeps an `Inserting`; its measure is the places.
+use native.Mathlib.Nat.{pos-of-ne-zero}
 use native.Mathlib.Omega.{arith}
 use Rattle.lattice.specs.Memory.{level, memory, places}
 use Rattle.lattice.proofs.Rows
@@ -58,7 +59,10 @@ turn-requires c κs =
     let L = c .before .before .before .before .before .before .before .before .before .before in
     let S = L .before .before .before .before .before .before in
     let I = L .loop .inv in
-    (S .pre .0, (I .moved .valid, inserting-on (S .pre .0 .prime) (S .pre .1 .0) (S .pre .1 .1) I (omega arith) (omega arith)))
+    let on = c .before .before .before .before .before in
+    let some = on .before .before .before .if1 .taken in
+    let filled = pos-of-ne-zero (on .if2 .left) in
+    (S .pre .0, (I .moved .valid, inserting-on (S .pre .0 .prime) (S .pre .1 .0) (S .pre .1 .1) I some filled))
 
 loop-less : tie.Need-loop-less Inv-loop μ-loop
 loop-less c =

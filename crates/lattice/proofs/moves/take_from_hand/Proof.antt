@@ -1,13 +1,14 @@
 -- The step on the block is that of `take_multiple`, and the same multiple is taken off the tail.
 use Prim.Native.Nat.{_+_, _*_, _≤_}
 use mathlib.Core.Path.{refl}
-use native.Mathlib.Nat.{le-of-lt}
+use native.Mathlib.Nat.{le-of-lt, le-trans}
 use native.Mathlib.Omega.{arith}
 use Rattle.residue.specs.Modulus.{ValidModulus}
 use Rattle.lattice.specs.Memory.{row}
 use Rattle.lattice.specs.Sums.{sums-fewer}
 use Rattle.lattice.specs.Step.{takes-left}
 use Rattle.lattice.proofs.Rows
+use Rattle.lattice.proofs.Stepping
 use Rattle.lattice.proofs.Taking
 use Rattle.lattice.proofs.moves.take_from_hand.Statement.{statement}
 use Rattle.lattice.proofs.moves.take_from_hand.Tie as tie
@@ -81,17 +82,16 @@ add-scaled-requires c κs =
     let A = F .before .before .before .before in
     let S = A .before .before .before .before .before .before .before .before .before in
     let m : ValidModulus (S .args .modulus) = S .pre .0 in
-    let limit : S .args .modulus .p ≤ 65521 = m .limit in
     let valid = S .pre .1 .0 in
     let fits = S .pre .1 .1 in
     let taken = takes-left (fits .some) (A .take-multiple .ensures) (F .find-rest .ensures) in (
       (
-        omega (arith, Taking.taking-room (m .prime) valid fits taken _ refl, valid .hand .tail-room),
+        le-trans (Taking.taking-room (m .prime) valid fits taken _ refl) (valid .hand .tail-room),
         Taking.taking-slot-room (m .prime) valid fits taken _ refl,
-        omega arith,
+        Stepping.minus-short (m .limit) _,
       ),
       (
-        (λ j lt. omega (arith, valid .level .below (256 * row (S .args .hand .size) + 128 + j))),
+        (λ j lt. Stepping.word-short (m .limit) (valid .level .below _)),
         λ j lt. Taking.taking-sum (m .prime) valid fits taken (m .limit) j,
       ),
     )

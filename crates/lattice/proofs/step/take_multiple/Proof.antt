@@ -76,12 +76,11 @@ add-scaled-requires c κs =
     let A = c .before .before .before .before in
     let S = A .before .before .before .before .before .before .before in
     let m : ValidModulus (S .args .modulus) = S .pre .0 in
-    let limit : S .args .modulus .p ≤ 65521 = m .limit in
     let step = S .pre .1 .0 in
     let by = A .mul .ensures in (
-      (Stepping.step-room _ (m .prime) step _ by, Stepping.step-slot-room _ (m .prime) step _ by, omega arith),
+      (Stepping.step-room _ (m .prime) step _ by, Stepping.step-slot-room _ (m .prime) step _ by, Stepping.minus-short (m .limit) _),
       (
-        (λ j lt. omega (arith, step .level .below (256 * row (S .args .found .size) + j))),
+        (λ j lt. Stepping.word-short (m .limit) (step .level .below _)),
         λ j lt. Stepping.step-sum _ (m .prime) step _ by (S .pre .1 .1) (m .limit) j,
       ),
     )
