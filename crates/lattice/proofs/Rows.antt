@@ -10,9 +10,6 @@ use Rattle.lattice.specs.Memory.{row, Level, slotSize, tailSize, ValidLe
 pub lane-most : (k : ℕ) → (k - 1) % 8 ≤ 7
 lane-most k = omega arith
 
-pub row-most : (k : ℕ) → row k ≤ 7
-row-most k = omega arith
-
 -- the bytes before an entry of the inverses, or of the sizes of blocks
 pub row-bytes : (k : ℕ) → Fits w64 (row k * 8)
 row-bytes k = omega arith
@@ -53,10 +50,3 @@ module _ {p : ℕ} {L : Level} (valid : ValidLevel p L) (k : ℕ) where
 
   pub tail-words : Fits w64 ((tailSize L (row k) + 7) / 8 * 8)
   tail-words = omega (arith, valid .slot (row k) (omega arith) .tail-within)
-
--- the place of a factor among the quotients, and the bytes before it
-pub quotient-place : (k size : ℕ) → k ≤ 1088 → Fits w64 (k - size + (7 - row k))
-quotient-place k size within = omega arith
-
-pub quotient-bytes : (k size : ℕ) → k ≤ 1088 → Fits w64 ((k - size + (7 - row k)) * 8)
-quotient-bytes k size within = omega arith

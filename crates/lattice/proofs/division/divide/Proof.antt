@@ -4,6 +4,7 @@ use mathlib.Core.Path.{_≡_, subst}
 use mathlib.Core.Logic.{inl, inr}
 use native.Mathlib.Nat.{le-of-lt, le-trans, le-add-right, pos-of-ne-zero}
 use native.Mathlib.Omega.{arith}
+use borrow.Author.Needs.{needs}
 use Rattle.residue.specs.Modulus.{ValidModulus}
 use Rattle.lattice.specs.Memory.{level}
 use Rattle.lattice.specs.Found.{found-ends, found-leading}
@@ -88,13 +89,13 @@ take-multiple-requires c κs =
     (S .pre .0 .0, (step, sums-fewer _ (L .loop .block) _ 1 some (I .sums)))
 
 sub-place : tie.Need-sub-place Inv-loop μ-loop
-sub-place c = Rows.row-most _
+sub-place c = search needs
 
 add-place : tie.Need-add-place Inv-loop μ-loop
-add-place c = Rows.quotient-place _ _ (c .before .before .before .before .before .before .before .before .before .loop .inv .ends .within)
+add-place c = search needs
 
 mul-add : tie.Need-mul-add Inv-loop μ-loop
-mul-add c = Rows.quotient-bytes _ _ (c .before .before .before .before .before .before .before .before .before .loop .inv .ends .within)
+mul-add c = search needs
 
 slice-read-add : tie.Need-slice-read-add Inv-loop μ-loop
 slice-read-add c =
@@ -121,7 +122,7 @@ add-requires c κs =
     (S .pre .0 .0, I .below _, small)
 
 mul-quotients : tie.Need-mul-quotients Inv-loop μ-loop
-mul-quotients c = Rows.quotient-bytes _ _ (c .before .before .before .before .before .before .before .before .before .before .before .loop .inv .ends .within)
+mul-quotients c = search needs
 
 slice-write-quotients : tie.Need-slice-write-quotients Inv-loop μ-loop
 slice-write-quotients c =
