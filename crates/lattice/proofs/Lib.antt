@@ -1,3 +1,4 @@
+pub mod Rows
 pub mod Stepping
 pub mod Dividing
 pub mod Taking

@@ -56,6 +56,13 @@ early-left {p} {block} {n} R some = record {
   within = omega arith;
 }
 
+-- words of slots and factors are numbers of 32 bits, as `add_scaled` asks
+pub word-short : {p x : ℕ} → p ≤ 65521 → x < p → x < 4294967296
+word-short limit below = omega arith
+
+pub minus-short : {p : ℕ} → p ≤ 65521 → (a : ℕ) → p - a < 4294967296
+minus-short limit a = omega arith
+
 -- a times the slot is taken off, `shift` degrees up
 module _ (p : ℕ) (prime : Prime p) {L : Level} {block : List ℕ} {k value : ℕ} (S : HasStep p L block k value) (a : ℕ)
     (by : a ≡ factorOf p L k value) where

@@ -38,6 +38,14 @@ swap-of {p} positive {M} valid room t found e blocks m tails = record {
   tails = tails;
 }
 
+-- the words of the blocks that are exchanged are there
+pub blocks-there : {p : ℕ} {M : Memory} → Valid p M → HasRoom p M
+    → (e : ℕ) → e ≡ max (M .hand .size) (slotSize (M .level) (row (M .hand .size)))
+    → (e ≤ length (M .block)) × (256 * row (M .hand .size) + e ≤ length (M .level .slots))
+blocks-there {p} {M} valid room e blocks =
+    let within = valid .level .slot (row (M .hand .size)) (omega arith) .block .within in
+    (omega (arith, valid .hand .room, room .block), omega (arith, valid .level .room, room .block))
+
 -- the hand's block with the slot's words, and the level's words after the exchange of the blocks
 abbrev pub block′ : Memory → ℕ → List ℕ
 block′ M e = stored (λ j. getD (M .level .slots) (256 * row (M .hand .size) + j) 0) (M .block) 0 e
@@ -70,6 +78,13 @@ module _ {p : ℕ} {M : Memory} {t e m : ℕ} (E : Swap p M t e m) where
 
   pub blocks-fit : e ≤ 128
   blocks-fit = omega (arith, E .blocks, E .room .block, slot .block .within)
+
+  -- the words of the tails are there, and those of the block that the hand takes
+  pub tails-there : (l : List ℕ) → length l ≡ length s → (m ≤ length (M .tail)) × (256 * q + 128 + m ≤ length l)
+  tails-there l same = (omega (arith, tails-fit, E .valid .hand .tail-room), omega (arith, tails-fit, E .valid .level .room))
+
+  pub block-there : (b : List ℕ) → length b ≡ length (M .block) → slotSize (M .level) (row (M .hand .size)) ≤ length b
+  block-there b same = omega (arith, slot .block .within, E .valid .hand .room)
 
   -- the block that the hand takes can be reduced
   pub block-reducible : (b : List ℕ) → b ≡ block′ M e → 0 < p → (j : ℕ) → SmallSum p (getD b j 0)

@@ -2,6 +2,7 @@
 use Prim.Native.Nat.{_<_}
 use mathlib.Core.Path.{_≡_, subst}
 use mathlib.Core.Logic.{inl, inr}
+use native.Mathlib.Nat.{le-of-lt, le-trans, le-add-right, pos-of-ne-zero}
 use native.Mathlib.Omega.{arith}
 use borrow.Author.Needs.{needs}
 use Rattle.residue.specs.Modulus.{ValidModulus}
@@ -10,6 +11,7 @@ use Rattle.lattice.specs.Found.{found-ends, found-leading}
 use Rattle.lattice.specs.Sums.{sums-room, sums-fewer}
 use Rattle.lattice.specs.Quotients.{Divided}
 use Rattle.lattice.specs.Step.{takes-left}
+use Rattle.lattice.proofs.Rows
 use Rattle.lattice.proofs.Stepping
 use Rattle.lattice.proofs.Dividing.{Dividing, dividing-start, dividing-step, dividing-turn, dividing-end}
 use Rattle.lattice.proofs.division.divide.Statement.{statement}
@@ -26,36 +28,36 @@ find-leading-requires : tie.Need-find-leading-requires Inv-loop μ-loop
 find-leading-requires c κs =
     let S = c .before .before .before .before .before .before in
     let m : ValidModulus (S .args .modulus) = S .pre .0 .0 in
-    let room = sums-room _ (S .args .block .now) 2112 (omega (arith, m .prime .large)) (S .pre .1 .0 .3) in
-    ((m, omega arith), λ j lt. omega (arith, room j))
+    let room = sums-room _ (S .args .block .now) 2112 (le-of-lt (m .prime .large)) (S .pre .1 .0 .3) in
+    ((m, le-trans (S .pre .1 .0 .1) (S .pre .1 .0 .0)), λ j lt. le-trans (le-add-right _ _) (room j))
 
 loop-holds : tie.Need-loop-holds Inv-loop μ-loop
 loop-holds c =
     let S = c .before .before .before .before .before .before .before in
     let m : ValidModulus (S .args .modulus) = S .pre .0 .0 in
-    let positive : 0 < S .args .modulus .p = omega (arith, m .prime .large) in
+    let positive : 0 < S .args .modulus .p = le-of-lt (m .prime .large) in
     let given = S .pre .1 .0 in
     let found = c .find-leading .ensures in
     dividing-start (m .prime) (found-ends _ positive _ 1088 _ (given .1) (given .2) _ (found .0))
     (found-leading _ positive _ 1088 _ (given .1) (given .2) _ (found .0) _ (found .1)) (given .3) (S .pre .1 .1 .1)
 
 sub-q : tie.Need-sub-q Inv-loop μ-loop
-sub-q c = search needs
+sub-q c = c .if1 .taken
 
 sub-q-2 : tie.Need-sub-q-2 Inv-loop μ-loop
-sub-q-2 c = search needs
+sub-q-2 c = Rows.lane-most _
 
 mul-size : tie.Need-mul-size Inv-loop μ-loop
-mul-size c = search needs
+mul-size c = Rows.row-bytes _
 
 shared-slice-read-size : tie.Need-shared-slice-read-size Inv-loop μ-loop
-shared-slice-read-size c = search needs
+shared-slice-read-size c = Rows.size-there (c .before .before .before .before .before .before .before .before .before .before .before .pre .0 .1) _
 
 same-length : tie.Need-same-length Inv-loop μ-loop
-same-length c = search needs
+same-length c = c .before .before .before .before .loop .inv .same-block
 
 same-length-2 : tie.Need-same-length-2 Inv-loop μ-loop
-same-length-2 c = search needs
+same-length-2 c = c .before .before .before .before .loop .inv .same-quotients
 
 returns : tie.Need-returns Inv-loop μ-loop
 returns c =
@@ -64,10 +66,10 @@ returns c =
     dividing-end (S .pre .0 .0 .prime) (L .loop .inv) (S .pre .0 .1) (inr (inl (c .if2 .taken)))
 
 same-length-3 : tie.Need-same-length-3 Inv-loop μ-loop
-same-length-3 c = search needs
+same-length-3 c = c .before .before .before .before .before .loop .inv .same-block
 
 same-length-4 : tie.Need-same-length-4 Inv-loop μ-loop
-same-length-4 c = search needs
+same-length-4 c = c .before .before .before .before .before .loop .inv .same-quotients
 
 returns-2 : tie.Need-returns-2 Inv-loop μ-loop
 returns-2 c =
@@ -80,8 +82,10 @@ take-multiple-requires c κs =
     let L = c .before .before .before .before .before .before in
     let S = L .before .before .before .before .before .before .before .before in
     let I = L .loop .inv in
-    let step = dividing-step (S .pre .0 .0 .prime) I (S .pre .0 .1) (S .pre .1 .0 .0) (omega arith) (omega arith) (omega arith) in
-    let some : 0 < L .loop .found .size = omega arith in
+    let on = c .before in
+    let some = on .before .before .before .if1 .taken in
+    let filled = pos-of-ne-zero (on .before .if2 .left) in
+    let step = dividing-step (S .pre .0 .0 .prime) I (S .pre .0 .1) (S .pre .1 .0 .0) some filled (on .if3 .left) in
     (S .pre .0 .0, (step, sums-fewer _ (L .loop .block) _ 1 some (I .sums)))
 
 sub-place : tie.Need-sub-place Inv-loop μ-loop
@@ -98,7 +102,10 @@ slice-read-add c =
     let L = c .before .before .before .before .before .before .before .before .before .before in
     let S = L .before .before .before .before .before .before .before .before in
     let I = L .loop .inv in
-    let step = dividing-step (S .pre .0 .0 .prime) I (S .pre .0 .1) (S .pre .1 .0 .0) (omega arith) (omega arith) (omega arith) in
+    let on = c .before .before .before .before .before in
+    let some = on .before .before .before .if1 .taken in
+    let filled = pos-of-ne-zero (on .before .if2 .left) in
+    let step = dividing-step (S .pre .0 .0 .prime) I (S .pre .0 .1) (S .pre .1 .0 .0) some filled (on .if3 .left) in
     omega (arith, Stepping.place-inside step, I .same-quotients)
 
 add-requires : tie.Need-add-requires Inv-loop μ-loop
@@ -107,7 +114,10 @@ add-requires c κs =
     let L = T .before .before .before .before .before .before .before in
     let S = L .before .before .before .before .before .before .before .before in
     let I = L .loop .inv in
-    let step = dividing-step (S .pre .0 .0 .prime) I (S .pre .0 .1) (S .pre .1 .0 .0) (omega arith) (omega arith) (omega arith) in
+    let on = T .before .before in
+    let some = on .before .before .before .if1 .taken in
+    let filled = pos-of-ne-zero (on .before .if2 .left) in
+    let step = dividing-step (S .pre .0 .0 .prime) I (S .pre .0 .1) (S .pre .1 .0 .0) some filled (on .if3 .left) in
     let small = Stepping.step-factor _ (S .pre .0 .0 .prime) step _ (T .take-multiple .ensures .factor) in
     (S .pre .0 .0, I .below _, small)
 
@@ -119,7 +129,10 @@ slice-write-quotients c =
     let L = c .before .before .before .before .before .before .before .before .before .before .before in
     let S = L .before .before .before .before .before .before .before .before in
     let I = L .loop .inv in
-    let step = dividing-step (S .pre .0 .0 .prime) I (S .pre .0 .1) (S .pre .1 .0 .0) (omega arith) (omega arith) (omega arith) in
+    let on = c .before .before .before .before .before .before in
+    let some = on .before .before .before .if1 .taken in
+    let filled = pos-of-ne-zero (on .before .if2 .left) in
+    let step = dividing-step (S .pre .0 .0 .prime) I (S .pre .0 .1) (S .pre .1 .0 .0) some filled (on .if3 .left) in
     omega (arith, Stepping.place-inside step, I .same-quotients)
 
 find-rest-requires : tie.Need-find-rest-requires Inv-loop μ-loop
@@ -141,15 +154,18 @@ loop-again c =
     let L = T .before .before .before .before .before .before .before in
     let S = L .before .before .before .before .before .before .before .before in
     let I = L .loop .inv in
-    let step = dividing-step (S .pre .0 .0 .prime) I (S .pre .0 .1) (S .pre .1 .0 .0) (omega arith) (omega arith) (omega arith) in
+    let on = T .before .before in
+    let some = on .before .before .before .if1 .taken in
+    let filled = pos-of-ne-zero (on .before .if2 .left) in
+    let step = dividing-step (S .pre .0 .0 .prime) I (S .pre .0 .1) (S .pre .1 .0 .0) some filled (on .if3 .left) in
     dividing-turn (S .pre .0 .0 .prime) I step (takes-left (step .some) (T .take-multiple .ensures) (c .find-rest .ensures))
     (S .pre .1 .1 .0) _ (A .add .ensures)
 
 same-length-5 : tie.Need-same-length-5 Inv-loop μ-loop
-same-length-5 c = search needs
+same-length-5 c = c .before .before .loop .inv .same-block
 
 same-length-6 : tie.Need-same-length-6 Inv-loop μ-loop
-same-length-6 c = search needs
+same-length-6 c = c .before .before .loop .inv .same-quotients
 
 returns-3 : tie.Need-returns-3 Inv-loop μ-loop
 returns-3 c =

@@ -1,7 +1,8 @@
 -- The loop keeps an `Inserting`; its measure is the places.
+use native.Mathlib.Nat.{pos-of-ne-zero}
 use native.Mathlib.Omega.{arith}
-use borrow.Author.Needs.{needs}
 use Rattle.lattice.specs.Memory.{level, memory, places}
+use Rattle.lattice.proofs.Rows
 use Rattle.lattice.proofs.Inserting.{Inserting, inserting-start, inserting-turn, inserting-on, inserting-end}
 use Rattle.lattice.proofs.insertion.insert.Statement.{statement}
 use Rattle.lattice.proofs.insertion.insert.Tie as tie
@@ -21,31 +22,31 @@ loop-holds c =
     inserting-start (S .pre .1 .0) (S .pre .1 .1)
 
 sub-q : tie.Need-sub-q Inv-loop μ-loop
-sub-q c = search needs
+sub-q c = c .before .if1 .taken
 
 sub-q-2 : tie.Need-sub-q-2 Inv-loop μ-loop
-sub-q-2 c = search needs
+sub-q-2 c = Rows.lane-most _
 
 mul-if2 : tie.Need-mul-if2 Inv-loop μ-loop
-mul-if2 c = search needs
+mul-if2 c = Rows.row-bytes _
 
 slice-read-if2 : tie.Need-slice-read-if2 Inv-loop μ-loop
-slice-read-if2 c = search needs
+slice-read-if2 c = Rows.size-there (c .before .before .before .before .loop .inv .moved .valid .level) _
 
 same-length : tie.Need-same-length Inv-loop μ-loop
-same-length c = search needs
+same-length c = c .before .before .before .before .before .loop .inv .lengths .slots
 
 same-length-2 : tie.Need-same-length-2 Inv-loop μ-loop
-same-length-2 c = search needs
+same-length-2 c = c .before .before .before .before .before .loop .inv .lengths .sizes
 
 same-length-3 : tie.Need-same-length-3 Inv-loop μ-loop
-same-length-3 c = search needs
+same-length-3 c = c .before .before .before .before .before .loop .inv .lengths .inverses
 
 same-length-4 : tie.Need-same-length-4 Inv-loop μ-loop
-same-length-4 c = search needs
+same-length-4 c = c .before .before .before .before .before .loop .inv .lengths .block
 
 same-length-5 : tie.Need-same-length-5 Inv-loop μ-loop
-same-length-5 c = search needs
+same-length-5 c = c .before .before .before .before .before .loop .inv .lengths .tail
 
 returns : tie.Need-returns Inv-loop μ-loop
 returns c =
@@ -58,7 +59,10 @@ turn-requires c κs =
     let L = c .before .before .before .before .before .before .before .before .before .before in
     let S = L .before .before .before .before .before .before in
     let I = L .loop .inv in
-    (S .pre .0, (I .moved .valid, inserting-on (S .pre .0 .prime) (S .pre .1 .0) (S .pre .1 .1) I (omega arith) (omega arith)))
+    let on = c .before .before .before .before .before in
+    let some = on .before .before .before .if1 .taken in
+    let filled = pos-of-ne-zero (on .if2 .left) in
+    (S .pre .0, (I .moved .valid, inserting-on (S .pre .0 .prime) (S .pre .1 .0) (S .pre .1 .1) I some filled))
 
 loop-less : tie.Need-loop-less Inv-loop μ-loop
 loop-less c =
@@ -82,19 +86,19 @@ loop-again c =
     (T .turn .ensures)
 
 same-length-6 : tie.Need-same-length-6 Inv-loop μ-loop
-same-length-6 c = search needs
+same-length-6 c = c .before .before .loop .inv .lengths .slots
 
 same-length-7 : tie.Need-same-length-7 Inv-loop μ-loop
-same-length-7 c = search needs
+same-length-7 c = c .before .before .loop .inv .lengths .sizes
 
 same-length-8 : tie.Need-same-length-8 Inv-loop μ-loop
-same-length-8 c = search needs
+same-length-8 c = c .before .before .loop .inv .lengths .inverses
 
 same-length-9 : tie.Need-same-length-9 Inv-loop μ-loop
-same-length-9 c = search needs
+same-length-9 c = c .before .before .loop .inv .lengths .block
 
 same-length-10 : tie.Need-same-length-10 Inv-loop μ-loop
-same-length-10 c = search needs
+same-length-10 c = c .before .before .loop .inv .lengths .tail
 
 returns-2 : tie.Need-returns-2 Inv-loop μ-loop
 returns-2 c =

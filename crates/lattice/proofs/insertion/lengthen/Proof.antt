@@ -1,22 +1,22 @@
 -- A shorter hand has room in the slot; a hand that is long enough stays.
 use native.Mathlib.Omega.{arith}
-use borrow.Author.Needs.{needs}
 use Rattle.lattice.specs.Memory.{row}
 use Rattle.lattice.specs.Leading.{kept-lengthened, swapped-lengthened}
+use Rattle.lattice.proofs.Rows
 use Rattle.lattice.proofs.insertion.lengthen.Statement.{statement}
 use Rattle.lattice.proofs.insertion.lengthen.Tie as tie
 
 sub-q : tie.Need-sub-q
-sub-q c = search needs
+sub-q c = c .before .before .before .before .before .pre .1 .1 .some
 
 sub-q-2 : tie.Need-sub-q-2
-sub-q-2 c = search needs
+sub-q-2 c = Rows.lane-most _
 
 mul-if1 : tie.Need-mul-if1
-mul-if1 c = search needs
+mul-if1 c = Rows.row-bytes _
 
 slice-read-if1 : tie.Need-slice-read-if1
-slice-read-if1 c = search needs
+slice-read-if1 c = Rows.size-there (c .before .before .before .before .before .before .pre .1 .0 .level) _
 
 swap-with-slot-requires : tie.Need-swap-with-slot-requires
 swap-with-slot-requires c κs =
@@ -26,19 +26,19 @@ swap-with-slot-requires c κs =
     (S .pre .0, (S .pre .1 .0, record { some = on .some; block = omega arith; tail = on .tail }))
 
 same-length : tie.Need-same-length
-same-length c = search needs
+same-length c = c .before .before .before .before .before .before .before .before .before .before .swap-with-slot .kept .0
 
 same-length-2 : tie.Need-same-length-2
-same-length-2 c = search needs
+same-length-2 c = c .before .before .before .before .before .before .before .before .before .before .swap-with-slot .kept .1 .0
 
 same-length-3 : tie.Need-same-length-3
-same-length-3 c = search needs
+same-length-3 c = c .before .before .before .before .before .before .before .before .before .before .swap-with-slot .kept .1 .1 .0
 
 same-length-4 : tie.Need-same-length-4
-same-length-4 c = search needs
+same-length-4 c = c .before .before .before .before .before .before .before .before .before .before .swap-with-slot .kept .1 .1 .1 .0
 
 same-length-5 : tie.Need-same-length-5
-same-length-5 c = search needs
+same-length-5 c = c .before .before .before .before .before .before .before .before .before .before .swap-with-slot .kept .1 .1 .1 .1 .0
 
 returns : tie.Need-returns
 returns c =

@@ -1,52 +1,54 @@
 -- Two calls of `exchange`, for the blocks and for the tails; what they leave is the memory of `Swapping`.
+use mathlib.Core.Path.{_∙_}
 use Prim.Native.Nat.{_≤_, _<_}
+use native.Mathlib.Nat.{le-of-lt, le-trans, le-add-right}
 use native.Mathlib.Omega.{arith}
 use lib.ListN.{length-set}
-use borrow.Author.Needs.{needs}
 use Rattle.residue.specs.Modulus.{ValidModulus}
 use Rattle.lattice.specs.Memory.{row}
 use Rattle.lattice.specs.Sums.{sums-room}
 use Rattle.lattice.specs.Reading.{leading-residue}
-use Rattle.lattice.proofs.SwappedWords.{swap-of, tails-fit, block-reducible}
+use Rattle.lattice.proofs.Rows
+use Rattle.lattice.proofs.SwappedWords.{swap-of, blocks-there, tails-there, block-there, block-reducible}
 use Rattle.lattice.proofs.Swapping.{swapping}
 use Rattle.lattice.proofs.moves.swap_with_slot.Statement.{statement}
 use Rattle.lattice.proofs.moves.swap_with_slot.Tie as tie
 
 sub-q : tie.Need-sub-q
-sub-q c = search needs
+sub-q c = c .before .before .before .before .before .pre .1 .1 .some
 
 sub-q-2 : tie.Need-sub-q-2
-sub-q-2 c = search needs
+sub-q-2 c = Rows.lane-most _
 
 mul-size : tie.Need-mul-size
-mul-size c = search needs
+mul-size c = Rows.row-bytes _
 
 slice-read-size : tie.Need-slice-read-size
-slice-read-size c = search needs
+slice-read-size c = Rows.size-there (c .before .before .before .before .before .before .pre .1 .0 .level) _
 
 add-slot-tail : tie.Need-add-slot-tail
-add-slot-tail c = search needs
+add-slot-tail c = Rows.tail-place _
 
 mul-slot-tail : tie.Need-mul-slot-tail
-mul-slot-tail c = search needs
+mul-slot-tail c = Rows.tail-bytes _
 
 slice-read-slot-tail : tie.Need-slice-read-slot-tail
-slice-read-slot-tail c = search needs
+slice-read-slot-tail c = Rows.tail-size-there (c .before .before .before .before .before .before .before .pre .1 .0 .level) _
 
 find-leading-requires : tie.Need-find-leading-requires
 find-leading-requires c κs =
     let S = c .before .before .before .before .before .before .before .before in
     let valid = S .pre .1 .0 in
     let m : ValidModulus (S .args .modulus) = S .pre .0 in
-    let positive : 0 < S .args .modulus .p = omega (arith, m .prime .large) in
+    let positive : 0 < S .args .modulus .p = le-of-lt (m .prime .large) in
     let room = sums-room _ (S .args .tail .now) _ positive (valid .hand .tail-sums) in
-    ((m, omega (arith, valid .hand .tail-within, valid .hand .tail-room)), λ j lt. omega (arith, room j))
+    ((m, le-trans (valid .hand .tail-within) (valid .hand .tail-room)), λ j lt. le-trans (le-add-right _ _) (room j))
 
 larger-requires : tie.Need-larger-requires
-larger-requires c κs = search needs
+larger-requires c κs = tt
 
 mul-exchange : tie.Need-mul-exchange
-mul-exchange c = search needs
+mul-exchange c = Rows.block-start _
 
 exchange-requires : tie.Need-exchange-requires
 exchange-requires c κs =
@@ -54,21 +56,19 @@ exchange-requires c κs =
     let S = W .before .before .before .before .before .before .before .before .before .before in
     let valid = S .pre .1 .0 in
     let m : ValidModulus (S .args .modulus) = S .pre .0 in
-    let positive : 0 < S .args .modulus .p = omega (arith, m .prime .large) in
-    let slot = valid .level .slot (row (S .args .hand .size)) (omega arith) in
+    let positive : 0 < S .args .modulus .p = le-of-lt (m .prime .large) in
     let room = sums-room _ (S .args .block .now) _ positive (valid .hand .sums) in
-    let most = W .larger .ensures in
-    let within : W .larger .result ≤ 128 = omega (arith, slot .block .within, S .pre .1 .1 .block) in
-    ((m, omega (arith, valid .hand .room), omega (arith, valid .level .room)), λ j lt. omega (arith, room j))
+    let there = blocks-there valid (S .pre .1 .1) _ (W .larger .ensures) in
+    ((m, there .0, there .1), λ j lt. le-trans (le-add-right _ _) (room j))
 
 larger-requires-2 : tie.Need-larger-requires-2
-larger-requires-2 c κs = search needs
+larger-requires-2 c κs = tt
 
 mul-exchange-2 : tie.Need-mul-exchange-2
-mul-exchange-2 c = search needs
+mul-exchange-2 c = Rows.block-start _
 
 add-exchange : tie.Need-add-exchange
-add-exchange c = search needs
+add-exchange c = Rows.tail-start _
 
 exchange-requires-2 : tie.Need-exchange-requires-2
 exchange-requires-2 c κs =
@@ -79,12 +79,11 @@ exchange-requires-2 c κs =
     let S = T .before .before .before .before .before .before .before .before .before in
     let valid = S .pre .1 .0 in
     let m : ValidModulus (S .args .modulus) = S .pre .0 in
-    let positive : 0 < S .args .modulus .p = omega (arith, m .prime .large) in
+    let positive : 0 < S .args .modulus .p = le-of-lt (m .prime .large) in
     let room = sums-room _ (S .args .tail .now) _ positive (valid .hand .tail-sums) in
     let E = swap-of positive valid (S .pre .1 .1) _ (T .find-leading .ensures .0) _ (W .larger .ensures) _ (Y .larger2 .ensures) in
-    let within = tails-fit E in
-    let same = X .exchange .kept .1 .0 in
-    ((m, omega (arith, valid .hand .tail-room), omega (arith, valid .level .room)), λ j lt. omega (arith, room j))
+    let there = tails-there E (X .exchange .last .1 .0) (X .exchange .kept .1 .0) in
+    ((m, there .0, there .1), λ j lt. le-trans (le-add-right _ _) (room j))
 
 inverse-requires : tie.Need-inverse-requires
 inverse-requires c κs =
@@ -94,28 +93,28 @@ inverse-requires c κs =
     (S .pre .0, first .0, first .1)
 
 mul-inverses : tie.Need-mul-inverses
-mul-inverses c = search needs
+mul-inverses c = Rows.row-bytes _
 
 slice-write-inverses : tie.Need-slice-write-inverses
 slice-write-inverses c =
     let X = c .before .before .before .before .before .before .before .before .before .before .before .before .before in
     let S = X .before .before .before .before .before .before .before .before .before .before .before .before .before in
-    omega (arith, S .pre .1 .0 .level .all-inverses)
+    Rows.inverse-there (S .pre .1 .0 .level) (S .args .hand .size)
 
 mul-sizes : tie.Need-mul-sizes
-mul-sizes c = search needs
+mul-sizes c = Rows.row-bytes _
 
 slice-write-sizes : tie.Need-slice-write-sizes
 slice-write-sizes c =
     let X = c .before .before .before .before .before .before .before .before .before .before .before .before .before in
     let S = X .before .before .before .before .before .before .before .before .before .before .before .before .before in
-    omega (arith, S .pre .1 .0 .level .all-sizes)
+    Rows.size-there (S .pre .1 .0 .level) (S .args .hand .size)
 
 add-sizes : tie.Need-add-sizes
-add-sizes c = search needs
+add-sizes c = Rows.tail-place _
 
 mul-sizes-2 : tie.Need-mul-sizes-2
-mul-sizes-2 c = search needs
+mul-sizes-2 c = Rows.tail-bytes _
 
 slice-write-sizes-2 : tie.Need-slice-write-sizes-2
 slice-write-sizes-2 c =
@@ -133,28 +132,30 @@ find-leading-requires-2 c κs =
     let S = T .before .before .before .before .before .before .before .before .before in
     let valid = S .pre .1 .0 in
     let m : ValidModulus (S .args .modulus) = S .pre .0 in
-    let positive : 0 < S .args .modulus .p = omega (arith, m .prime .large) in
-    let slot = valid .level .slot (row (S .args .hand .size)) (omega arith) in
-    let E = swap-of positive valid (S .pre .1 .1) _ (T .find-leading .ensures .0) _ (W .larger .ensures) _ (Y .larger2 .ensures) in
-    let same = X .exchange .kept .0 in (
-      (m, omega (arith, slot .block .within, valid .hand .room)),
+    let positive : 0 < S .args .modulus .p = le-of-lt (m .prime .large) in
+    let E = swap-of positive valid (S .pre .1 .1) _ (T .find-leading .ensures .0) _ (W .larger .ensures) _ (Y .larger2 .ensures) in (
+      (m, block-there E (X .exchange .last .0) (X .exchange .kept .0)),
       λ j lt. block-reducible E _ (X .exchange .ensures .0) positive j,
     )
 
 same-length : tie.Need-same-length
-same-length c = search needs
+same-length c =
+    let Z = c .before .before .before .before .before .before .before in
+    Z .exchange2 .kept .1 .0 ∙ Z .before .before .before .before .before .before .before .before .exchange .kept .1 .0
 
 same-length-2 : tie.Need-same-length-2
-same-length-2 c = search needs
+same-length-2 c = simp length-set
 
 same-length-3 : tie.Need-same-length-3
-same-length-3 c = search needs
+same-length-3 c = simp length-set
 
 same-length-4 : tie.Need-same-length-4
-same-length-4 c = search needs
+same-length-4 c =
+    let Z = c .before .before .before .before .before .before .before in
+    Z .before .before .before .before .before .before .before .before .exchange .kept .0
 
 same-length-5 : tie.Need-same-length-5
-same-length-5 c = search needs
+same-length-5 c = c .before .before .before .before .before .before .before .exchange2 .kept .0
 
 returns : tie.Need-returns
 returns c =
@@ -167,7 +168,7 @@ returns c =
     let S = T .before .before .before .before .before .before .before .before .before in
     let valid = S .pre .1 .0 in
     let m : ValidModulus (S .args .modulus) = S .pre .0 in
-    let positive : 0 < S .args .modulus .p = omega (arith, m .prime .large) in
+    let positive : 0 < S .args .modulus .p = le-of-lt (m .prime .large) in
     let E = swap-of positive valid (S .pre .1 .1) _ (T .find-leading .ensures .0) _ (W .larger .ensures) _ (Y .larger2 .ensures) in
     let blocks = X .exchange .ensures in
     let tails = Z .exchange2 .ensures in

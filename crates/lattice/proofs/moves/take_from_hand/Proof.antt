@@ -1,39 +1,41 @@
 -- The step on the block is that of `take_multiple`, and the same multiple is taken off the tail.
 use Prim.Native.Nat.{_+_, _*_, _≤_}
 use mathlib.Core.Path.{refl}
+use native.Mathlib.Nat.{le-of-lt, le-trans}
 use native.Mathlib.Omega.{arith}
-use borrow.Author.Needs.{needs}
 use Rattle.residue.specs.Modulus.{ValidModulus}
 use Rattle.lattice.specs.Memory.{row}
 use Rattle.lattice.specs.Sums.{sums-fewer}
 use Rattle.lattice.specs.Step.{takes-left}
+use Rattle.lattice.proofs.Rows
+use Rattle.lattice.proofs.Stepping
 use Rattle.lattice.proofs.Taking
 use Rattle.lattice.proofs.moves.take_from_hand.Statement.{statement}
 use Rattle.lattice.proofs.moves.take_from_hand.Tie as tie
 
 sub-q : tie.Need-sub-q
-sub-q c = search needs
+sub-q c = c .before .before .before .before .before .pre .1 .1 .some
 
 sub-q-2 : tie.Need-sub-q-2
-sub-q-2 c = search needs
+sub-q-2 c = Rows.lane-most _
 
 mul-shift : tie.Need-mul-shift
-mul-shift c = search needs
+mul-shift c = Rows.row-bytes _
 
 shared-slice-read-shift : tie.Need-shared-slice-read-shift
-shared-slice-read-shift c = search needs
+shared-slice-read-shift c = Rows.size-there (c .before .before .before .before .before .before .pre .1 .0 .level) _
 
 sub-shift : tie.Need-sub-shift
-sub-shift c = search needs
+sub-shift c = c .before .before .before .before .before .before .pre .1 .1 .shorter
 
 add-size : tie.Need-add-size
-add-size c = search needs
+add-size c = Rows.tail-place _
 
 mul-size : tie.Need-mul-size
-mul-size c = search needs
+mul-size c = Rows.tail-bytes _
 
 shared-slice-read-size : tie.Need-shared-slice-read-size
-shared-slice-read-size c = search needs
+shared-slice-read-size c = Rows.tail-size-there (c .before .before .before .before .before .before .before .pre .1 .0 .level) _
 
 take-multiple-requires : tie.Need-take-multiple-requires
 take-multiple-requires c κs =
@@ -55,27 +57,24 @@ sub-minus c =
     let F = c .before .before in
     let A = F .before .before .before .before in
     let S = A .before .before .before .before .before .before .before .before .before in
-    omega (
-      arith,
-      Taking.factor-below (S .pre .0 .prime) (S .pre .1 .0) (S .pre .1 .1)
-          (takes-left (S .pre .1 .1 .some) (A .take-multiple .ensures) (F .find-rest .ensures)),
-    )
+    le-of-lt (Taking.factor-below (S .pre .0 .prime) (S .pre .1 .0) (S .pre .1 .1)
+    (takes-left (S .pre .1 .1 .some) (A .take-multiple .ensures) (F .find-rest .ensures)))
 
 add-words : tie.Need-add-words
 add-words c =
     let S = c .before .before .before .before .before .before .before .before .before .before .before .before .before .before .before in
-    omega (arith, S .pre .1 .0 .level .slot (row (S .args .hand .size)) (omega arith) .tail-within)
+    Rows.rounded-tail (S .pre .1 .0 .level) (S .args .hand .size)
 
 mul-words : tie.Need-mul-words
 mul-words c =
     let S = c .before .before .before .before .before .before .before .before .before .before .before .before .before .before .before in
-    omega (arith, S .pre .1 .0 .level .slot (row (S .args .hand .size)) (omega arith) .tail-within)
+    Rows.tail-words (S .pre .1 .0 .level) (S .args .hand .size)
 
 mul-add-scaled : tie.Need-mul-add-scaled
-mul-add-scaled c = search needs
+mul-add-scaled c = Rows.block-start _
 
 add-add-scaled : tie.Need-add-add-scaled
-add-add-scaled c = search needs
+add-add-scaled c = Rows.tail-start _
 
 add-scaled-requires : tie.Need-add-scaled-requires
 add-scaled-requires c κs =
@@ -83,17 +82,16 @@ add-scaled-requires c κs =
     let A = F .before .before .before .before in
     let S = A .before .before .before .before .before .before .before .before .before in
     let m : ValidModulus (S .args .modulus) = S .pre .0 in
-    let limit : S .args .modulus .p ≤ 65521 = m .limit in
     let valid = S .pre .1 .0 in
     let fits = S .pre .1 .1 in
     let taken = takes-left (fits .some) (A .take-multiple .ensures) (F .find-rest .ensures) in (
       (
-        omega (arith, Taking.taking-room (m .prime) valid fits taken _ refl, valid .hand .tail-room),
+        le-trans (Taking.taking-room (m .prime) valid fits taken _ refl) (valid .hand .tail-room),
         Taking.taking-slot-room (m .prime) valid fits taken _ refl,
-        omega arith,
+        Stepping.minus-short (m .limit) _,
       ),
       (
-        (λ j lt. omega (arith, valid .level .below (256 * row (S .args .hand .size) + 128 + j))),
+        (λ j lt. Stepping.word-short (m .limit) (valid .level .below _)),
         λ j lt. Taking.taking-sum (m .prime) valid fits taken (m .limit) j,
       ),
     )
@@ -110,13 +108,13 @@ add-larger c =
     )
 
 larger-requires : tie.Need-larger-requires
-larger-requires c κs = search needs
+larger-requires c κs = tt
 
 same-length : tie.Need-same-length
-same-length c = search needs
+same-length c = c .before .before .before .before .before .before .before .before .before .before .before .take-multiple .kept .1 .1 .1 .0
 
 same-length-2 : tie.Need-same-length-2
-same-length-2 c = search needs
+same-length-2 c = c .before .before .before .add-scaled .kept .0
 
 returns : tie.Need-returns
 returns c =

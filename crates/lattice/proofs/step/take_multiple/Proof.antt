@@ -1,56 +1,57 @@
 -- The words are those of `add_scaled`; the word before the leading one is known before it.
 use Prim.Native.Nat.{ℕ, _+_, _-_, _*_, _≤_, _<_}
 use mathlib.Core.Path.{refl}
+use native.Mathlib.Nat.{le-of-lt}
 use native.Mathlib.Omega.{arith}
-use borrow.Author.Needs.{needs}
 use Rattle.residue.specs.Modulus.{ValidModulus}
 use Rattle.lattice.specs.Memory.{row}
+use Rattle.lattice.proofs.Rows
 use Rattle.lattice.proofs.Stepping
 use Rattle.lattice.proofs.step.take_multiple.Statement.{statement}
 use Rattle.lattice.proofs.step.take_multiple.Tie as tie
 
 sub-q : tie.Need-sub-q
-sub-q c = search needs
+sub-q c = c .before .before .before .before .pre .1 .0 .some
 
 sub-q-2 : tie.Need-sub-q-2
-sub-q-2 c = search needs
+sub-q-2 c = Rows.lane-most _
 
 mul-size : tie.Need-mul-size
-mul-size c = search needs
+mul-size c = Rows.row-bytes _
 
 shared-slice-read-size : tie.Need-shared-slice-read-size
-shared-slice-read-size c = search needs
+shared-slice-read-size c = Rows.size-there (c .before .before .before .before .before .pre .1 .0 .level) _
 
 mul-mul : tie.Need-mul-mul
-mul-mul c = search needs
+mul-mul c = Rows.row-bytes _
 
 shared-slice-read-mul : tie.Need-shared-slice-read-mul
-shared-slice-read-mul c = search needs
+shared-slice-read-mul c = Rows.inverse-there (c .before .before .before .before .before .before .pre .1 .0 .level) _
 
 mul-requires : tie.Need-mul-requires
 mul-requires c κs =
     let S = c .before .before .before .before .before .before in
     let m : ValidModulus (S .args .modulus) = S .pre .0 in
     let step = S .pre .1 .0 in
-    (m, Stepping.value-below (omega (arith, m .prime .large)) step, Stepping.slot-inverse-below (m .prime) step)
+    (m, Stepping.value-below (le-of-lt (m .prime .large)) step, Stepping.slot-inverse-below (m .prime) step)
 
 sub-minus : tie.Need-sub-minus
 sub-minus c =
     let A = c .before in
     let S = A .before .before .before .before .before .before .before in
-    omega (arith, Stepping.step-factor _ (S .pre .0 .prime) (S .pre .1 .0) _ (A .mul .ensures))
+    le-of-lt (Stepping.step-factor _ (S .pre .0 .prime) (S .pre .1 .0) _ (A .mul .ensures))
 
 add-words : tie.Need-add-words
-add-words c = search needs
+add-words c = Rows.rounded-size (c .before .before .before .before .before .before .before .before .pre .1 .0 .level) _
 
 mul-words : tie.Need-mul-words
-mul-words c = search needs
+mul-words c = Rows.degree-words (c .before .before .before .before .before .before .before .before .pre .1 .0 .level) _
 
 sub-word-before : tie.Need-sub-word-before
-sub-word-before c = search needs
+sub-word-before c = c .before .before .before .before .before .before .before .before .before .pre .1 .0 .fits
 
 mul-word-before : tie.Need-mul-word-before
-mul-word-before c = search needs
+mul-word-before c = Rows.block-start _
 
 word-before-requires : tie.Need-word-before-requires
 word-before-requires c κs =
@@ -65,31 +66,30 @@ word-before-requires c κs =
     )
 
 sub-add-scaled : tie.Need-sub-add-scaled
-sub-add-scaled c = search needs
+sub-add-scaled c = c .before .before .before .before .before .before .before .before .before .before .before .pre .1 .0 .fits
 
 mul-add-scaled : tie.Need-mul-add-scaled
-mul-add-scaled c = search needs
+mul-add-scaled c = Rows.block-start _
 
 add-scaled-requires : tie.Need-add-scaled-requires
 add-scaled-requires c κs =
     let A = c .before .before .before .before in
     let S = A .before .before .before .before .before .before .before in
     let m : ValidModulus (S .args .modulus) = S .pre .0 in
-    let limit : S .args .modulus .p ≤ 65521 = m .limit in
     let step = S .pre .1 .0 in
     let by = A .mul .ensures in (
-      (Stepping.step-room _ (m .prime) step _ by, Stepping.step-slot-room _ (m .prime) step _ by, omega arith),
+      (Stepping.step-room _ (m .prime) step _ by, Stepping.step-slot-room _ (m .prime) step _ by, Stepping.minus-short (m .limit) _),
       (
-        (λ j lt. omega (arith, step .level .below (256 * row (S .args .found .size) + j))),
+        (λ j lt. Stepping.word-short (m .limit) (step .level .below _)),
         λ j lt. Stepping.step-sum _ (m .prime) step _ by (S .pre .1 .1) (m .limit) j,
       ),
     )
 
 sub-rest : tie.Need-sub-rest
-sub-rest c = search needs
+sub-rest c = c .before .before .before .before .before .before .before .before .before .before .before .before .before .before .pre .1 .0 .some
 
 same-length : tie.Need-same-length
-same-length c = search needs
+same-length c = c .before .before .add-scaled .kept .0
 
 returns : tie.Need-returns
 returns c =

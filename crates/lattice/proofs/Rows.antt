@@ -1,0 +1,52 @@
+-- The places that the code works out from the row of a pivot fit the machine's words and the lists of a level. Said once and of
+-- numbers alone: a need that is handed one of these laws does not have to look through all that is known at its place.
+use Prim.Native.Nat.{ℕ, _+_, _-_, _*_, _/_, _%_, _<_, _≤_}
+use native.Mathlib.Omega.{arith}
+use mir.Syntax.{w64}
+use mir.Val.{Fits}
+use lib.ListN.{length}
+use Rattle.lattice.specs.Memory.{row, Level, slotSize, tailSize, ValidLevel}
+
+pub lane-most : (k : ℕ) → (k - 1) % 8 ≤ 7
+lane-most k = omega arith
+
+-- the bytes before an entry of the inverses, or of the sizes of blocks
+pub row-bytes : (k : ℕ) → Fits w64 (row k * 8)
+row-bytes k = omega arith
+
+-- the place of a tail's size, and the bytes before it
+pub tail-place : (k : ℕ) → Fits w64 (8 + row k)
+tail-place k = omega arith
+
+pub tail-bytes : (k : ℕ) → Fits w64 ((8 + row k) * 8)
+tail-bytes k = omega arith
+
+-- the places of a slot's block and tail
+pub block-start : (k : ℕ) → Fits w64 (256 * row k)
+block-start k = omega arith
+
+pub tail-start : (k : ℕ) → Fits w64 (256 * row k + 128)
+tail-start k = omega arith
+
+module _ {p : ℕ} {L : Level} (valid : ValidLevel p L) (k : ℕ) where
+  pub size-there : row k < length (L .sizes)
+  size-there = omega (arith, valid .all-sizes)
+
+  pub tail-size-there : 8 + row k < length (L .sizes)
+  tail-size-there = omega (arith, valid .all-sizes)
+
+  pub inverse-there : row k < length (L .inverses)
+  inverse-there = omega (arith, valid .all-inverses)
+
+  -- the words of the degrees of the slot's block, and of its tail's
+  pub rounded-size : Fits w64 (slotSize L (row k) + 7)
+  rounded-size = omega (arith, valid .slot (row k) (omega arith) .block .within)
+
+  pub degree-words : Fits w64 ((slotSize L (row k) + 7) / 8 * 8)
+  degree-words = omega (arith, valid .slot (row k) (omega arith) .block .within)
+
+  pub rounded-tail : Fits w64 (tailSize L (row k) + 7)
+  rounded-tail = omega (arith, valid .slot (row k) (omega arith) .tail-within)
+
+  pub tail-words : Fits w64 ((tailSize L (row k) + 7) / 8 * 8)
+  tail-words = omega (arith, valid .slot (row k) (omega arith) .tail-within)
