@@ -1,6 +1,6 @@
 -- A column laid beside a copy of a level with tails 0: an insertion can start, in the state in which `reduction` begins it.
 use Prim.Native.Nat.{ℕ, _+_, _%_, _<_, _≤_}
-use mathlib.Core.Path.{_≡_, sym, _∙_, ap}
+use mathlib.Core.Path.{_≡_, sym, _∙_, ap, subst}
 use mathlib.Core.Logic.{⊎-elim}
 use mathlib.Core.List.{List}
 use native.Mathlib.Nat.{zero-add}
@@ -76,14 +76,20 @@ module _ {p : ℕ} (prime₀ : Prime p) (input : List ℕ) (at : ℕ) (below : (
         → {block′ tail′ : List ℕ} {hand : Hand}
         → (block′ ≡ laidBlock column block) × ((tail′ ≡ laidTail tail) × (hand ≡ laidHand column size))
         → Started p L input at (memory L′ block′ tail′ hand)
-    started {L} {L′} valid copied block tail a b (eb, (et, eh)) = rw (eb, et, eh) record {
-      valid = record { level = copies-valid copies valid; hand = laid-valid prime₀ column block tail size column-valid a b L′ };
-      starts = laid-starts prime₀ column block tail size column-valid a b L′ (copies .tail-sizes);
-      low = column-within;
-      holds = λ prime n U v holds A. laid-holds prime₀ column block tail size column-valid a b prime n unweighted L′ U v
-          (copies-holds copies prime n unweighted U (A .lanes) holds)
-          (flat-same (λ x. words-same p prime input column at 0 128 x (λ lt. ap (λ w. w % p) (sym (column-word x lt)))) A);
-    }
+    started {L} {L′} valid copied block tail a b {block′} {tail′} {hand} (eb, (et, eh)) =
+        subst (λ w. Started p L input at (memory L′ w tail′ hand)) (sym eb)
+        (subst (λ w. Started p L input at (memory L′ (laidBlock column block) w hand)) (sym et)
+        (subst (λ h. Started p L input at (memory L′ (laidBlock column block) (laidTail tail) h)) (sym eh) laid))
       where
         copies : Copies p L L′
         copies = copied-copies valid copied
+
+        laid : Started p L input at (memory L′ (laidBlock column block) (laidTail tail) (laidHand column size))
+        laid = record {
+          valid = record { level = copies-valid copies valid; hand = laid-valid prime₀ column block tail size column-valid a b L′ };
+          starts = laid-starts prime₀ column block tail size column-valid a b L′ (copies .tail-sizes);
+          low = column-within;
+          holds = λ prime n U v holds A. laid-holds prime₀ column block tail size column-valid a b prime n unweighted L′ U v
+              (copies-holds copies prime n unweighted U (A .lanes) holds)
+              (flat-same (λ x. words-same p prime input column at 0 128 x (λ lt. ap (λ w. w % p) (sym (column-word x lt)))) A);
+        }
