@@ -1,5 +1,6 @@
 -- One law for each call, and `SecondEnds` for the whole.
 use native.Mathlib.Omega.{arith}
+use native.Mathlib.Nat.{le-refl}
 use Rattle.residue.specs.Modulus.{ValidModulus}
 use Rattle.vector.specs.Bound.{zeros-none}
 use Rattle.second.specs.RightFilling.{tails-end}
@@ -147,11 +148,11 @@ divide-requires c κs =
       (
         (
           omega (arith, M .multiply-block .kept, D .find-denominator .kept, L .lay-second .kept),
-          omega arith,
+          le-refl 1088,
           (λ j h lt. absurd (omega arith)),
           (λ i. omega (arith, below i)),
         ),
-        (omega arith, zeros-none 1088),
+        (le-refl 1088, zeros-none 1088),
       ),
     )
 
