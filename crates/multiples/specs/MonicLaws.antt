@@ -1,7 +1,7 @@
 -- Words divided by the last of them that counts: the monic associate of the polynomial that they hold.
 use Prim.Native.Nat.{ℕ, suc, _+_, _-_, _*_, _%_, _<_, _≤_}
 use mathlib.Core.Path.{_≡_, refl, sym, _∙_, ap, ap₂, subst}
-use mathlib.Core.Logic.{⊎-elim}
+use mathlib.Core.Logic.{inr, ⊎-elim}
 use mathlib.Core.List.{List}
 use native.Mathlib.Nat.{mod-lt, zero-mod, zero-add, eq-zero-or-pos, mul-le-mul-right}
 use native.Mathlib.Omega.{arith}
@@ -21,7 +21,7 @@ use Rattle.modular.specs.Residue.{Residue, residues}
 use Rattle.residue.specs.Below.{mul-below}
 use Rattle.vector.specs.Bound.{AtMost, Reducible}
 use Rattle.lattice.specs.Sums.{sums-room}
-use Rattle.vector.specs.Stored.{stored, length-stored, stored-inside, below-or-not}
+use Rattle.vector.specs.Stored.{stored, length-stored, stored-inside, stored-outside, below-or-not}
 use Rattle.vector.specs.Reduced.{polynomial}
 use Rattle.reduction.specs.Euclidean.{Associate}
 use Rattle.reduction.specs.Polynomials.{associate}
@@ -66,6 +66,9 @@ module _ {p : ℕ} (prime₀ : Prime p) (tail : List ℕ) (zero : ZeroFrom p tai
   tail-ends : Ends p tail 0 256 found
   tail-ends = found-ends p positive tail 256 121 (omega arith) zero found found-is
 
+  pub found-most : found ≤ 121
+  found-most = found-within p positive tail 256 121 (omega arith) zero found found-is
+
   -- a tail that is zero
   pub monic-empty : (out out′ : List ℕ) → length out ≡ 128 → found ≡ 0 → out′ ≡ stored (λ j. 0) out 0 128 → MadeMonic p tail out′ 0
   monic-empty out out′ length-is none clears = record {
@@ -98,8 +101,29 @@ module _ {p : ℕ} (prime₀ : Prime p) (tail : List ℕ) (zero : ZeroFrom p tai
     pub value-below : value < p
     value-below = subst (λ w. w < p) (sym last-is) (mod-lt (getD tail (found - 1) 0) positive)
 
-    module _ (factor : ℕ) (factor-is : factor ≡ modulo p .inverse value) (out out′ : List ℕ) (length-is : length out ≡ 128)
-        (stores : out′ ≡ stored (λ j. modulo p .mul (getD tail j 0 % p) factor) out 0 128) where
+    -- the words that count are stored over cleared ones
+    module _ (factor : ℕ) (factor-is : factor ≡ modulo p .inverse value) (out out₁ out′ : List ℕ) (length-is : length out ≡ 128)
+        (clears : out₁ ≡ stored (λ j. 0) out 0 128)
+        (stores : out′ ≡ stored (λ j. modulo p .mul (getD tail j 0 % p) factor) out₁ 0 found) where
+      room : length out₁ ≡ 128
+      room = ap length clears ∙ length-stored (λ j. 0) out 0 128 ∙ length-is
+
+      -- behind the last word that counts the tail is 0, and so is its multiple
+      none : (j : ℕ) → found ≤ j → j < 128 → modulo p .mul (getD tail j 0 % p) factor ≡ 0
+      unfolding modulo
+      none j ge lt =
+          ap (λ (w : ℕ). w * factor % p) (ap (λ i. getD tail i 0 % p) (sym (zero-add j)) ∙ tail-ends .behind j ge (omega arith))
+          ∙ ap (λ (w : ℕ). w % p) (omega arith)
+          ∙ zero-mod p
+
+      word : (j : ℕ) → j < 128 → getD out′ (0 + j) 0 ≡ modulo p .mul (getD tail j 0 % p) factor
+      word j lt = ap (λ l. getD l (0 + j) 0) stores ∙ ⊎-elim
+          (λ less. stored-inside _ out₁ 0 found j (omega (arith, room, found-most)) less)
+          (λ ge.
+          let clear : getD out₁ (0 + j) 0 ≡ 0 = omega (arith, cleared-none 128 out out₁ clears length-is (0 + j)) in
+          stored-outside _ out₁ 0 found (0 + j) (inr (omega arith)) ∙ clear ∙ sym (none j ge lt))
+          (below-or-not j found)
+
       below : (i : ℕ) → getD out′ i 0 < p
       below i = ⊎-elim
           (λ lt. subst (λ w. w < p) (sym (ap (λ j. getD out′ j 0) (sym (zero-add i)) ∙ word i lt))
@@ -107,11 +131,8 @@ module _ {p : ℕ} (prime₀ : Prime p) (tail : List ℕ) (zero : ZeroFrom p tai
           (λ ge. subst (λ w. w < p) (sym (List·getD-eq-default out′ 0 (omega (arith, same-length)))) positive)
           (below-or-not i 128)
         where
-          same-length : length out′ ≡ length out
-          same-length = ap length stores ∙ length-stored (λ j. modulo p .mul (getD tail j 0 % p) factor) out 0 128
-
-          word : (j : ℕ) → j < 128 → getD out′ (0 + j) 0 ≡ modulo p .mul (getD tail j 0 % p) factor
-          word j lt = ap (λ l. getD l (0 + j) 0) stores ∙ stored-inside _ out 0 128 j (omega arith) lt
+          same-length : length out′ ≡ 128
+          same-length = ap length stores ∙ length-stored (λ j. modulo p .mul (getD tail j 0 % p) factor) out₁ 0 found ∙ room
 
       module _ (prime : Prime p) where
         abbrev F : Field (Residue p)
@@ -125,8 +146,7 @@ module _ {p : ℕ} (prime₀ : Prime p) (tail : List ℕ) (zero : ZeroFrom p tai
         quotient : (j : ℕ) → j < 128 → residue p prime (getD out′ (0 + j) 0)
             ≡ F .ring .mul (residue p prime (getD tail j 0)) (F .inverse (residue p prime (getD tail (found - 1) 0)))
         quotient j lt =
-            ap (λ l. residue p prime (getD l (0 + j) 0)) stores
-            ∙ ap (residue p prime) (stored-inside _ out 0 128 j (omega arith) lt)
+            ap (residue p prime) (word j lt)
             ∙ product (getD tail j 0 % p) factor
             ∙ ap₂ (F .ring .mul) (residue-mod p prime (getD tail j 0))
             (ap (residue p prime) factor-is
@@ -138,10 +158,10 @@ module _ {p : ℕ} (prime₀ : Prime p) (tail : List ℕ) (zero : ZeroFrom p tai
 
         ends : Ends p out′ 0 128 found
         ends = record {
-          within = omega (arith, within);
+          within = omega (arith, found-most);
           last = λ h. ⊎-elim
               (λ none. absurd (F .one-nonzero
-              (sym (quotient (found - 1) (omega (arith, within)) ∙ F .mul-inverse _ last-nonzero) ∙ residue-zero p prime _ none)))
+              (sym (quotient (found - 1) (omega (arith, found-most)) ∙ F .mul-inverse _ last-nonzero) ∙ residue-zero p prime _ none)))
               (λ more. more)
               (eq-zero-or-pos (getD out′ (0 + (found - 1)) 0 % p));
           behind = λ j ge lt. zero-residue p prime _
@@ -150,9 +170,6 @@ module _ {p : ℕ} (prime₀ : Prime p) (tail : List ℕ) (zero : ZeroFrom p tai
               (residue-zero p prime _ (ap (λ i. getD tail i 0 % p) (sym (zero-add j)) ∙ tail-ends .behind j ge (omega arith)))
               ∙ zero-mul (F .ring) (F .inverse (residue p prime (getD tail (found - 1) 0))));
         }
-          where
-            within : found ≤ 121
-            within = found-within p positive tail 256 121 (omega arith) zero found found-is
 
         module _ (x : Polynomial (residues p prime)) (A : Holds (residues p prime) (words p prime tail 0 256) x) where
           last-word : words p prime tail 0 256 (found - 1) ≡ residue p prime (getD tail (found - 1) 0)

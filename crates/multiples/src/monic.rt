@@ -34,11 +34,11 @@ pub fn make_monic(tail: &[u64], out: &mut [u64], modulus: Modulus) -> usize
     ensures { λ r. ⌜ MadeMonic (modulus .p) (now (tail .entry)) (now (out .exit)) r ⌝ }
 {
     let found = find_leading(tail, 121, modulus);
+    clear(out, 0, 128);
     if found.size == 0 {
-        clear(out, 0, 128);
         return 0;
     }
     let inverse = modulus.inverse(found.value);
-    store_scaled(out, tail, 128, inverse, modulus);
+    store_scaled(out, tail, found.size, inverse, modulus);
     found.size
 }

@@ -12,18 +12,12 @@ store-negated-requires : tie.Need-store-negated-requires
 store-negated-requires c κs =
     let S = c .before .before .before .before .before in
     let m : ValidModulus (S .args .modulus) = S .pre .0 .0 in
-    let limit : S .args .modulus .p ≤ 65521 = m .limit in
-    let positive : 1 < S .args .modulus .p = m .prime .large in
-    let square = mul-le-mul-right (S .args .modulus .p) limit in
     ((m, S .pre .1 .0 .0, omega arith), λ j lt. omega (arith, S .pre .1 .1 .0 .1 j))
 
 find-leading-requires : tie.Need-find-leading-requires
 find-leading-requires c κs =
     let S = c .before .before .before .before .before .before .before .before in
     let m : ValidModulus (S .args .modulus) = S .pre .0 .0 in
-    let limit : S .args .modulus .p ≤ 65521 = m .limit in
-    let positive : 1 < S .args .modulus .p = m .prime .large in
-    let square = mul-le-mul-right (S .args .modulus .p) limit in
     ((m, omega arith), λ j lt. omega (arith, S .pre .1 .1 .0 .1 j))
 
 lesser-requires : tie.Need-lesser-requires
@@ -33,9 +27,6 @@ subtract-product-requires : tie.Need-subtract-product-requires
 subtract-product-requires c κs =
     let S = c .before .before .before .before .before .before .before .before .before .before .before .before in
     let m : ValidModulus (S .args .modulus) = S .pre .0 .0 in
-    let limit : S .args .modulus .p ≤ 65521 = m .limit in
-    let positive : 1 < S .args .modulus .p = m .prime .large in
-    let square = mul-le-mul-right (S .args .modulus .p) limit in
     let few = c .before .before .lesser .ensures in
     let stores = c .before .before .before .before .before .before .store-negated .ensures in
     let size = stored-length (m .prime) (S .args .h .now) _ (S .args .a) (S .args .y .now) stores (S .pre .1 .0 .0) in (
