@@ -1,0 +1,118 @@
+// How much stack the check and the solver use against their rivals, over all systems of a folder: stack FOLDER. A call runs in a thread
+// whose stack is filled with a pattern; what is no longer the pattern was used. Ours and C's take no other memory.
+#include <dirent.h>
+#include <pthread.h>
+#include <stdio.h>
+#include <stdlib.h>
+#include <string.h>
+#include <sys/mman.h>
+#include "ours.h"
+
+enum { SPACE = 2 << 20, PATTERN = 0xA5, KIB = 1024, LIMIT = 1024 };
+
+check_function check_O2;
+solve_function solve_O3, solve_shared;
+
+enum { OURS, C, SHARED, CONTESTANTS };
+
+static solve_function *const solvers[CONTESTANTS] = {solve_ours, solve_O3, solve_shared};
+static check_function *const checks[CONTESTANTS] = {yezsdolak_check, check_O2, NULL};
+
+struct call {
+    solve_function *solve; // or, where it is missing, the check
+    check_function *check;
+    size_t system_bytes, certificate_bytes;
+    uint8_t system[4 * LONGEST_SYSTEM], certificate[4 * LONGEST_CERTIFICATE];
+};
+
+static void *run(void *argument)
+{
+    struct call *c = argument;
+    if (c->solve != NULL)
+        c->certificate_bytes = 4 * (size_t)(c->solve(c->system, c->system_bytes, c->certificate, sizeof c->certificate) / 64);
+    else if (c->check != NULL)
+        c->check(c->system, c->system_bytes, c->certificate, c->certificate_bytes);
+    return NULL;
+}
+
+static void fail(const char *what)
+{
+    fprintf(stderr, "stack: %s\n", what);
+    exit(1);
+}
+
+// the bytes of stack that a thread uses which makes this call
+static size_t bytes_used(struct call *c, uint8_t *space)
+{
+    pthread_attr_t attributes;
+    pthread_t thread;
+    memset(space, PATTERN, SPACE);
+    if (pthread_attr_init(&attributes) != 0 || pthread_attr_setstack(&attributes, space, SPACE) != 0 ||
+        pthread_create(&thread, &attributes, run, c) != 0 || pthread_join(thread, NULL) != 0)
+        fail("no thread");
+    pthread_attr_destroy(&attributes);
+    size_t free_bytes = 0;
+    while (free_bytes < SPACE && space[free_bytes] == PATTERN)
+        free_bytes++;
+    return SPACE - free_bytes;
+}
+
+// what the call uses more than a thread does that does nothing
+static size_t used_by(struct call *c, uint8_t *space)
+{
+    struct call nothing = {.solve = NULL};
+    size_t all = bytes_used(c, space), idle = bytes_used(&nothing, space);
+    return all > idle ? all - idle : 0;
+}
+
+static void measure(struct call *c, uint8_t *space, size_t most[2][CONTESTANTS])
+{
+    for (int k = CONTESTANTS; k-- > 0;) { // ours comes last: its certificate is what is checked
+        c->solve = solvers[k], c->check = NULL;
+        size_t used = solvers[k] != NULL ? used_by(c, space) : 0;
+        most[0][k] = used > most[0][k] ? used : most[0][k];
+    }
+    for (int k = 0; k < CONTESTANTS; k++) {
+        c->solve = NULL, c->check = checks[k];
+        size_t used = checks[k] != NULL ? used_by(c, space) : 0;
+        most[1][k] = used > most[1][k] ? used : most[1][k];
+    }
+}
+
+static void print_row(const char *name, const size_t most[CONTESTANTS])
+{
+    printf("%-10s", name);
+    for (int k = 0; k < CONTESTANTS; k++)
+        if (most[k] > 0)
+            printf("%10zu", (most[k] + KIB - 1) / KIB);
+        else
+            printf("%10s", "-");
+    printf("%11.2f\n", (double)most[OURS] / (double)most[C]);
+}
+
+int main(int count, char **words)
+{
+    static struct call c;
+    size_t most[2][CONTESTANTS] = {{0}};
+    uint8_t *space = mmap(NULL, SPACE, PROT_READ | PROT_WRITE, MAP_PRIVATE | MAP_ANONYMOUS, -1, 0);
+    DIR *folder = count == 2 ? opendir(words[1]) : NULL;
+    if (folder == NULL || space == MAP_FAILED)
+        fail("usage: stack FOLDER");
+    for (struct dirent *entry; (entry = readdir(folder)) != NULL;) {
+        char path[4096];
+        if (strstr(entry->d_name, ".system") == NULL)
+            continue;
+        snprintf(path, sizeof path, "%s/%s", words[1], entry->d_name);
+        FILE *file = fopen(path, "rb");
+        if (file == NULL)
+            fail(path);
+        c.system_bytes = fread(c.system, 1, sizeof c.system, file);
+        fclose(file);
+        measure(&c, space, most);
+    }
+    closedir(folder);
+    printf("\nThe stack of a call, KiB\n\n%-10s%10s%10s%10s%11s\n", "call", "ours", "C", "shared", "ours/C");
+    print_row("solve", most[0]);
+    print_row("check", most[1]);
+    return most[0][OURS] <= (size_t)LIMIT * KIB && most[1][OURS] <= (size_t)LIMIT * KIB ? 0 : 1;
+}
