@@ -1,6 +1,7 @@
 // Times the check and the solver against their rivals on the systems of a folder, and prints a table: compare FOLDER.
 // All contestants take turns, in several passes over all rows, so that what disturbs the machine for some seconds falls on all alike;
-// a time is the median of all passes, of processor time. What they answer is compared before it is timed.
+// a time is the median of all passes, of processor time, a ratio the median of the ratios within a repetition. What they answer is
+// compared before it is timed.
 #include <stdio.h>
 #include <stdlib.h>
 #include <string.h>
@@ -104,13 +105,32 @@ static void measure(struct batch *b, int pass)
         }
 }
 
+static double median_of(const double *values, int count)
+{
+    double sorted[PASSES * REPETITIONS];
+    memcpy(sorted, values, (size_t)count * sizeof values[0]);
+    qsort(sorted, (size_t)count, sizeof sorted[0], by_value);
+    return sorted[count / 2];
+}
+
 static void take_medians(struct row *r)
 {
-    for (int k = 0; k < CONTESTANTS; k++) {
-        int count = PASSES * repetitions(k);
-        qsort(r->times[k], (size_t)count, sizeof r->times[k][0], by_value);
-        r->median[k] = r->times[k][count / 2];
-    }
+    for (int k = 0; k < CONTESTANTS; k++)
+        r->median[k] = median_of(r->times[k], PASSES * repetitions(k));
+}
+
+// The median of the ratios of two contestants' times, each of one repetition, in which they ran one after another: what slows the
+// machine for longer slows both. 0 where one of them does not take part.
+static double ratio_of(const struct row *r, int a, int b)
+{
+    double ratios[PASSES * REPETITIONS];
+    int count = 0, pairs = repetitions(a) < repetitions(b) ? repetitions(a) : repetitions(b);
+    if (r->median[a] == 0 || r->median[b] == 0)
+        return 0;
+    for (int pass = 0; pass < PASSES; pass++)
+        for (int i = 0; i < pairs; i++)
+            ratios[count++] = r->times[a][pass * repetitions(a) + i] / r->times[b][pass * repetitions(b) + i];
+    return median_of(ratios, count);
 }
 
 // Kind, d and N, as so many words, get the rest of a right certificate from a rival that gives it; its kind must be the same.
@@ -170,12 +190,12 @@ static void print_time(double seconds)
         printf(" %9.4f", 1e3 * seconds);
 }
 
-static void print_ratio(double a, double b)
+static void print_ratio(double ratio)
 {
-    if (a == 0 || b == 0)
+    if (ratio == 0)
         printf(" %10s", "-");
     else
-        printf(" %10.2f", a / b);
+        printf(" %10.2f", ratio);
 }
 
 static void print_check_head(void)
@@ -189,7 +209,7 @@ static void print_check(const struct row *r)
     printf("%-16s %6u", r->load, r->p);
     for (int k = OURS; k <= C_O3; k++)
         print_time(r->median[k]);
-    print_ratio(r->median[OURS], r->median[C_O2]);
+    print_ratio(ratio_of(r, OURS, C_O2));
     puts("");
 }
 
@@ -208,9 +228,9 @@ static void print_solver(const struct row *r)
     for (int k = 0; k < CONTESTANTS; k++)
         if (k != C_O2)
             print_time(r->median[k]);
-    print_ratio(r->median[OURS], r->median[C_O3]);
-    print_ratio(r->median[BY_FLINT], r->median[OURS]);
-    print_ratio(r->median[BY_PARI], r->median[OURS]);
+    print_ratio(ratio_of(r, OURS, C_O3));
+    print_ratio(ratio_of(r, BY_FLINT, OURS));
+    print_ratio(ratio_of(r, BY_PARI, OURS));
     puts("");
 }
 
