@@ -34,7 +34,7 @@ pub not-spanned : {p j : ℕ} {input : List ℕ} {L : Level} → Spanned p j inp
 not-spanned = record { span = λ e. absurd (false≢true e) }
 
 -- 128 words of the input, copied to a block of zeros
-module _ (p : ℕ) (input : List ℕ) (at : ℕ) (zeros : List ℕ) (long : length zeros ≡ 1088) (none : AtMost 0 zeros) where
+module _ (p : ℕ) (input : List ℕ) (at : ℕ) (zeros : List ℕ) (long : length zeros ≡ 128) (none : AtMost 0 zeros) where
   abbrev block : List ℕ
   block = stored (λ i. getD input (at + i) 0) zeros 0 128
 

@@ -43,8 +43,8 @@ fn is_spanned(
     ensures { λ r. ⌜ Spanned (modulus .p) j (now (input .entry))
         (level (now (slots .entry)) (now (sizes .entry)) (now (inverses .entry))) r ⌝ }
 {
-    let mut block = [0u64; 1088];
-    let mut quotients = [0u64; 1088];
+    let mut block = [0u64; 128];
+    let mut quotients = [0u64; 128];
     copy(&mut block, 0, input, 128 * j, 128);
     let left = divide(
         slots,

@@ -155,8 +155,8 @@ module _ {p : ℕ} {y₀ kernel : List ℕ} {at : ℕ} where
         inside : d + size ≤ 256
         inside = omega (arith, so-far .most)
 
-        room′ : 256 ≤ length y
-        room′ = omega (arith, so-far .same-length)
+        room′ : d + size ≤ length y
+        room′ = omega (arith, inside, so-far .same-length)
 
         bound-after : (b : ℕ) → AtMost b y₀ → AtMost (b + (256 - (k - 1)) * (p * p)) y′
         bound-after b small i =

@@ -99,8 +99,8 @@ module _ {p w : ℕ} {h₀ f : List ℕ} {b v : ℕ} {s : List ℕ} {a m : ℕ} 
         none : ZeroFrom p s a m m
         none j ge lt = absurd (omega arith)
 
-        room′ : N ≤ length h
-        room′ = omega (arith, so-far .same-length)
+        room′ : k * w + m ≤ length h
+        room′ = omega (arith, fits, so-far .same-length)
 
         abbrev y : Polynomial (residues p prime)
         y = read (residues p prime) k (strided p prime f b v)

@@ -1,5 +1,5 @@
 -- The invariant of `divide`: a division as far as it has come, with what is left of the block in the hand.
-use Prim.Native.Nat.{ℕ, _+_, _-_, _%_, _<_, _≤_}
+use Prim.Native.Nat.{ℕ, _+_, _-_, _*_, _%_, _<_, _≤_}
 use mathlib.Core.Path.{_≡_, refl, sym, _∙_, ap, subst}
 use mathlib.Core.Logic.{_⊎_, inl, inr}
 use mathlib.Core.List.{List}
@@ -36,6 +36,9 @@ use Rattle.lattice.proofs.Stepping
 pub record Dividing (p : ℕ) (L : Level) (block₀ quotients₀ block quotients : List ℕ) (k value : ℕ) : Type 0 where
   pub same-block : length block ≡ length block₀
   pub same-quotients : length quotients ≡ length quotients₀
+  -- the block has room for the degrees of its k words, and the quotients for k words
+  pub room : height k * 8 ≤ length block₀
+  pub places : k ≤ length quotients₀
   pub ends : Ends p block 0 1088 k
   pub leading : 0 < k → value ≡ getD block (k - 1) 0 % p
   pub sums : Sums p k block
@@ -45,12 +48,15 @@ pub record Dividing (p : ℕ) (L : Level) (block₀ quotients₀ block quotients
 
 module _ {p : ℕ} (prime₀ : Prime p) {L : Level} {block₀ quotients₀ : List ℕ} where
   -- nothing is taken off yet, and the quotients are zero
-  pub dividing-start : {k value : ℕ} → Ends p block₀ 0 1088 k → (0 < k → value ≡ getD block₀ (k - 1) 0 % p) → Sums p 2112 block₀
+  pub dividing-start : {k value : ℕ} → height k * 8 ≤ length block₀ → k ≤ length quotients₀ → Ends p block₀ 0 1088 k
+      → (0 < k → value ≡ getD block₀ (k - 1) 0 % p) → Sums p 2112 block₀
       → AtMost 0 quotients₀ → Dividing p L block₀ quotients₀ block₀ quotients₀ k value
   unfolding quotient
-  dividing-start {k} ends leading sums zeros = record {
+  dividing-start {k} room places ends leading sums zeros = record {
     same-block = refl;
     same-quotients = refl;
+    room = room;
+    places = places;
     ends = ends;
     leading = leading;
     sums = sums-fewer p block₀ 2112 k (omega (arith, ends .within)) sums;
@@ -72,10 +78,10 @@ module _ {p : ℕ} (prime₀ : Prime p) {L : Level} {block₀ quotients₀ : Lis
 
   -- the slot at the pivot is filled and no longer: there is a step
   pub dividing-step : {block quotients : List ℕ} {k value : ℕ} → Dividing p L block₀ quotients₀ block quotients k value
-      → ValidLevel p L → 1088 ≤ length block₀ → 0 < k → 0 < slotSize L (row k) → slotSize L (row k) ≤ k → HasStep p L block k value
-  dividing-step so-far level room some filled fits = record {
+      → ValidLevel p L → 0 < k → 0 < slotSize L (row k) → slotSize L (row k) ≤ k → HasStep p L block k value
+  dividing-step so-far level some filled fits = record {
     level = level;
-    room = omega (arith, so-far .same-block);
+    room = omega (arith, so-far .room, so-far .same-block);
     ends = so-far .ends;
     some = some;
     leading = so-far .leading some;
@@ -85,8 +91,7 @@ module _ {p : ℕ} (prime₀ : Prime p) {L : Level} {block₀ quotients₀ : Lis
 
   -- a turn: the factor is added to the quotient of the slot, `shift` degrees up
   module _ {block quotients : List ℕ} {k value : ℕ} (so-far : Dividing p L block₀ quotients₀ block quotients k value)
-      (S : HasStep p L block k value) {block′ : List ℕ} {r : Remains} (T : TakesMultiple p L block k value block′ r)
-      (room : 1088 ≤ length quotients₀) where
+      (S : HasStep p L block k value) {block′ : List ℕ} {r : Remains} (T : TakesMultiple p L block k value block′ r) where
     abbrev place : ℕ
     place = k - slotSize L (row k) + (7 - row k)
 
@@ -98,7 +103,10 @@ module _ {p : ℕ} (prime₀ : Prime p) {L : Level} {block₀ quotients₀ : Lis
         (modulo p .add (getD quotients (k - slotSize L (row k) + (7 - row k)) 0) (r .factor))
 
     place-there : place < length quotients
-    place-there = omega (arith, Stepping.place-inside S, so-far .same-quotients)
+    place-there = omega (arith, Stepping.place-inside S, so-far .places, so-far .same-quotients)
+
+    place-inside : place < 1088
+    place-inside = omega (arith, Stepping.place-inside S, S .ends .within)
 
     below-set : (i : ℕ) → getD quotients′ i 0 < p
     below-set i = go (ℕ-discrete i place)
@@ -152,11 +160,11 @@ module _ {p : ℕ} (prime₀ : Prime p) {L : Level} {block₀ quotients₀ : Lis
       words-here = subst
           (λ x. words p prime quotients′ 0 1088 x ≡ residues p prime .ring .add (words p prime quotients 0 1088 x) a)
           here
-          (words-first p prime quotients′ 1088 place (Stepping.place-inside S)
+          (words-first p prime quotients′ 1088 place place-inside
           ∙ ap (residue p prime) (getD-set-same quotients place sum 0 place-there)
           ∙ residue-mod p prime (getD quotients place 0 + r .factor)
           ∙ residue-add p prime (getD quotients place 0) (r .factor)
-          ∙ ap (λ x. residues p prime .ring .add x a) (sym (words-first p prime quotients 1088 place (Stepping.place-inside S))))
+          ∙ ap (λ x. residues p prime .ring .add x a) (sym (words-first p prime quotients 1088 place place-inside)))
 
       words-other : (x : ℕ) → ¬ (x ≡ flat 8 (row k) degree)
           → words p prime quotients′ 0 1088 x ≡ words p prime quotients 0 1088 x
@@ -191,6 +199,8 @@ module _ {p : ℕ} (prime₀ : Prime p) {L : Level} {block₀ quotients₀ : Lis
     turned = record {
       same-block = Stepping.step-length p prime₀ S (r .factor) (T .factor) block′ (T .words) ∙ so-far .same-block;
       same-quotients = length-set quotients place sum ∙ so-far .same-quotients;
+      room = omega (arith, so-far .room, T .fewer);
+      places = omega (arith, so-far .places, T .fewer);
       ends = T .ends;
       leading = T .leading;
       sums = sums-fewer p block′ (k - 1) (r .size) (omega (arith, T .fewer))

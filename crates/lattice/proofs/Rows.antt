@@ -5,7 +5,7 @@ use native.Mathlib.Omega.{arith}
 use mir.Syntax.{w64}
 use mir.Val.{Fits}
 use lib.ListN.{length}
-use Rattle.lattice.specs.Memory.{row, Level, slotSize, tailSize, ValidLevel}
+use Rattle.lattice.specs.Memory.{row, height, Level, slotSize, tailSize, ValidLevel}
 
 pub lane-most : (k : ℕ) → (k - 1) % 8 ≤ 7
 lane-most k = omega arith
@@ -27,6 +27,13 @@ block-start k = omega arith
 
 pub tail-start : (k : ℕ) → Fits w64 (256 * row k + 128)
 tail-start k = omega arith
+
+-- words lie within their degrees, and fewer words within fewer
+pub within-degrees : {k m : ℕ} → height k * 8 ≤ m → k ≤ m
+within-degrees there = omega arith
+
+pub degrees-fewer : {j k m : ℕ} → j ≤ k → height k * 8 ≤ m → height j * 8 ≤ m
+degrees-fewer fewer there = omega arith
 
 module _ {p : ℕ} {L : Level} (valid : ValidLevel p L) (k : ℕ) where
   pub size-there : row k < length (L .sizes)

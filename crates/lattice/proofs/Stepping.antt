@@ -41,8 +41,8 @@ slot-inverse-below {p} {L} {block} {k} prime S =
 
 -- the place of the factor among the quotients
 pub place-inside : {p : ℕ} {L : Level} {block : List ℕ} {k value : ℕ} → HasStep p L block k value
-    → k - slotSize L (row k) + (7 - row k) < 1088
-place-inside {k = k} S = omega (arith, S .level .slot (row k) (omega arith) .pivot (S .filled), S .ends .within, S .filled, S .fits)
+    → k - slotSize L (row k) + (7 - row k) < k
+place-inside {k = k} S = omega (arith, S .level .slot (row k) (omega arith) .pivot (S .filled), S .filled, S .fits)
 
 -- where the last word is known
 pub early-left : {p : ℕ} {block : List ℕ} {n value : ℕ} → Rest p block n value → 0 < value → Left p block n n value
@@ -100,7 +100,7 @@ module _ (p : ℕ) (prime : Prime p) {L : Level} {block : List ℕ} {k value : �
   step-inside = omega (arith, step-shift, S .fits, S .ends .within)
 
   pub step-room : k - slotSize L (row k) + height (slotSize L (row k)) * 8 ≤ length block
-  step-room = omega (arith, S .room, step-inside)
+  step-room = omega (arith, step-shift, S .fits, S .room)
 
   step-fits : taken ≤ 128
   step-fits = omega (arith, slot .block .within)
@@ -146,11 +146,11 @@ module _ (p : ℕ) (prime : Prime p) {L : Level} {block : List ℕ} {k value : �
         (residues p prime .ring .neg (residues p prime .ring .mul (residue p prime a)
         (words p prime (L .slots) (256 * row k) 128 x)))
     upper = words-upper p prime block block′ (L .slots) d (256 * row k) taken 128 1088 a stores step-factor
-        step-inside (S .room) step-none step-fits
+        step-inside step-room step-none step-fits
 
     lower : (x : ℕ) → x < d → words p prime block′ 0 1088 x ≡ words p prime block 0 1088 x
     lower = words-lower p prime block block′ (L .slots) d (256 * row k) taken 128 1088 a stores step-factor
-        step-inside (S .room) step-none step-fits
+        step-inside step-room step-none step-fits
 
     -- as `flat-step` of `reduction` takes it
     pub step-upper : (x : ℕ) → words p prime block′ 0 1088 (shift * 8 + x)
@@ -205,7 +205,7 @@ module _ (p : ℕ) (prime : Prime p) {L : Level} {block : List ℕ} {k value : �
         let here : j ≡ k - 1 = omega (arith, S .some) in
         zero-word p prime block′ 0 1088 j lt (ap (words p prime block′ 0 1088) here ∙ leading-gone))
         (λ more.
-        zero-kept p prime block block′ (L .slots) d (256 * row k) taken 128 1088 a stores step-factor step-inside (S .room)
+        zero-kept p prime block block′ (L .slots) d (256 * row k) taken 128 1088 a stores step-factor step-inside step-room
         step-none step-fits size k (slot .block .behind) (omega (arith, S .fits)) (S .ends .behind) j more lt)
         (below-or-not j k)
 

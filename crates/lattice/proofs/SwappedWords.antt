@@ -86,6 +86,12 @@ module _ {p : ℕ} {M : Memory} {t e m : ℕ} (E : Swap p M t e m) where
   pub block-there : (b : List ℕ) → length b ≡ length (M .block) → slotSize (M .level) (row (M .hand .size)) ≤ length b
   block-there b same = omega (arith, slot .block .within, E .valid .hand .room)
 
+  block-room : e ≤ length (M .block)
+  block-room = omega (arith, blocks-fit, E .valid .hand .room)
+
+  tail-room : m ≤ length (M .tail)
+  tail-room = omega (arith, tails-fit, E .valid .hand .tail-room)
+
   -- the block that the hand takes can be reduced
   pub block-reducible : (b : List ℕ) → b ≡ block′ M e → 0 < p → (j : ℕ) → SmallSum p (getD b j 0)
   block-reducible b eb positive j =
@@ -132,22 +138,22 @@ module _ {p : ℕ} {M : Memory} {t e m : ℕ} (E : Swap p M t e m) where
     pub block-in : (x : ℕ) → words p prime (slots₂ p M e m) (256 * q) 128 x ≡ words p prime (M .block) 0 1088 x
     block-in x =
         words-apart p prime (λ j. getD (M .tail) j 0 % p) (slots₁ p M e) (256 * q + 128) m (256 * q) 128 (inl (omega arith)) x
-        ∙ words-slot p prime (M .block) s (256 * q) e 128 1088 blocks-fit (omega arith) (E .valid .hand .room)
+        ∙ words-slot p prime (M .block) s (256 * q) e 128 1088 blocks-fit (omega arith) block-room
         (omega (arith, E .valid .level .room)) behind-hand behind-slot x
 
     pub tail-in : (x : ℕ) → words p prime (slots₂ p M e m) (256 * q + 128) 128 x ≡ words p prime (M .tail) 0 256 x
     tail-in = words-slot p prime (M .tail) (slots₁ p M e) (256 * q + 128) m 128 256 tails-fit (omega arith)
-        (E .valid .hand .tail-room) room₁ behind-tail behind-slot-tail
+        tail-room room₁ behind-tail behind-slot-tail
 
     -- the hand takes the slot
     pub block-out : (x : ℕ) → words p prime (block′ M e) 0 1088 x ≡ words p prime s (256 * q) 128 x
-    block-out = words-hand p prime (M .block) s (256 * q) e 128 1088 blocks-fit (omega arith) (E .valid .hand .room)
+    block-out = words-hand p prime (M .block) s (256 * q) e 128 1088 blocks-fit (omega arith) block-room
         (omega (arith, E .valid .level .room)) behind-hand behind-slot
 
     pub tail-out : (x : ℕ) → words p prime (tail′ p M e m) 0 256 x ≡ words p prime s (256 * q + 128) 128 x
     tail-out x =
         words-hand p prime (M .tail) (slots₁ p M e) (256 * q + 128) m 128 256 tails-fit (omega arith)
-        (E .valid .hand .tail-room) room₁ behind-tail behind-slot-tail x
+        tail-room room₁ behind-tail behind-slot-tail x
         ∙ tail-apart x
 
     -- another slot stays

@@ -72,9 +72,13 @@ module _ {p : ℕ} (prime₀ : Prime p) {M : Memory} {t e m : ℕ} (E : Swap p M
     sums-kept : (g : ℕ → ℕ) (w : List ℕ) (n : ℕ) → ((j : ℕ) → g j < p) → Sums p (places M) w → Sums p (places M′) (stored g w 0 n)
     sums-kept g w n small sums = rw same-places (sums-stored p w g 0 n (places M) (λ j lt. omega (arith, small j)) sums)
 
+    same-length : length (block′ M e) ≡ length (M .block)
+    same-length = length-stored (λ j. getD (L .slots) (256 * q + j) 0) (M .block) 0 e
+
     hand-valid : ValidHand p M′
     hand-valid = record {
-      room = omega (arith, E .valid .hand .room, length-stored (λ j. getD (L .slots) (256 * q + j) 0) (M .block) 0 e);
+      room = omega (arith, E .valid .hand .room, same-length);
+      degrees = omega (arith, E .valid .hand .room, same-length, hand-size, slot .block .within);
       tail-room = omega (
         arith,
         E .valid .hand .tail-room,

@@ -42,7 +42,7 @@ places-most {p} {M} valid = omega (
 pub fits-step : {p : ℕ} {M : Memory} → Valid p M → Fits M → HasStep p (M .level) (M .block) (M .hand .size) (M .hand .leading)
 fits-step valid fits = record {
   level = valid .level;
-  room = valid .hand .room;
+  room = valid .hand .degrees;
   ends = valid .hand .block;
   some = fits .some;
   leading = valid .hand .leading (fits .some);
@@ -114,16 +114,23 @@ module _ {p : ℕ} (prime₀ : Prime p) {M : Memory} (valid : Valid p M) (fits :
     abbrev M′ : Memory
     M′ = memory (M .level) block′ tail′ (record { size = r .size; leading = r .leading; tail = t })
 
+    tail-there : shift + taken ≤ length (M .tail)
+    tail-there = omega (arith, taking-room taken rounded, valid .hand .tail-room)
+
     behind : ZeroFrom p tail′ 0 256 t
     behind = zero-kept p prime₀ (M .tail) tail′ (L .slots) shift (256 * q + 128) taken 128 256 (r .factor) stores factor-below
-        (taking-room taken rounded) (valid .hand .tail-room) (taking-none taken rounded) (taking-fits taken rounded)
+        (taking-room taken rounded) tail-there (taking-none taken rounded) (taking-fits taken rounded)
         size t (slot .tail) (omega arith) (λ j h lt. valid .hand .tail j (omega arith) lt)
+
+    same-length : length block′ ≡ length (M .block)
+    same-length = Stepping.step-length p prime₀ S (r .factor) (T .factor) block′ (T .words)
 
     taken-valid : Valid p M′
     taken-valid = record {
       level = valid .level;
       hand = record {
-        room = omega (arith, valid .hand .room, Stepping.step-length p prime₀ S (r .factor) (T .factor) block′ (T .words));
+        room = omega (arith, valid .hand .room, same-length);
+        degrees = omega (arith, valid .hand .degrees, same-length, T .fewer);
         tail-room = omega (
           arith,
           valid .hand .tail-room,
@@ -191,10 +198,10 @@ module _ {p : ℕ} (prime₀ : Prime p) {M : Memory} (valid : Valid p M) (fits :
               (Stepping.step-upper p prime S (r .factor) (T .factor) block′ (T .words))
               (Stepping.step-lower p prime S (r .factor) (T .factor) block′ (T .words))
               (words-upper p prime (M .tail) tail′ (L .slots) shift (256 * q + 128) taken 128 256 (r .factor) stores
-              factor-below (taking-room taken rounded) (valid .hand .tail-room) (taking-none taken rounded)
+              factor-below (taking-room taken rounded) tail-there (taking-none taken rounded)
               (taking-fits taken rounded))
               (words-lower p prime (M .tail) tail′ (L .slots) shift (256 * q + 128) taken 128 256 (r .factor) stores
-              factor-below (taking-room taken rounded) (valid .hand .tail-room) (taking-none taken rounded)
+              factor-below (taking-room taken rounded) tail-there (taking-none taken rounded)
               (taking-fits taken rounded));
           size = refl;
         };

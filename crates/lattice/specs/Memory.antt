@@ -1,7 +1,7 @@
 -- How a level and a hand lie in memory, all of it words of 64 bits, and when such memory is in order.
 --   A level has 8 slots, one for each row. Slot q has its block in the 128 words from 256·q on: flat, in 8 lanes, row i in lane
 --   7 - i, so that coefficient e of row i is at 8·e + (7 - i). Its tail is in the next 128 words. All these are numbers below p.
---   The hand has a block of 1088 words, 136 degrees, and a tail of 256; both are sums that are not reduced.
+--   The hand has a block of 128 to 1088 words, 16 to 136 degrees, and a tail of 256; both are sums that are not reduced.
 use Prim.Native.Nat.{ℕ, _+_, _-_, _*_, _/_, _%_, _<_, _≤_}
 use mathlib.Core.Path.{_≡_}
 use mathlib.Core.List.{List}
@@ -79,7 +79,9 @@ abbrev pub places : Memory → ℕ
 places M = total 8 (slotSize (M .level)) + M .hand .size
 
 pub record ValidHand (p : ℕ) (M : Memory) : Type 0 where
-  pub room : 1088 ≤ length (M .block)
+  -- for a slot's block, and for all degrees of its own
+  pub room : 128 ≤ length (M .block)
+  pub degrees : height (M .hand .size) * 8 ≤ length (M .block)
   pub tail-room : 256 ≤ length (M .tail)
   pub block : Ends p (M .block) 0 1088 (M .hand .size)
   pub leading : 0 < M .hand .size → M .hand .leading ≡ getD (M .block) (M .hand .size - 1) 0 % p

@@ -79,7 +79,7 @@ module _ (p : ℕ) (prime : Prime p) where
 
   -- `add_scaled`: a times m words of s from b on is taken off l from the place d on
   module _ (l l′ s : List ℕ) (d b m n N a : ℕ) (stores : l′ ≡ stored (sumAt l d s b (p - a)) l d m) (small : a < p)
-      (inside : d + m ≤ N) (room : N ≤ length l) (behind : ZeroFrom p s b n m) (fits : m ≤ n) where
+      (inside : d + m ≤ N) (room : d + m ≤ length l) (behind : ZeroFrom p s b n m) (fits : m ≤ n) where
     outside : (i : ℕ) → (i < d) ⊎ (d + m ≤ i) → words p prime l′ 0 N i ≡ words p prime l 0 N i
     outside i out = words-same l′ l 0 0 N i (λ lt. ap (λ x. x % p) (ap (λ w. getD w (0 + i) 0) stores
         ∙ stored-outside (sumAt l d s b (p - a)) l d m (0 + i) (⊎-elim (λ lo. inl (omega arith)) (λ hi. inr (omega arith)) out)))
@@ -119,7 +119,7 @@ module _ (p : ℕ) (prime : Prime p) where
         ∙ identity (residues p prime .ring) (residue p prime a ∷ []) (λ ρ qa. search quotes depth 16) refl)
 
   -- `exchange`: m words of h and of s from b on change places, all behind being 0 modulo p
-  module _ (h s : List ℕ) (b m n N : ℕ) (fits : m ≤ n) (wider : n ≤ N) (room : N ≤ length h) (slot-room : b + n ≤ length s)
+  module _ (h s : List ℕ) (b m n N : ℕ) (fits : m ≤ n) (wider : n ≤ N) (room : m ≤ length h) (slot-room : b + n ≤ length s)
       (behind : ZeroFrom p h 0 N m) (slot-behind : ZeroFrom p s b n m) where
     pub words-hand : (x : ℕ) → words p prime (stored (λ j. getD s (b + j) 0) h 0 m) 0 N x ≡ words p prime s b n x
     words-hand x =

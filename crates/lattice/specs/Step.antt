@@ -15,7 +15,7 @@ use Rattle.lattice.specs.Memory.{row, height, ZeroFrom, Ends, Level, slo
 -- k is the size of the block, value its leading word modulo p
 pub record HasStep (p : ℕ) (L : Level) (block : List ℕ) (k value : ℕ) : Type 0 where
   pub level : ValidLevel p L
-  pub room : 1088 ≤ length block
+  pub room : height k * 8 ≤ length block
   pub ends : Ends p block 0 1088 k
   pub some : 0 < k
   pub leading : value ≡ getD block (k - 1) 0 % p
@@ -37,7 +37,7 @@ pub record TakesMultiple (p : ℕ) (L : Level) (block : List ℕ) (k value : ℕ
 
 -- what is known of the block before its size is: nothing counts from n on, and value is the word before n where it is not 0
 pub record Rest (p : ℕ) (block : List ℕ) (n value : ℕ) : Type 0 where
-  pub room : 1088 ≤ length block
+  pub room : n ≤ length block
   pub within : n ≤ 1088
   pub behind : ZeroFrom p block 0 1088 n
   pub reducible : (j : ℕ) → SmallSum p (getD block j 0)

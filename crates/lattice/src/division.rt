@@ -3,11 +3,11 @@ use crate::step::find_rest;
 use crate::step::take_multiple;
 use residue::modulus::Modulus;
 use vector::find_leading;
-ghost use Prim.Native.Nat.{_≤_};
+ghost use Prim.Native.Nat.{_*_, _≤_};
 ghost use lib.ListN.{length};
 ghost use Rattle.residue.specs.Modulus.{ValidModulus};
 ghost use Rattle.vector.specs.Bound.{AtMost};
-ghost use Rattle.lattice.specs.Memory.{level, ValidLevel, ZeroFrom, Sums};
+ghost use Rattle.lattice.specs.Memory.{height, level, ValidLevel, ZeroFrom, Sums};
 ghost use Rattle.lattice.specs.Quotients.{Divided};
 
 // Takes multiples of slots off the block, of at most n words, until nothing is left or the slot at the pivot is empty or longer.
@@ -22,9 +22,9 @@ pub fn divide(
     modulus: Modulus,
 ) -> usize
     requires { ⌜ ValidModulus modulus × ValidLevel (modulus .p) (level (now slots) (now sizes) (now inverses)) ⌝ }
-    requires block { ⌜ (1088 ≤ length (now block)) × (n ≤ 1088) × ZeroFrom (modulus .p) (now block) 0 1088 n
+    requires block { ⌜ (height n * 8 ≤ length (now block)) × (n ≤ 1088) × ZeroFrom (modulus .p) (now block) 0 1088 n
         × Sums (modulus .p) 2112 (now block) ⌝ }
-    requires quotients { ⌜ (1088 ≤ length (now quotients)) × AtMost 0 (now quotients) ⌝ }
+    requires quotients { ⌜ (n ≤ length (now quotients)) × AtMost 0 (now quotients) ⌝ }
     ensures { λ r. ⌜ Divided (modulus .p) (level (now (slots .entry)) (now (sizes .entry)) (now (inverses .entry)))
         (now (block .entry)) (now (block .exit)) (now (quotients .exit)) r ⌝ }
 {

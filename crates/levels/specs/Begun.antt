@@ -34,32 +34,27 @@ pub record ValidColumn (p : ℕ) (column : List ℕ) (size : ℕ) : Type 0 where
   pub ends : Ends p column 0 128 size
 
 module _ {p : ℕ} (prime₀ : Prime p) (column block tail : List ℕ) (size : ℕ) (valid : ValidColumn p column size)
-    (block-length : length block ≡ 1088) (tail-length : length tail ≡ 256) where
+    (block-length : length block ≡ 128) (tail-length : length tail ≡ 256) where
   abbrev block′ : List ℕ
   block′ = laidBlock column block
 
   abbrev tail′ : List ℕ
   tail′ = laidTail tail
 
-  abbrev zeros : List ℕ
-  zeros = stored (λ j. 0) block 0 1088
-
   abbrev tail-zeros : List ℕ
   tail-zeros = stored (λ j. 0) tail 0 256
 
-  zeros-length : length zeros ≡ 1088
-  zeros-length = length-stored (λ j. 0) block 0 1088 ∙ block-length
+  same-length : length block′ ≡ 128
+  same-length = length-stored (λ j. getD column (0 + j) 0) block 0 128 ∙ block-length
 
   tail-zeros-length : length tail-zeros ≡ 256
   tail-zeros-length = length-stored (λ j. 0) tail 0 256 ∙ tail-length
 
   block-first : (j : ℕ) → j < 128 → getD block′ (0 + j) 0 ≡ getD column (0 + j) 0
-  block-first j lt = stored-inside (λ j. getD column (0 + j) 0) zeros 0 128 j (omega (arith, zeros-length)) lt
+  block-first j lt = stored-inside (λ j. getD column (0 + j) 0) block 0 128 j (omega (arith, block-length)) lt
 
-  block-behind : (j : ℕ) → 128 ≤ j → j < 1088 → getD block′ (0 + j) 0 ≡ 0
-  block-behind j ge lt =
-      stored-outside (λ j. getD column (0 + j) 0) zeros 0 128 (0 + j) (inr (omega arith))
-      ∙ stored-inside (λ j. 0) block 0 1088 j (omega (arith, block-length)) lt
+  block-behind : (j : ℕ) → 128 ≤ j → getD block′ (0 + j) 0 ≡ 0
+  block-behind j ge = List·getD-eq-default block′ 0 (omega (arith, same-length))
 
   pub laid-words : (prime : Prime p) (x : ℕ) → words p prime column 0 128 x ≡ words p prime block′ 0 1088 x
   laid-words prime x =
@@ -67,7 +62,7 @@ module _ {p : ℕ} (prime₀ : Prime p) (column block tail : List ℕ) (size : �
       (λ lt. words-inside p prime column 0 128 x lt ∙ ap (λ w. residue p prime w) (sym (block-first x lt))
       ∙ sym (words-inside p prime block′ 0 1088 x (omega arith)))
       (λ ge. words-behind p prime column 0 128 x ge
-      ∙ sym (words-zero p prime block′ 0 1088 128 (λ j h lt. ap (λ w. w % p) (block-behind j h lt) ∙ zero-mod p) x ge))
+      ∙ sym (words-zero p prime block′ 0 1088 128 (λ j h lt. ap (λ w. w % p) (block-behind j h) ∙ zero-mod p) x ge))
       (below-or-not x 128)
 
   -- every word is below p
@@ -75,14 +70,7 @@ module _ {p : ℕ} (prime₀ : Prime p) (column block tail : List ℕ) (size : �
   block-below i =
       ⊎-elim
       (λ lt. omega (arith, ap (λ x. getD block′ x 0) (zero-add i), block-first i lt, valid .below (0 + i)))
-      (λ ge.
-      ⊎-elim
-      (λ lt. omega (arith, ap (λ x. getD block′ x 0) (zero-add i), block-behind i ge lt, prime₀ .large))
-      (λ past.
-      let none : getD block′ i 0 ≡ 0 = List·getD-eq-default block′ 0
-      (omega (arith, length-stored (λ j. getD column (0 + j) 0) zeros 0 128, zeros-length)) in
-      omega (arith, prime₀ .large))
-      (below-or-not i 1088))
+      (λ ge. omega (arith, ap (λ x. getD block′ x 0) (zero-add i), block-behind i ge, prime₀ .large))
       (below-or-not i 128)
 
   tail-first : getD tail′ 0 0 ≡ 1
@@ -112,7 +100,8 @@ module _ {p : ℕ} (prime₀ : Prime p) (column block tail : List ℕ) (size : �
 
   pub laid-valid : (L : Level) → ValidHand p (memory L (laidBlock column block) (laidTail tail) (laidHand column size))
   laid-valid L = record {
-    room = omega (arith, length-stored (λ j. getD column (0 + j) 0) zeros 0 128, zeros-length);
+    room = omega (arith, same-length);
+    degrees = omega (arith, same-length, valid .ends .within);
     tail-room = omega (arith, length-set tail-zeros 0 1, tail-zeros-length);
     block = ends-same p prime₀ column block′ 0 0 128 1088 (laid-words prime₀) size (omega (arith, valid .ends .within))
         (valid .ends);

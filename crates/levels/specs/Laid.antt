@@ -5,9 +5,9 @@ use lib.ListN.{getD, set}
 use Rattle.vector.specs.Stored.{stored}
 use Rattle.lattice.specs.declared.hand.Hand.{Hand}
 
--- the column in the first 128 words, 0 in the others
+-- the column in 128 words
 abbrev pub laidBlock : List ℕ → List ℕ → List ℕ
-laidBlock column block = stored (λ j. getD column (0 + j) 0) (stored (λ j. 0) block 0 1088) 0 128
+laidBlock column block = stored (λ j. getD column (0 + j) 0) block 0 128
 
 -- 1, then 0
 abbrev pub laidTail : List ℕ → List ℕ

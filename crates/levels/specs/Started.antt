@@ -72,7 +72,7 @@ module _ {p : ℕ} (prime₀ : Prime p) (input : List ℕ) (at : ℕ) (below : (
     }
 
     -- the level copied, and the hand laid
-    pub started : {L L′ : Level} → ValidLevel p L → Copied L 8 L′ → (block tail : List ℕ) → length block ≡ 1088 → length tail ≡ 256
+    pub started : {L L′ : Level} → ValidLevel p L → Copied L 8 L′ → (block tail : List ℕ) → length block ≡ 128 → length tail ≡ 256
         → {block′ tail′ : List ℕ} {hand : Hand}
         → (block′ ≡ laidBlock column block) × ((tail′ ≡ laidTail tail) × (hand ≡ laidHand column size))
         → Started p L input at (memory L′ block′ tail′ hand)

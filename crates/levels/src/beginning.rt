@@ -16,12 +16,11 @@ pub fn last_place(size: usize) -> usize
 
 // The hand (column | 1), of a column of so many words up to the last that is not 0.
 pub fn lay_hand(column: &[u64], size: usize, block: &mut [u64], tail: &mut [u64]) -> Hand
-    requires { ⌜ (128 ≤ length (now column)) × (size ≤ 128) × (1088 ≤ length (now block)) × (256 ≤ length (now tail)) ⌝ }
+    requires { ⌜ (128 ≤ length (now column)) × (size ≤ 128) × (128 ≤ length (now block)) × (256 ≤ length (now tail)) ⌝ }
     ensures block { λ _. ⌜ now (block .exit) ≡ laidBlock (now (column .entry)) (now (block .entry)) ⌝ }
     ensures tail { λ _. ⌜ now (tail .exit) ≡ laidTail (now (tail .entry)) ⌝ }
     ensures hand { λ r. ⌜ r ≡ laidHand (now (column .entry)) size ⌝ }
 {
-    clear(block, 0, 1088);
     copy(block, 0, column, 0, 128);
     clear(tail, 0, 256);
     tail[0] = 1;

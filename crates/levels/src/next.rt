@@ -32,7 +32,7 @@ pub fn start_column(
     requires { ⌜ ValidModulus modulus × ValidLevel (modulus .p) (level (now slots) (now sizes) (now inverses)) ⌝ }
     requires column { ⌜ (at + 128 ≤ length (now input)) × ((i : ℕ) → getD (now input) i 0 < modulus .p) ⌝ }
     requires room { ⌜ (length (now next) ≡ 2048) × (length (now «next_sizes») ≡ 16) × (length (now «next_inverses») ≡ 8)
-        × (length (now block) ≡ 1088) × (length (now tail) ≡ 256) ⌝ }
+        × (length (now block) ≡ 128) × (length (now tail) ≡ 256) ⌝ }
     requires zeros { ⌜ AtMost 0 (now next) × AtMost 0 (now «next_sizes») ⌝ }
     ensures { λ r. ⌜ Started (modulus .p) (level (now (slots .entry)) (now (sizes .entry)) (now (inverses .entry)))
         (now (input .entry)) at
@@ -68,7 +68,7 @@ pub fn next_level(
         (now (input .entry)) at (level (now (next .exit)) (now («next_sizes» .exit)) (now («next_inverses» .exit)))
         (now (kernel .exit)) r ⌝ }
 {
-    let mut block = [0u64; 1088];
+    let mut block = [0u64; 128];
     let mut tail = [0u64; 256];
     let hand = start_column(
         slots,

@@ -30,7 +30,7 @@ use Rattle.vector.specs.Reduced.{polynomial}
 use Rattle.vector.specs.Stored.{stored, stored-inside, stored-outside, length-stored, below-or-not}
 use Rattle.lattice.specs.declared.hand.Hand.{Hand}
 use Rattle.lattice.specs.Word.{words, words-first, residue-one}
-use Rattle.lattice.specs.Memory.{height, ZeroFrom, Level, slotSize, tailSize, ValidLevel, Sums, Memory, memory, places, Valid}
+use Rattle.lattice.specs.Memory.{height, ZeroFrom, Ends, Level, slotSize, tailSize, ValidLevel, Sums, Memory, memory, places, Valid}
 use Rattle.lattice.specs.Holding.{HoldsSlots, HoldsState}
 use Rattle.lattice.specs.Range.{words-zero}
 use Rattle.lattice.specs.Reading.{holds-filled}
@@ -105,13 +105,20 @@ module _ (p : ℕ) (prime : Prime p) {n : ℕ} (small : n ≤ 8) {L : Level} (va
   behind-none : ZeroFrom p b′ 0 1088 1088
   behind-none j h lt = absurd (omega arith)
 
+  right-length : length b′ ≡ length ob
+  right-length = length-stored (rightWord (L .slots) (L .sizes) n) ob 0 1088
+
+  right-ends : Ends p b′ 0 1088 found
+  right-ends = found-ends p positive b′ 1088 1088 (omega arith) behind-none found found-size
+
   pub first-valid : Valid p firstMemory
   first-valid = record {
     level = transposed-valid p positive small valid o oz oi room room-sizes room-inverses (λ i. omega (arith, none i));
     hand = record {
-      room = omega (arith, length-stored (rightWord (L .slots) (L .sizes) n) ob 0 1088);
+      room = omega (arith, right-length);
+      degrees = omega (arith, right-length, right-ends .within);
       tail-room = omega (arith, length-set ot 0 1);
-      block = found-ends p positive b′ 1088 1088 (omega arith) behind-none found found-size;
+      block = right-ends;
       leading = found-leading p positive b′ 1088 1088 (omega arith) behind-none found found-size value found-value;
       tail-within = omega arith;
       tail = λ j h lt. ap (λ w. w % p) (ap (λ i. getD (set ot 0 1) i 0) (zero-add j) ∙ rest j (omega arith)) ∙ zero-mod p;

@@ -34,7 +34,7 @@ pub fn insert_right(
         (level (now (slots .entry)) (now (sizes .entry)) (now (inverses .entry)))
         (level (now (next .exit)) (now (heights .exit)) (now (reciprocals .exit))) (now (tail .exit)) r ⌝ }
 {
-    let mut block = [0u64; 1088];
+    let mut block = [0u64; 128];
     let start = start_column(
         slots,
         sizes,

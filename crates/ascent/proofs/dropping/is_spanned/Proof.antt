@@ -13,7 +13,7 @@ use Rattle.ascent.proofs.dropping.is_spanned.Tie as tie
 
 -- the block before the copy
 abbrev zeros : List ℕ
-zeros = replicate 1088 0
+zeros = replicate 128 0
 
 slice-aggregate-copy : tie.Need-slice-aggregate-copy
 slice-aggregate-copy c = search needs
@@ -34,13 +34,13 @@ divide-requires : tie.Need-divide-requires
 divide-requires c κs =
     let S = c .before .before .before .before .before .before .before .before .before in
     let copied = c .before .before .before .copy .ensures in
-    let zero = copied-zero (S .args .modulus .p) (S .args .input .now) (128 * S .args .j) zeros refl (zeros-none 1088) in
-    let sums = copied-sums (S .args .modulus .p) (S .args .input .now) (128 * S .args .j) zeros refl (zeros-none 1088)
+    let zero = copied-zero (S .args .modulus .p) (S .args .input .now) (128 * S .args .j) zeros refl (zeros-none 128) in
+    let sums = copied-sums (S .args .modulus .p) (S .args .input .now) (128 * S .args .j) zeros refl (zeros-none 128)
     (S .pre .0 .2 .below) in (
       (S .pre .0 .0, S .pre .1),
       (
         (omega (arith, c .before .before .before .copy .kept .0), omega arith, rw copied zero, rw copied sums),
-        (omega arith, zeros-none 1088),
+        (omega arith, zeros-none 128),
       ),
     )
 
@@ -48,7 +48,7 @@ returns : tie.Need-returns
 returns c =
     let S = c .before .before .before .before .before .before .before .before .before .before .before .before in
     record {
-      span = λ none. divided-span (S .args .modulus .p) (S .args .input .now) (128 * S .args .j) zeros refl (zeros-none 1088)
+      span = λ none. divided-span (S .args .modulus .p) (S .args .input .now) (128 * S .args .j) zeros refl (zeros-none 128)
           (c .before .before .before .before .before .before .copy .ensures) (c .before .before .divide .ensures) (eqb-true _ 0 none);
     }
 

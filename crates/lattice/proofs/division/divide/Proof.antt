@@ -7,7 +7,7 @@ use native.Mathlib.Omega.{arith}
 use borrow.Author.Needs.{needs}
 use Rattle.residue.specs.Modulus.{ValidModulus}
 use Rattle.lattice.specs.Memory.{level}
-use Rattle.lattice.specs.Found.{found-ends, found-leading}
+use Rattle.lattice.specs.Found.{found-ends, found-leading, found-within}
 use Rattle.lattice.specs.Sums.{sums-room, sums-fewer}
 use Rattle.lattice.specs.Quotients.{Divided}
 use Rattle.lattice.specs.Step.{takes-left}
@@ -29,7 +29,7 @@ find-leading-requires c κs =
     let S = c .before .before .before .before .before .before in
     let m : ValidModulus (S .args .modulus) = S .pre .0 .0 in
     let room = sums-room _ (S .args .block .now) 2112 (le-of-lt (m .prime .large)) (S .pre .1 .0 .3) in
-    ((m, le-trans (S .pre .1 .0 .1) (S .pre .1 .0 .0)), λ j lt. le-trans (le-add-right _ _) (room j))
+    ((m, Rows.within-degrees (S .pre .1 .0 .0)), λ j lt. le-trans (le-add-right _ _) (room j))
 
 loop-holds : tie.Need-loop-holds Inv-loop μ-loop
 loop-holds c =
@@ -38,7 +38,9 @@ loop-holds c =
     let positive : 0 < S .args .modulus .p = le-of-lt (m .prime .large) in
     let given = S .pre .1 .0 in
     let found = c .find-leading .ensures in
-    dividing-start (m .prime) (found-ends _ positive _ 1088 _ (given .1) (given .2) _ (found .0))
+    let fewer = found-within _ positive _ 1088 _ (given .1) (given .2) _ (found .0) in
+    dividing-start (m .prime) (Rows.degrees-fewer fewer (given .0)) (le-trans fewer (S .pre .1 .1 .0))
+    (found-ends _ positive _ 1088 _ (given .1) (given .2) _ (found .0))
     (found-leading _ positive _ 1088 _ (given .1) (given .2) _ (found .0) _ (found .1)) (given .3) (S .pre .1 .1 .1)
 
 sub-q : tie.Need-sub-q Inv-loop μ-loop
@@ -85,7 +87,7 @@ take-multiple-requires c κs =
     let on = c .before in
     let some = on .before .before .before .if1 .taken in
     let filled = pos-of-ne-zero (on .before .if2 .left) in
-    let step = dividing-step (S .pre .0 .0 .prime) I (S .pre .0 .1) (S .pre .1 .0 .0) some filled (on .if3 .left) in
+    let step = dividing-step (S .pre .0 .0 .prime) I (S .pre .0 .1) some filled (on .if3 .left) in
     (S .pre .0 .0, (step, sums-fewer _ (L .loop .block) _ 1 some (I .sums)))
 
 sub-place : tie.Need-sub-place Inv-loop μ-loop
@@ -105,8 +107,8 @@ slice-read-add c =
     let on = c .before .before .before .before .before in
     let some = on .before .before .before .if1 .taken in
     let filled = pos-of-ne-zero (on .before .if2 .left) in
-    let step = dividing-step (S .pre .0 .0 .prime) I (S .pre .0 .1) (S .pre .1 .0 .0) some filled (on .if3 .left) in
-    omega (arith, Stepping.place-inside step, I .same-quotients)
+    let step = dividing-step (S .pre .0 .0 .prime) I (S .pre .0 .1) some filled (on .if3 .left) in
+    omega (arith, Stepping.place-inside step, I .places, I .same-quotients)
 
 add-requires : tie.Need-add-requires Inv-loop μ-loop
 add-requires c κs =
@@ -117,7 +119,7 @@ add-requires c κs =
     let on = T .before .before in
     let some = on .before .before .before .if1 .taken in
     let filled = pos-of-ne-zero (on .before .if2 .left) in
-    let step = dividing-step (S .pre .0 .0 .prime) I (S .pre .0 .1) (S .pre .1 .0 .0) some filled (on .if3 .left) in
+    let step = dividing-step (S .pre .0 .0 .prime) I (S .pre .0 .1) some filled (on .if3 .left) in
     let small = Stepping.step-factor _ (S .pre .0 .0 .prime) step _ (T .take-multiple .ensures .factor) in
     (S .pre .0 .0, I .below _, small)
 
@@ -132,8 +134,8 @@ slice-write-quotients c =
     let on = c .before .before .before .before .before .before in
     let some = on .before .before .before .if1 .taken in
     let filled = pos-of-ne-zero (on .before .if2 .left) in
-    let step = dividing-step (S .pre .0 .0 .prime) I (S .pre .0 .1) (S .pre .1 .0 .0) some filled (on .if3 .left) in
-    omega (arith, Stepping.place-inside step, I .same-quotients)
+    let step = dividing-step (S .pre .0 .0 .prime) I (S .pre .0 .1) some filled (on .if3 .left) in
+    omega (arith, Stepping.place-inside step, I .places, I .same-quotients)
 
 find-rest-requires : tie.Need-find-rest-requires Inv-loop μ-loop
 find-rest-requires c κs =
@@ -157,9 +159,9 @@ loop-again c =
     let on = T .before .before in
     let some = on .before .before .before .if1 .taken in
     let filled = pos-of-ne-zero (on .before .if2 .left) in
-    let step = dividing-step (S .pre .0 .0 .prime) I (S .pre .0 .1) (S .pre .1 .0 .0) some filled (on .if3 .left) in
+    let step = dividing-step (S .pre .0 .0 .prime) I (S .pre .0 .1) some filled (on .if3 .left) in
     dividing-turn (S .pre .0 .0 .prime) I step (takes-left (step .some) (T .take-multiple .ensures) (c .find-rest .ensures))
-    (S .pre .1 .1 .0) _ (A .add .ensures)
+    _ (A .add .ensures)
 
 same-length-5 : tie.Need-same-length-5 Inv-loop μ-loop
 same-length-5 c = c .before .before .loop .inv .same-block

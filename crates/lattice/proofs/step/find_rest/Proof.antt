@@ -16,7 +16,7 @@ find-leading-requires : tie.Need-find-leading-requires
 find-leading-requires c κs =
     let S = c .before .before in
     let R = S .pre .1 in
-    ((S .pre .0, omega (arith, R .within, R .room)), λ j lt. R .reducible j)
+    ((S .pre .0, R .room), λ j lt. R .reducible j)
 
 returns-2 : tie.Need-returns-2
 returns-2 c =

@@ -61,7 +61,7 @@ word-before-requires c κs =
     let step = S .pre .1 .0 in
     let by = A .mul .ensures in
     let within = step .level .slot (row (S .args .found .size)) (omega arith) .block .within in (
-      (m, omega (arith, step .fits, step .ends .within, step .room), omega (arith, within, step .level .room)),
+      (m, omega (arith, step .fits, step .room), omega (arith, within, step .level .room)),
       Stepping.step-reduces _ (m .prime) step _ by (S .pre .1 .1) _,
     )
 

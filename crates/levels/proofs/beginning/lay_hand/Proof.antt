@@ -1,21 +1,17 @@
--- `lay_hand` meets its contract: three calls and a store.
-use mathlib.Core.Path.{_∙_, ap}
+-- `lay_hand` meets its contract: two calls and a store.
+use mathlib.Core.Path.{ap}
 use mathlib.Core.List.{List}
-use Prim.Native.Nat.{ℕ, _+_}
+use Prim.Native.Nat.{ℕ}
 use lib.ListN.{getD, set}
 use borrow.Author.Needs.{needs}
-use Rattle.vector.specs.Stored.{stored}
 use Rattle.levels.proofs.beginning.lay_hand.Statement.{statement}
 use Rattle.levels.proofs.beginning.lay_hand.Tie as tie
-
-clear-requires : tie.Need-clear-requires
-clear-requires c κs = search needs
 
 copy-requires : tie.Need-copy-requires
 copy-requires c κs = search needs
 
-clear-requires-2 : tie.Need-clear-requires-2
-clear-requires-2 c κs = search needs
+clear-requires : tie.Need-clear-requires
+clear-requires c κs = search needs
 
 slice-write-tail : tie.Need-slice-write-tail
 slice-write-tail c = search needs
@@ -37,11 +33,10 @@ same-length-2 c = search needs
 
 returns : tie.Need-returns
 returns c =
-    let S = c .before .before .before .before .before .before .before .before .before .before .before .before .before .before .before .before .before in (
-      c .before .before .before .before .before .before .before .before .copy .ensures
-          ∙ ap (λ (w : List ℕ). stored (λ j. getD (S .args .column .now) (0 + j) 0) w 0 128) (c .before .before .before .before .before .before .before .before .before .before .before .before .clear .ensures),
+    let S = c .before .before .before .before .before .before .before .before .before .before .before .before .before in (
+      c .before .before .before .before .before .before .before .before .copy .ensures,
       (
-        ap (λ (w : List ℕ). set w 0 1) (c .before .before .before .before .clear2 .ensures),
+        ap (λ (w : List ℕ). set w 0 1) (c .before .before .before .before .clear .ensures),
         ap (λ (i : ℕ). record { size = S .args .size; leading = getD (S .args .column .now) i 0; tail = 1 }) (c .before .last-place .ensures),
       ),
     )
@@ -50,9 +45,8 @@ pub lay-hand-spec : {M : Type 1} → statement M
 lay-hand-spec =
     tie.close
     (tie.spec
-    clear-requires
     copy-requires
-    clear-requires-2
+    clear-requires
     slice-write-tail
     last-place-requires
     mul-t14
