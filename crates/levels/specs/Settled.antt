@@ -84,7 +84,7 @@ module _ {p : ℕ} (prime₀ : Prime p) {M : Memory} (valid : Valid p M) (stoppe
       same : (prime : Prime p) (x : ℕ) → words p prime k 0 128 x ≡ words p prime (M .tail) 0 256 x
       same prime x = ap (λ w. words p prime w 0 128 x) e
           ∙ words-slot p prime (M .tail) kernel 0 128 128 256 (omega arith) (omega arith)
-          (valid .hand .tail-room) (omega arith) behind (λ j h lt. absurd (omega arith)) x
+          (omega (arith, valid .hand .tail-room)) (omega arith) behind (λ j h lt. absurd (omega arith)) x
 
       word : (j : ℕ) → j < 128 → getD k (0 + j) 0 ≡ getD (M .tail) j 0 % p
       word j lt = ap (λ w. getD w (0 + j) 0) e ∙ stored-inside (λ j. getD (M .tail) j 0 % p) kernel 0 128 j room lt

@@ -19,11 +19,11 @@ slice-write-tail c = search needs
 last-place-requires : tie.Need-last-place-requires
 last-place-requires c κs = search needs
 
-mul-t14 : tie.Need-mul-t14
-mul-t14 c = search needs
+mul-t12 : tie.Need-mul-t12
+mul-t12 c = search needs
 
-shared-slice-read-t16 : tie.Need-shared-slice-read-t16
-shared-slice-read-t16 c = search needs
+shared-slice-read-t14 : tie.Need-shared-slice-read-t14
+shared-slice-read-t14 c = search needs
 
 same-length : tie.Need-same-length
 same-length c = search needs
@@ -49,8 +49,8 @@ lay-hand-spec =
     clear-requires
     slice-write-tail
     last-place-requires
-    mul-t14
-    shared-slice-read-t16
+    mul-t12
+    shared-slice-read-t14
     same-length
     same-length-2
     returns)
