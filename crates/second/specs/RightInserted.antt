@@ -105,20 +105,20 @@ module _ (p : ℕ) (prime : Prime p) {n : ℕ} (small : n ≤ 8) {L : Level} (va
   behind-none : ZeroFrom p b′ 0 1088 1088
   behind-none j h lt = absurd (omega arith)
 
-  right-length : length b′ ≡ length ob
-  right-length = length-stored (rightWord (L .slots) (L .sizes) n) ob 0 1088
+  block-length : length b′ ≡ length ob
+  block-length = length-stored (rightWord (L .slots) (L .sizes) n) ob 0 1088
 
-  right-ends : Ends p b′ 0 1088 found
-  right-ends = found-ends p positive b′ 1088 1088 (omega arith) behind-none found found-size
+  block-ends : Ends p b′ 0 1088 found
+  block-ends = found-ends p positive b′ 1088 1088 (omega arith) behind-none found found-size
 
   pub first-valid : Valid p firstMemory
   first-valid = record {
     level = transposed-valid p positive small valid o oz oi room room-sizes room-inverses (λ i. omega (arith, none i));
     hand = record {
-      room = omega (arith, right-length);
-      degrees = omega (arith, right-length, right-ends .within);
+      room = omega (arith, block-length);
+      degrees = omega (arith, block-length, block-ends .within);
       tail-room = omega (arith, length-set ot 0 1);
-      block = right-ends;
+      block = block-ends;
       leading = found-leading p positive b′ 1088 1088 (omega arith) behind-none found found-size value found-value;
       tail-within = omega arith;
       tail = λ j h lt. ap (λ w. w % p) (ap (λ i. getD (set ot 0 1) i 0) (zero-add j) ∙ rest j (omega arith)) ∙ zero-mod p;
