@@ -23,9 +23,9 @@ use Rattle.lattice.specs.Sums.{sums-fewer}
 use Rattle.lattice.specs.Holding.{HoldsSlots}
 use Rattle.lattice.specs.Insertion.{Inserts}
 use Rattle.multiples.specs.Monic.{MadeMonic}
-use Rattle.second.specs.Greatest.{greatest}
+use Rattle.transposed.specs.Greatest.{greatest}
 use Rattle.second.specs.RightInserted.{InsertedRight, RightInserted}
-use Rattle.second.specs.Laid.{Laid, startingMemory}
+use Rattle.transposed.specs.Laid.{Laid, startingMemory}
 use Rattle.second.specs.SecondReady.{ready-inserted}
 
 -- w, of so many coefficients, is the tail with which an insertion that begins with memory M ends, made monic

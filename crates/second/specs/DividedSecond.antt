@@ -13,10 +13,10 @@ use Rattle.reduction.specs.Transpose.{transposed, weights}
 use Rattle.lattice.specs.Memory.{Level, level, ValidLevel}
 use Rattle.lattice.specs.Holding.{HoldsSlots}
 use Rattle.lattice.specs.Quotients.{Divided}
-use Rattle.second.specs.Greatest.{greatest}
-use Rattle.second.specs.Transposed.{transposed-slots}
-use Rattle.second.specs.ValidTransposed.{transposed-valid}
-use Rattle.second.specs.Laid.{Laid, laid-level}
+use Rattle.transposed.specs.Greatest.{greatest}
+use Rattle.transposed.specs.Transposed.{transposed-slots}
+use Rattle.transposed.specs.ValidTransposed.{transposed-valid}
+use Rattle.transposed.specs.Laid.{Laid, laid-level}
 
 pub record DividedSecond (p n : ℕ) (L : Level) (block quotients : List ℕ) : Type 0 where
   pub slots : Level

@@ -9,9 +9,9 @@ use lib.ListN.{length, getD, List·getD-eq-default}
 use Rattle.reduction.specs.Flat.{flat}
 use Rattle.reduction.specs.Transpose.{back}
 use Rattle.vector.specs.Stored.{stored, length-stored, below-or-not}
-use Rattle.second.specs.Words.{when, when-yes, when-no, reversed}
-use Rattle.second.specs.ValidTransposed.{when-below}
-use Rattle.second.specs.First.{stored-first}
+use Rattle.transposed.specs.Words.{when, when-yes, when-no, reversed}
+use Rattle.transposed.specs.ValidTransposed.{when-below}
+use Rattle.transposed.specs.First.{stored-first}
 
 -- the word at x of the rows
 abbrev pub quotientWord : (l : List ℕ) (n x : ℕ) → ℕ

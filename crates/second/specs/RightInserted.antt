@@ -36,10 +36,10 @@ use Rattle.lattice.specs.Range.{words-zero}
 use Rattle.lattice.specs.Reading.{holds-filled}
 use Rattle.lattice.specs.Found.{found-ends, found-leading}
 use Rattle.lattice.specs.Insertion.{Starts, Inserts, inserts-inserted}
-use Rattle.second.specs.Greatest.{greatest, greatest-high}
-use Rattle.second.specs.Words.{when, when-yes, when-no, rightWord}
-use Rattle.second.specs.Transposed.{size-stored, transposed-slots, right-held}
-use Rattle.second.specs.ValidTransposed.{transposedLevel, when-below, transposed-valid, transposed-tails}
+use Rattle.transposed.specs.Greatest.{greatest, greatest-high}
+use Rattle.transposed.specs.Words.{when, when-yes, when-no, rightWord}
+use Rattle.transposed.specs.Transposed.{size-stored, transposed-slots, right-held}
+use Rattle.transposed.specs.ValidTransposed.{transposedLevel, when-below, transposed-valid, transposed-tails}
 
 -- of slots U of n rows, D high: memory holds the last state of the insertion, with block zero
 pub record InsertedRight (p : ℕ) (prime : Prime p) (n D : ℕ) (U : Slots (Polynomial (residues p prime))) (M : Memory) : Type 0 where

@@ -26,13 +26,13 @@ use Rattle.lattice.specs.Range.{words-zero, zero-word}
 use Rattle.lattice.specs.Reading.{flat-same, ends-pivot}
 use Rattle.lattice.specs.Found.{found-ends}
 use Rattle.multiples.specs.Product.{BlockMultiplied}
-use Rattle.second.specs.Greatest.{greatest, greatest-small}
-use Rattle.second.specs.Words.{rightWord}
-use Rattle.second.specs.Transposed.{right-held}
-use Rattle.second.specs.ValidTransposed.{when-below}
-use Rattle.second.specs.First.{stored-first}
+use Rattle.transposed.specs.Greatest.{greatest, greatest-small}
+use Rattle.transposed.specs.Words.{rightWord}
+use Rattle.transposed.specs.Transposed.{right-held}
+use Rattle.transposed.specs.ValidTransposed.{when-below}
+use Rattle.transposed.specs.First.{stored-first}
 use Rattle.second.specs.RightInserted.{tops-lower}
-use Rattle.second.specs.Laid.{Laid}
+use Rattle.transposed.specs.Laid.{Laid}
 use Rattle.second.specs.Solved.{HasTops}
 use Rattle.second.specs.Denominator.{FoundDenominator, DenominatorFound}
 

@@ -21,7 +21,7 @@ use Rattle.lattice.specs.Word.{residue, words, words-inside, words-behind, word
 use Rattle.lattice.specs.Memory.{Level, ValidLevel}
 use Rattle.lattice.specs.Holding.{HoldsSlots}
 use Rattle.lattice.specs.Quotients.{HoldsQuotient}
-use Rattle.second.specs.Greatest.{greatest}
+use Rattle.transposed.specs.Greatest.{greatest}
 use Rattle.second.specs.RightInserted.{tops-lower}
 use Rattle.second.specs.SecondDual.{HoldsDual, divided-dual}
 use Rattle.second.specs.Solved.{HoldsSecond, SecondSolved}

@@ -15,9 +15,9 @@ use Rattle.vector.specs.Stored.{stored}
 use Rattle.vector.specs.declared.leading.Leading.{Leading}
 use Rattle.lattice.specs.Memory.{Level, level, ValidLevel, Memory, Valid}
 use Rattle.lattice.specs.Insertion.{Starts, Inserts}
-use Rattle.second.specs.Words.{InRoom, rightWord}
+use Rattle.transposed.specs.Words.{InRoom, rightWord}
 use Rattle.second.specs.RightInserted.{RightInserted, firstMemory, block-small, first-valid, first-starts, right-ends}
-use Rattle.second.specs.Laid.{Laid, laid-level, startingMemory}
+use Rattle.transposed.specs.Laid.{Laid, laid-level, startingMemory}
 
 pub level-room : {p : ℕ} {L : Level} → ValidLevel p L → InRoom (L .slots) (L .sizes)
 level-room valid = record { slots = valid .room; sizes = valid .all-sizes; low = λ q h. valid .slot q h .block .within }

@@ -9,7 +9,7 @@ ghost use lib.ListN.{length};
 ghost use Rattle.residue.specs.Modulus.{ValidModulus};
 ghost use Rattle.lattice.specs.Memory.{level, Valid};
 ghost use Rattle.lattice.specs.Insertion.{Starts};
-ghost use Rattle.second.specs.Laid.{startingMemory};
+ghost use Rattle.transposed.specs.Laid.{startingMemory};
 ghost use Rattle.second.specs.Denominator.{TailFound};
 
 // The tail with which the insertion of a block with tail 1 ends, made monic. Returns the number of its coefficients.

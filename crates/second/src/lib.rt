@@ -1,9 +1,4 @@
-// The second system of a level in memory (section 2, step 4, of docs/mathematics.md): its slots, its right side and its solution.
+// The second system of a level solved (section 2, step 4, of docs/mathematics.md): its denominator and its rows.
 pub mod denominator;
-pub mod height;
-pub mod layout;
-pub mod right;
 pub mod rows;
 pub mod solve;
-pub mod tails;
-pub mod transpose;

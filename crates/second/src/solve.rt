@@ -1,10 +1,10 @@
 // The second system of a level solved: its right side inserted, made monic, and divided.
 use crate::denominator::find_denominator;
-use crate::layout::lay_second;
 use crate::rows::store_rows;
 use lattice::division::divide;
 use multiples::product::multiply_block;
 use residue::modulus::Modulus;
+use transposed::layout::lay_second;
 use vector::find_leading;
 ghost use mathlib.Core.Path.{_≡_};
 ghost use Prim.Native.Nat.{_≤_};

@@ -31,7 +31,7 @@ use Rattle.areas.specs.Input.{Equations, systemOf}
 use Rattle.areas.specs.Output.{ValidOutput, HoldsAt, HoldsAbsence}
 use Rattle.levels.specs.Copied.{Copied}
 use Rattle.levels.specs.Cleared.{copied-copies, copies-valid, copies-holds}
-use Rattle.second.specs.RowTaken.{RowTaken}
+use Rattle.tails.specs.RowTaken.{RowTaken}
 use Rattle.second.specs.Solved.{HasTops, HoldsSecond, SecondSolved}
 use Rattle.witness.specs.Words.{stored-below, words-copied, holds-negated}
 use Rattle.witness.specs.Inserted.{HoldsStuck, slots-high, last-degrees}

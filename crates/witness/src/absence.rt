@@ -2,7 +2,7 @@
 use levels::copying::copy_level;
 use residue::modulus::Modulus;
 use second::solve::solve_second;
-use second::tails::take_row;
+use tails::take_row;
 use vector::copy;
 ghost use mathlib.Core.Path.{_≡_};
 ghost use Prim.Native.Nat.{ℕ, _%_, _<_, _≤_};

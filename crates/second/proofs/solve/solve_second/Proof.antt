@@ -3,7 +3,7 @@ use native.Mathlib.Omega.{arith}
 use native.Mathlib.Nat.{le-refl}
 use Rattle.residue.specs.Modulus.{ValidModulus}
 use Rattle.vector.specs.Bound.{zeros-none}
-use Rattle.second.specs.RightFilling.{tails-end}
+use Rattle.transposed.specs.RightFilling.{tails-end}
 use Rattle.second.specs.SecondReady.{level-room, block-reducible, ready-valid, ready-starts}
 use Rattle.second.specs.Denominator.{laid-denominator}
 use Rattle.second.specs.Scaled.{scales-within, right-below, right-within, product-room, right-scaled}
@@ -17,7 +17,7 @@ use Rattle.second.proofs.solve.solve_second.Lts as lts
 use Rattle.lattice.proofs.divide.Reads as divide-reads
 use Rattle.multiples.proofs.product.multiply_block.Reads as multiply-block-reads
 use Rattle.second.proofs.denominator.find_denominator.Reads as find-denominator-reads
-use Rattle.second.proofs.layout.lay_second.Reads as lay-second-reads
+use Rattle.transposed.proofs.layout.lay_second.Reads as lay-second-reads
 use Rattle.second.proofs.rows.store_rows.Reads as store-rows-reads
 use Rattle.vector.proofs.find_leading.Reads as find-leading-reads
 

@@ -1,0 +1,10 @@
+pub mod Greatest
+pub mod Words
+pub mod Cells
+pub mod Transposed
+pub mod ValidTransposed
+pub mod Laid
+pub mod First
+pub mod Filling
+pub mod TransposeFilling
+pub mod RightFilling

@@ -1,0 +1,242 @@
+-- L8 in memory: the words that `transpose_slots`, `transpose_sizes` and `right_side` store hold the transposed slots of
+-- `reduction`, tails 0, and its right side. Every weighted size is the greatest height; the weights show only as lifted lanes.
+use Prim.Native.Nat.{ℕ, suc, _+_, _-_, _*_, _/_, _%_, _<_, _≤_}
+use mathlib.Core.Path.{_≡_, refl, sym, _∙_, ap, subst}
+use mathlib.Core.List.{List}
+use native.Mathlib.Nat.{zero-add, zero-mod}
+use native.Mathlib.Omega.{arith}
+use native.Mathlib.Decide.{decLt, decLe, ℕ-discrete}
+use lib.ListN.{length, getD}
+use Rattle.algebra.specs.Field.{Field}
+use Rattle.algebra.specs.Polynomial.{Polynomial, polynomials, coefficients-zero}
+use Rattle.algebra.specs.Expressions.{shift, shift-zero}
+use Rattle.modular.specs.Prime.{Prime}
+use Rattle.modular.specs.Residue.{Residue, residues}
+use Rattle.reduction.specs.Replace.{extend, extend-below, extend-at}
+use Rattle.reduction.specs.Slots.{Slots, unweighted}
+use Rattle.reduction.specs.Holds.{Holds, holds-shift}
+use Rattle.reduction.specs.Flat.{Flat, flat}
+use Rattle.reduction.specs.Held.{Held}
+use Rattle.reduction.specs.Inserting.{cleared}
+use Rattle.reduction.specs.Transpose.{back, masked-filled, masked-empty, transposed, rightSide, weights}
+use Rattle.vector.specs.Stored.{stored, stored-inside}
+use Rattle.lattice.specs.Word.{residue, residue-zero, words, words-inside, words-behind, words-first}
+use Rattle.lattice.specs.Memory.{height, Level, slotSize, tailSize, ValidLevel}
+use Rattle.lattice.specs.Holding.{HoldsSlots}
+use Rattle.lattice.specs.Range.{words-zero}
+use Rattle.transposed.specs.Greatest.{greatest, greatest-high, greatest-small, greatest-positive}
+use Rattle.transposed.specs.Words.{reversed, transposedWord, rightWord, transposedSize, size-beyond, size-empty, size-filled}
+use Rattle.transposed.specs.Cells.{weight, cell-beside, cell-low, cell-value, cell-behind, cell-tail}
+use Rattle.transposed.specs.Cells.{right-cell-beside, right-cell-empty, right-cell-low, right-cell-far, right-cell-value}
+
+-- the sizes that are stored
+module _ (z o : List ℕ) (n : ℕ) (room : 16 ≤ length o) where
+  pub size-stored : (k : ℕ) → k < 16 → getD (stored (transposedSize z n) o 0 16) k 0 ≡ transposedSize z n k
+  size-stored k h =
+      ap (λ j. getD (stored (transposedSize z n) o 0 16) j 0) (sym (zero-add k))
+      ∙ stored-inside (transposedSize z n) o 0 16 k (omega arith) h
+
+module _ (p : ℕ) (prime : Prime p) where
+  abbrev F : Field (Residue p)
+  F = residues p prime
+
+  -- words that are all 0 hold the zero polynomial
+  holds-none : {H : ℕ → Residue p} → ((j : ℕ) → H j ≡ residues p prime .ring .zero) → Holds (residues p prime) H (polynomials (residues p prime) .zero)
+  holds-none z = record { at = λ j. coefficients-zero F j ∙ sym (z j) }
+
+  zero-inside : (l : List ℕ) (b n j : ℕ) → (j < n → getD l (b + j) 0 ≡ 0) → words p prime l b n j ≡ residues p prime .ring .zero
+  zero-inside l b n j e = go (decLt j n)
+    where
+      go : Dec (j < n) → words p prime l b n j ≡ F .ring .zero
+      go (yes h) = words-inside p prime l b n j h ∙ residue-zero p prime _ (ap (λ w. w % p) (e h) ∙ zero-mod p)
+      go (no h) = words-behind p prime l b n j (omega arith)
+
+  module _ {n : ℕ} (small : n ≤ 8) {L : Level} (valid : ValidLevel p L) {U : Slots (Polynomial (residues p prime))}
+      (holds : HoldsSlots p prime n unweighted L U) where
+    abbrev s : List ℕ
+    s = L .slots
+
+    abbrev z : List ℕ
+    z = L .sizes
+
+    abbrev ω : ℕ → ℕ
+    ω = weights (polynomials (residues p prime)) n (greatest (L .sizes) n) U
+
+    size-of : (i : ℕ) → i < n → U .size (back n i) ≡ height (getD z (back n i) 0)
+    size-of i h = holds .size (back n i) (omega arith)
+
+    weight-is : (i : ℕ) → i < n → ω i ≡ weight z n i
+    weight-is i h = ap (λ d. greatest z n - d) (size-of i h)
+
+    -- the greatest height
+    top-low : greatest z n ≤ 16
+    top-low = greatest-small z n small (λ q h. valid .slot q h .block .within)
+
+    -- coordinate r of slot q of the level, with no weight
+    lane-of : (q r : ℕ) → q < n → r < n → 0 < U .size q
+        → Holds (residues p prime) (λ e. words p prime (L .slots) (256 * q) 128 (flat 8 r e)) (U .at q r)
+    lane-of q r h l f = subst (Holds F (λ e. words p prime s (256 * q) 128 (flat 8 r e))) (shift-zero F (U .at q r))
+        (holds .vector q h f .block .lane r l)
+
+    module _ (o : List ℕ) (room : 2048 ≤ length o) where
+      abbrev s′ : List ℕ
+      s′ = stored (transposedWord (L .slots) (L .sizes) n) o 0 2048
+
+      module _ (k : ℕ) (h : k < n) (f : 0 < transposedSize (L .sizes) n k) where
+        cell-zero : (i e : ℕ) → i < 8 → (e < 16 → getD s′ (256 * k + flat 8 i e) 0 ≡ 0)
+            → words p prime s′ (256 * k) 128 (flat 8 i e) ≡ residues p prime .ring .zero
+        cell-zero i e l g = zero-inside s′ (256 * k) 128 (flat 8 i e) (λ lt. g (omega arith))
+
+        cell-past : (i e : ℕ) → i < 8 → greatest z n ≤ e → words p prime s′ (256 * k) 128 (flat 8 i e) ≡ residues p prime .ring .zero
+        cell-past i e l past = zero-inside s′ (256 * k) 128 (flat 8 i e)
+            (λ lt. cell-behind s z n o room k (flat 8 i e) (omega arith) (omega arith) (omega arith))
+
+        lifted : (i : ℕ) → i < n → 0 < U .size (back n i) → (j : ℕ)
+            → words p prime (L .slots) (256 * back n i) 128 (flat 8 (back n k) j)
+            ≡ words p prime s′ (256 * k) 128 (flat 8 i (ω i + j))
+        lifted i l g j = go (decLt (ω i + j) (greatest z n))
+          where
+            q : ℕ
+            q = back n i
+
+            d : ℕ
+            d = height (getD z (back n i) 0)
+
+            high : d ≤ greatest z n
+            high = greatest-high z n (back n i) (omega arith)
+
+            go : Dec (ω i + j < greatest z n)
+                → words p prime s (256 * back n i) 128 (flat 8 (back n k) j) ≡ words p prime s′ (256 * k) 128 (flat 8 i (ω i + j))
+            go (yes lt) =
+                let less : j < 16 = omega (arith, top-low) in
+                let same : ω i + j - weight z n i ≡ j = omega (arith, weight-is i l) in
+                words-inside p prime s (256 * back n i) 128 (flat 8 (back n k) j) (omega arith)
+                ∙ ap (λ m. residue p prime (getD s (256 * back n i + flat 8 (back n k) m) 0)) (sym same)
+                ∙ ap (residue p prime) (sym (cell-value s z n o room k i (ω i + j) (omega arith) (omega arith) (omega (arith, top-low)) f l
+                (omega (arith, weight-is i l)) lt))
+                ∙ sym (words-inside p prime s′ (256 * k) 128 (flat 8 i (ω i + j)) (omega (arith, top-low)))
+            go (no ge) =
+                let above : d ≤ j = omega (arith, size-of i l, high) in
+                words-zero p prime s (256 * back n i) 128 (slotSize L (back n i)) (valid .slot (back n i) (omega arith) .block .behind)
+                (flat 8 (back n k) j) (omega arith)
+                ∙ sym (cell-past i (ω i + j) (omega arith) (omega arith))
+
+        coordinate : (i : ℕ) → i < n → Dec (U .size (back n i) ≡ 0)
+            → Holds (residues p prime) (λ j. words p prime s′ (256 * k) 128 (flat 8 i (ω i + j)))
+            (transposed (polynomials (residues p prime)) n (greatest (L .sizes) n) U .at k i)
+        coordinate i l (yes none) = subst (Holds F _) (sym (masked-empty (U .size (back n i)) _ (U .at (back n i) (back n k)) none))
+            (holds-none (λ j. cell-past i (ω i + j) (omega arith) (omega arith)))
+        coordinate i l (no some) =
+            subst (Holds F _) (sym (masked-filled (U .size (back n i)) _ (U .at (back n i) (back n k)) (omega arith)))
+            (record { at = λ j. lane-of (back n i) (back n k) (omega arith) (omega arith) (omega arith) .at j ∙ lifted i l (omega arith) j })
+
+        pub transposed-held : Held (residues p prime) n 8 (weights (polynomials (residues p prime)) n (greatest (L .sizes) n) U)
+            (words p prime (stored (transposedWord (L .slots) (L .sizes) n) o 0 2048) (256 * k) 128)
+            (words p prime (stored (transposedWord (L .slots) (L .sizes) n) o 0 2048) (256 * k + 128) 128)
+            (cleared (polynomials (residues p prime)) n (transposed (polynomials (residues p prime)) n (greatest (L .sizes) n) U) .at k)
+        transposed-held = record {
+          block = record {
+            lanes = small;
+            lane = λ i l. subst (λ v. Holds F (λ e. words p prime s′ (256 * k) 128 (flat 8 i e)) (shift F (ω i) v))
+                (sym (extend-below n (C .at k) (polynomials F .zero) i l))
+                (holds-shift F (ω i) (coordinate i l (ℕ-discrete (U .size (back n i)) 0))
+                (λ e low. cell-zero i e (omega arith) (λ lt. cell-low s z n o room k i e (omega arith) (omega arith) lt f l (omega (arith, weight-is i l)))));
+            beside = λ i e out l. cell-zero i e l (λ lt. cell-beside s z n o room k i e (omega arith) l lt f out);
+          };
+          tail = subst (Holds F _) (sym (extend-at n (C .at k) (polynomials F .zero)))
+              (holds-none (λ j. zero-inside s′ (256 * k + 128) 128 j (λ lt. cell-tail s z n top-low o room k j (omega arith) lt)));
+        }
+          where
+            C : Slots (Polynomial (residues p prime))
+            C = transposed (polynomials (residues p prime)) n (greatest (L .sizes) n) U
+
+      -- with the sizes, all the slots
+      pub transposed-slots : (oz i′ : List ℕ) → 16 ≤ length oz → HoldsSlots p prime n (weights (polynomials (residues p prime)) n (greatest (L .sizes) n) U)
+          (record {
+            slots = stored (transposedWord (L .slots) (L .sizes) n) o 0 2048;
+            sizes = stored (transposedSize (L .sizes) n) oz 0 16;
+            inverses = i′;
+          })
+          (cleared (polynomials (residues p prime)) n (transposed (polynomials (residues p prime)) n (greatest (L .sizes) n) U))
+      transposed-slots oz i′ enough = record { size = λ k h. size k h (ℕ-discrete (U .size (back n k)) 0); vector = λ k h f. transposed-held k h (some k h f) }
+        where
+          same : (k : ℕ) → getD z (reversed n k) 0 ≡ getD z (back n k) 0
+          same k = ap (λ q. getD z q 0) (omega arith)
+
+          size : (k : ℕ) → (h : k < n) → Dec (U .size (back n k) ≡ 0)
+              → transposed (polynomials F) n (greatest (L .sizes) n) U .size k ≡ height (getD (stored (transposedSize z n) oz 0 16) k 0)
+          size k h (yes none) =
+              masked-empty (U .size (back n k)) 0 (greatest z n) none
+              ∙ sym (ap height (size-stored z oz n enough k (omega arith)
+              ∙ size-empty z n k h (λ (g : 0 < getD z (reversed n k) 0). omega (arith, same k, size-of k h))))
+          size k h (no some) =
+              let tall : 0 < greatest z n = greatest-positive z n (back n k) (omega arith) (omega (arith, size-of k h)) in
+              let high : height (8 * greatest z n - k) ≡ greatest z n = omega arith in
+              masked-filled (U .size (back n k)) 0 (greatest z n) (omega arith)
+              ∙ sym (ap height (size-stored z oz n enough k (omega arith)
+              ∙ size-filled z n k h (omega (arith, same k, size-of k h))) ∙ high)
+
+          some : (k : ℕ) → k < n → 0 < transposed (polynomials F) n (greatest (L .sizes) n) U .size k → 0 < transposedSize z n k
+          some k h f =
+              let e = size k h (ℕ-discrete (U .size (back n k)) 0) in
+              omega (arith, size-stored z oz n enough k (omega arith))
+
+    -- the right side
+    module _ (o : List ℕ) (room : 1088 ≤ length o) where
+      abbrev b′ : List ℕ
+      b′ = stored (rightWord (L .slots) (L .sizes) n) o 0 1088
+
+      right-zero : (i e : ℕ) → i < 8 → (e < 136 → getD b′ (flat 8 i e) 0 ≡ 0) → words p prime b′ 0 1088 (flat 8 i e) ≡ residues p prime .ring .zero
+      right-zero i e l g = zero-inside b′ 0 1088 (flat 8 i e)
+          (λ lt. ap (λ x. getD b′ x 0) (zero-add (flat 8 i e)) ∙ g (omega arith))
+
+      module _ (i : ℕ) (l : i < n) where
+        filled : 0 < U .size (back n i) → 0 < getD z (back n i) 0
+        filled f = omega (arith, size-of i l)
+
+        lifted-tail : 0 < U .size (back n i) → (j : ℕ)
+            → words p prime (L .slots) (256 * back n i + 128) 128 j ≡ words p prime b′ 0 1088 (flat 8 i (ω i + j))
+        lifted-tail f j = go (decLt (ω i + j) 136) (decLt j 128)
+          where
+            same : ω i + j - weight z n i ≡ j
+            same = omega (arith, weight-is i l)
+
+            go : Dec (ω i + j < 136) → Dec (j < 128)
+                → words p prime s (256 * back n i + 128) 128 j ≡ words p prime b′ 0 1088 (flat 8 i (ω i + j))
+            go (yes lt) (yes near) =
+                words-inside p prime s (256 * back n i + 128) 128 j near
+                ∙ ap (λ m. residue p prime (getD s (256 * back n i + 128 + m) 0)) (sym same)
+                ∙ ap (residue p prime) (sym (right-cell-value s z n o room i (ω i + j) (omega arith) lt l (filled f)
+                (omega (arith, weight-is i l)) (omega (arith, same))))
+                ∙ sym (words-first p prime b′ 1088 (flat 8 i (ω i + j)) (omega arith))
+            go (yes lt) (no far) =
+                words-behind p prime s (256 * back n i + 128) 128 j (omega arith)
+                ∙ sym (right-zero i (ω i + j) (omega arith) (λ g. right-cell-far s z n o room i (ω i + j) (omega arith) lt l (filled f)
+                (omega (arith, weight-is i l)) (omega (arith, same))))
+            go (no ge) near =
+                words-zero p prime s (256 * back n i + 128) 128 (tailSize L (back n i)) (valid .slot (back n i) (omega arith) .tail) j
+                (omega (arith, top-low, valid .slot (back n i) (omega arith) .tail-within))
+                ∙ sym (words-behind p prime b′ 0 1088 (flat 8 i (ω i + j)) (omega arith))
+
+        right-coordinate : Dec (U .size (back n i) ≡ 0) → Holds (residues p prime) (λ j. words p prime b′ 0 1088 (flat 8 i (ω i + j)))
+            (rightSide (polynomials (residues p prime)) n (greatest (L .sizes) n) U i)
+        right-coordinate (yes none) = subst (Holds F _) (sym (masked-empty (U .size (back n i)) _ (U .at (back n i) n) none))
+            (holds-none (λ j. right-zero i (ω i + j) (omega arith)
+            (λ lt. right-cell-empty s z n o room i (ω i + j) (omega arith) lt l (omega (arith, size-of i l)))))
+        right-coordinate (no some) = subst (Holds F _) (sym (masked-filled (U .size (back n i)) _ (U .at (back n i) n) (omega arith)))
+            (record { at = λ j. holds .vector (back n i) (omega arith) (omega arith) .tail .at j ∙ lifted-tail (omega arith) j })
+
+        right-below : (e : ℕ) → e < ω i → words p prime b′ 0 1088 (flat 8 i e) ≡ residues p prime .ring .zero
+        right-below e low = right-zero i e (omega arith) (λ lt. go (ℕ-discrete (getD z (back n i) 0) 0) lt)
+          where
+            go : Dec (getD z (back n i) 0 ≡ 0) → e < 136 → getD b′ (flat 8 i e) 0 ≡ 0
+            go (yes none) lt = right-cell-empty s z n o room i e (omega arith) lt l none
+            go (no some) lt = right-cell-low s z n o room i e (omega arith) lt l (omega arith) (omega (arith, weight-is i l))
+
+      pub right-held : Flat (residues p prime) n 8 (weights (polynomials (residues p prime)) n (greatest (L .sizes) n) U)
+          (words p prime (stored (rightWord (L .slots) (L .sizes) n) o 0 1088) 0 1088) (rightSide (polynomials (residues p prime)) n (greatest (L .sizes) n) U)
+      right-held = record {
+        lanes = small;
+        lane = λ i l. holds-shift F (ω i) (right-coordinate i l (ℕ-discrete (U .size (back n i)) 0)) (right-below i l);
+        beside = λ i e out l. right-zero i e l (λ lt. right-cell-beside s z n o room i e l lt out);
+      }
