@@ -1,8 +1,8 @@
 // The product for other programs, exported to C (include/yezsdolak.h): from the bytes of files to one number and the lent bytes. A
 // slice is passed as a pointer and a count of bytes.
+use file_solver::solve_file;
 use reporting::write_report;
 use solver::Solved;
-use solver::file::solve_file;
 use verifier::file::FileVerdict;
 use verifier::file::check_files;
 ghost use Prim.Native.Nat.{_+_, _*_, _≤_};

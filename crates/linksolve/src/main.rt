@@ -1,5 +1,6 @@
 // linksolve: reads a sheet (a system's file) from standard input and writes its card (a certificate's file) to standard output. A
 // refusal is a line on standard error, and nothing is written to standard output.
+use file_solver::solve_file;
 use libc::STDERR_FILENO;
 use libc::STDIN_FILENO;
 use libc::STDOUT_FILENO;
@@ -7,7 +8,6 @@ use limits::Office;
 use reporting::SPACE;
 use reporting::write_report;
 use solver::Solved;
-use solver::file::solve_file;
 
 // A byte more than the longest sheet has: what fills it is refused, like all that is longer.
 const INPUT: usize = Office::FILE_BYTES + 1;

@@ -1,4 +1,3 @@
-mod Reading
+pub mod Reading
 mod CertifiedWords
 mod Writing
-mod FileWriting

@@ -1,6 +1,5 @@
 // The solver: from the words of a system to the words of a right certificate, whichever kind there is.
 pub mod certifying;
-pub mod file;
 
 use certifying::certify_words;
 use limits::Office;

@@ -1,16 +1,16 @@
 // The solver on the bytes of files, four to a word, lowest first.
-use crate::Solved;
-use crate::solve_read;
 use limits::Office;
 use reader::file::unpack;
 use reader::system::SystemRead;
 use reader::system::read_system;
+use solver::Solved;
+use solver::solve_read;
 use writer::file::write_bytes;
 ghost use lib.ListN.{length};
 ghost use Rattle.words.specs.Limits.{office};
 ghost use Rattle.words.specs.System.{readSystem};
 ghost use Rattle.solver.specs.Solving.{withRoom, certificateBytes, SolvesOr, SolvesFile};
 ghost use Rattle.solver.specs.Answer.{solvedOutcome};
 
 // Solves the system of some words; its certificate is written over the first of the lent bytes.
 fn solve_to_bytes(system: &[u32], bytes: &mut [u8]) -> Solved

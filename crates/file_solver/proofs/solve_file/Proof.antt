@@ -2,13 +2,13 @@
 use mathlib.Core.Path.{refl}
 use native.Mathlib.Omega.{arith}
 use Rattle.reader.proofs.UnpackTurns.{unpacked-all}
 use Rattle.solver.specs.Solving.{certificateBytes}
 use Rattle.solver.specs.Answer.{solvedOutcome}
 use Rattle.solver.proofs.Reading.{solves-refused}
-use Rattle.solver.proofs.FileWriting.{file-broken, file-long, file-solves}
+use Rattle.file_solver.proofs.FileWriting.{file-broken, file-long, file-solves}
 use borrow.Author.Needs.{needs}
-use Rattle.solver.proofs.file.solve_file.Statement.{statement}
-use Rattle.solver.proofs.file.solve_file.Tie as tie
+use Rattle.file_solver.proofs.solve_file.Statement.{statement}
+use Rattle.file_solver.proofs.solve_file.Tie as tie
 
 returns : tie.Need-returns
 returns c = let lent = c .before .before .before .args .bytes .now in solves-refused 8792 certificateBytes lent lent _ _ (file-broken _ (c .if1 .taken)) refl refl

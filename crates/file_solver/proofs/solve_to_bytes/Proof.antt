@@ -4,13 +4,13 @@ use native.Mathlib.Omega.{arith}
 use lib.ListN.{length}
 use lib.Seq.{length-take-le}
 use Rattle.reader.specs.Answer.{systemOutcome}
 use Rattle.solver.specs.Solving.{certificateBytes}
 use Rattle.solver.proofs.Reading.{was-read, was-refused, solves-refused, solves-short, solves-given}
 use Rattle.solver.specs.SolvingLaws.{gives-fits}
-use Rattle.solver.proofs.FileWriting.{gives-bytes}
+use Rattle.file_solver.proofs.FileWriting.{gives-bytes}
 use borrow.Author.Needs.{needs}
-use Rattle.solver.proofs.file.solve_to_bytes.Statement.{statement}
-use Rattle.solver.proofs.file.solve_to_bytes.Tie as tie
+use Rattle.file_solver.proofs.solve_to_bytes.Statement.{statement}
+use Rattle.file_solver.proofs.solve_to_bytes.Tie as tie
 
 limits-requires : tie.Need-limits-requires
 limits-requires c κs = search needs
