@@ -1,30 +1,19 @@
--- What `add_scaled` and `add_row` require of a range, and what `sum_at` requires at each place of it, also between two turns of
--- the loops of `add_scaled`.
+-- What `add_row` and `sum_at` require, and what they leave, between two turns of the loops of `add_scaled`.
 use mathlib.Core.Path.{_≡_, refl, ap, ap₂, _∙_}
 use mathlib.Core.List.{List}
 use Prim.Native.Nat.{ℕ, _+_, _*_, _≤_, _<_}
-use native.Mathlib.Nat.{add-assoc}
+use native.Mathlib.Nat.{add-zero, add-assoc}
 use native.Mathlib.Omega.{arith}
 use lib.ListN.{length, getD}
+use Rattle.row.specs.Sum.{sumAt, SumFits, SumsFit, each-fits}
+use Rattle.row.specs.Stored.{rowStored}
 use Rattle.vector.specs.Stored.{stored}
-use Rattle.vector.specs.Multiple.{sumAt}
 use Rattle.vector.proofs.Storing.{Storing, storing-later, storing-reads, storing-row}
 
--- the sums of n words fit
-abbrev pub SumsFit : List ℕ → ℕ → List ℕ → ℕ → ℕ → ℕ → Type 0
-SumsFit h d s a n c =
-    ((d + n ≤ length h) × (a + n ≤ length s) × (c < 4294967296))
-    × (((j : ℕ) → j < n → getD s (a + j) 0 < 4294967296)
-    × ((j : ℕ) → j < n → sumAt h d s a c j < 18446744073709551616))
-
--- the sum at j fits
-abbrev pub SumFits : List ℕ → ℕ → List ℕ → ℕ → ℕ → ℕ → Type 0
-SumFits h d s a c j =
-    ((d + j < length h) × (a + j < length s) × (c < 4294967296) × (getD s (a + j) 0 < 4294967296))
-    × (sumAt h d s a c j < 18446744073709551616)
-
-pub each-fits : (h : List ℕ) (d : ℕ) (s : List ℕ) (a n c : ℕ) → SumsFit h d s a n c → (j : ℕ) → j < n → SumFits h d s a c j
-each-fits h d s a n c given j lt = ((omega arith, omega arith, given .0 .2, given .1 .0 j lt), given .1 .1 j lt)
+-- a row of eight, and eight words stored
+row-is-stored : (f : ℕ → ℕ) (l : List ℕ) (d : ℕ) → rowStored f l d ≡ stored f l d 8
+unfolding stored
+row-is-stored f l d = simp (add-zero, add-assoc)
 
 -- where j sums are stored: the next sum, and the next m sums, are those of the start, fit, and may be stored
 module _
@@ -59,6 +48,8 @@ module _
           (λ i lt. rw add-assoc (given .1 .0 (j + i) (omega arith)), λ i lt. rw (row-sum i) (given .1 .1 (j + i) (omega arith))),
         )
 
-    pub row-stored : (m : ℕ) (w′ : List ℕ) → j + m ≤ n → w′ ≡ stored (sumAt w (d + j) s (a + j) c) w (d + j) m
-        → Storing (sumAt h d s a c) h d n w′ (j + m)
-    row-stored m w′ within = storing-row so-far (sumAt w (d + j) s (a + j) c) m w′ within (λ i lt. row-sum i)
+    pub row-stored : (w′ : List ℕ) → j + 8 ≤ n → w′ ≡ rowStored (sumAt w (d + j) s (a + j) c) w (d + j)
+        → Storing (sumAt h d s a c) h d n w′ (j + 8)
+    row-stored w′ within e =
+        let sum = sumAt w (d + j) s (a + j) c in
+        storing-row so-far sum 8 w′ within (λ i lt. row-sum i) (e ∙ row-is-stored sum w (d + j))

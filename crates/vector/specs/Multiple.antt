@@ -8,12 +8,9 @@ use native.Mathlib.Omega.{arith}
 use lib.ListN.{length, getD, take, drop}
 use Rattle.algebra.specs.Coefficients.{add, scale, shift}
 use Rattle.modular.specs.Modulo.{modulo}
+pub use Rattle.row.specs.Sum.{sumAt}
 use Rattle.vector.specs.Stored.{stored, stored-inside, stored-outside, below-or-not}
 use Rattle.vector.specs.Reduced.{polynomial, word-inside, word-behind, reduced-multiple}
-
--- the word of h at d + j plus c times the word of s at a + j
-abbrev pub sumAt : List ℕ → ℕ → List ℕ → ℕ → ℕ → ℕ → ℕ
-sumAt h d s a c j = getD h (d + j) 0 + c * getD s (a + j) 0
 
 -- Of the words h before and the words h′ after: any m words of them that take in all that changed, read as polynomials modulo
 -- any p, gained c·x^k times the n words of s from a on, k the place d counted from the first of the m.

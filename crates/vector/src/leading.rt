@@ -1,27 +1,19 @@
 // Size and leading coefficient of a hand, found from its end.
 ghost use mathlib.Core.Path.{_≡_};
-ghost use Prim.Native.Nat.{_+_, _≤_};
+ghost use Prim.Native.Nat.{_≤_};
 ghost use lib.ListN.{length};
 ghost use Rattle.algebra.specs.Coefficients.{leading};
 ghost use Rattle.modular.specs.Modulo.{modulo};
 ghost use Rattle.residue.specs.Modulus.{ValidModulus};
 ghost use Rattle.vector.specs.Bound.{Reducible};
 ghost use Rattle.vector.specs.Reduced.{polynomial};
-ghost use Rattle.vector.specs.Row.{orTo};
 use residue::modulus::Modulus;
+use row::or::or_of_row;
 
 // The number of a polynomial's coefficients, and the last of them; both 0 for the zero polynomial.
 pub struct Leading {
     pub size: usize,
     pub value: u64,
-}
-
-// h[a] | .. | h[a + 7], which is 0 only where all eight words are: one test for a row of them.
-fn or_of_row(h: &[u64], a: usize) -> u64
-    requires { ⌜ a + 8 ≤ length (now h) ⌝ }
-    ensures { λ r. ⌜ r ≡ orTo (now (h .entry)) a 7 ⌝ }
-{
-    h[a] | h[a + 1] | h[a + 2] | h[a + 3] | h[a + 4] | h[a + 5] | h[a + 6] | h[a + 7]
 }
 
 // Size and leading coefficient of the polynomial that h[0] .. h[n - 1] stand for modulo p. Words that are 0, of which there may be

@@ -47,8 +47,8 @@ loop-again c =
     let L = c .before .before .before .before .before in
     let A = L .before .before .args in
     let none = sym (c .before .or-of-row .ensures) ∙ eqb-true (c .before .or-of-row .result) 0 (c .if2 .taken) in
-    let next : L .loop .k ≡ L .loop .k - 8 + 7 + 1 = omega arith in
-    (omega arith, L .loop .inv .1 ∙ reduced-take-row (A .modulus .p) (A .h .now) _ _ 7 next (omega arith) none)
+    let next : L .loop .k ≡ L .loop .k - 8 + 8 = omega arith in
+    (omega arith, L .loop .inv .1 ∙ reduced-take-row (A .modulus .p) (A .h .now) _ _ next (omega arith) none)
 
 loop2-holds : tie.Need-loop2-holds Inv-loop μ-loop Inv-loop2 μ-loop2
 loop2-holds c = c .before .loop .inv

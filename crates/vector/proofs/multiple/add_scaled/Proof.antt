@@ -9,8 +9,8 @@ use Rattle.vector.proofs.multiple.add_scaled.Statement.{statement}
 use Rattle.vector.proofs.multiple.add_scaled.Tie as tie
 use Rattle.vector.proofs.multiple.add_scaled.Reads as reads
 use Rattle.vector.proofs.multiple.add_scaled.Lts as lts
-use Rattle.vector.proofs.multiple.add_row.Reads as add-row-reads
-use Rattle.vector.proofs.multiple.sum_at.Reads as sum-at-reads
+use Rattle.row.proofs.sum.add_row.Reads as add-row-reads
+use Rattle.row.proofs.sum.sum_at.Reads as sum-at-reads
 
 abbrev Inv-loop : tie.InvT-loop
 Inv-loop h₀ d s a n c j₀ h j = Storing (sumAt h₀ d s a c) h₀ d n h j
@@ -73,7 +73,7 @@ loop-again c =
     let L = c .before .before .before .before .before in
     let A = L .before .before .before .args in
     let row = c .before .before .add-row .ensures in
-    row-stored (A .h .now) (A .d) (A .s .now) (A .a) (A .n) (A .c) (L .loop .inv) 8 _ (omega arith) row
+    row-stored (A .h .now) (A .d) (A .s .now) (A .a) (A .n) (A .c) (L .loop .inv) _ (omega arith) row
 
 loop2-holds : tie.Need-loop2-holds Inv-loop μ-loop Inv-loop2 μ-loop2
 loop2-holds c l first = first

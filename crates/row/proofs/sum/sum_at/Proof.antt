@@ -1,13 +1,13 @@
--- `vector::multiple::sum_at` meets its contract: the remainders change nothing. Assumes nothing.
+-- `row::sum::sum_at` meets its contract: the remainders change nothing. Assumes nothing.
 use mathlib.Core.Path.{_≡_, ap, ap₂}
 use Prim.Native.Nat.{ℕ, _+_, _*_, _%_}
 use native.Mathlib.Omega.{arith}
 use native.Mathlib.Nat.{mod-eq-of-lt}
 use lib.ListN.{getD}
-use Rattle.vector.proofs.multiple.sum_at.Statement.{statement}
-use Rattle.vector.proofs.multiple.sum_at.Tie as tie
-use Rattle.vector.proofs.multiple.sum_at.Reads as reads
-use Rattle.vector.proofs.multiple.sum_at.Lts as lts
+use Rattle.row.proofs.sum.sum_at.Statement.{statement}
+use Rattle.row.proofs.sum.sum_at.Tie as tie
+use Rattle.row.proofs.sum.sum_at.Reads as reads
+use Rattle.row.proofs.sum.sum_at.Lts as lts
 
 abbrev Read : Type 0
 Read = lts.After-shared-slice-known2 reads.Pre reads.Post

@@ -1,0 +1,3 @@
+pub mod Or
+pub mod Sum
+pub mod Stored
