@@ -1,8 +1,3 @@
-pub mod CoefficientTurns
-pub mod StartWord
-pub mod PolynomialTurns
-pub mod EndWord
-pub mod BodySteps
 pub mod SystemHead
 pub mod CertificateHead
 pub mod FrameSteps
