@@ -3,4 +3,3 @@ pub mod CertificateHead
 pub mod FrameSteps
 pub mod SystemSteps
 pub mod CertificateSteps
-pub mod UnpackTurns

@@ -2,9 +2,9 @@
 use crate::Solved;
 use crate::solve_read;
 use limits::Office;
-use reader::file::unpack;
 use reader::system::SystemRead;
 use reader::system::read_system;
+use unpacking::unpack;
 use writer::file::write_bytes;
 ghost use lib.ListN.{length};
 ghost use Rattle.words.specs.Limits.{office};
