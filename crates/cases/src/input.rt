@@ -1,6 +1,6 @@
 // Lists read from standard input. A list is its number of bytes, as four bytes lowest first, then these bytes.
 use libc::STDIN_FILENO;
-use reader::file::unpack;
+use unpacking::unpack;
 ghost use mathlib.Core.Path.{_≡_};
 ghost use Prim.Native.Nat.{_≤_};
 ghost use lib.ListN.{length, getD};

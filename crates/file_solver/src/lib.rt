@@ -1,10 +1,10 @@
 // The solver on the bytes of files, four to a word, lowest first.
 use limits::Office;
-use reader::file::unpack;
 use reader::system::SystemRead;
 use reader::system::read_system;
 use solver::Solved;
 use solver::solve_read;
+use unpacking::unpack;
 use writer::file::write_bytes;
 ghost use lib.ListN.{length};
 ghost use Rattle.words.specs.Limits.{office};

@@ -1,7 +1,7 @@
 // One polynomial among the words of a system or a certificate that was read. The start words lead to it: each says how many
 // coefficients stand behind it.
-use reader::word::kind_of;
-use reader::word::payload_of;
+use frames::word::kind_of;
+use frames::word::payload_of;
 ghost use mathlib.Core.Path.{_≡_};
 ghost use mathlib.Core.List.{List};
 ghost use Prim.Native.Nat.{ℕ};

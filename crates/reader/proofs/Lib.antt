@@ -1,11 +1,5 @@
-pub mod CoefficientTurns
-pub mod StartWord
-pub mod PolynomialTurns
-pub mod EndWord
-pub mod BodySteps
 pub mod SystemHead
 pub mod CertificateHead
 pub mod FrameSteps
 pub mod SystemSteps
 pub mod CertificateSteps
-pub mod UnpackTurns

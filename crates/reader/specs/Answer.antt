@@ -1,13 +1,9 @@
 -- What the answers of the code say: the number and the place of document 01's table, or what was read.
-use Prim.Native.Nat.{ℕ}
 use Rattle.words.specs.Outcome.{Outcome}
 use Rattle.words.specs.Outcome.Outcome.{accepted, refused}
-use Rattle.words.specs.Frame.{Due}
 use Rattle.words.specs.System.{Shape}
 use Rattle.words.specs.Certificate.{Form}
 use Rattle.words.specs.Certificate.Form.{solving, absent}
-use Rattle.reader.specs.declared.polynomial.WordsRead.{WordsRead}
-use Rattle.reader.specs.declared.polynomial.WordsRead.the-variants.{Used, Refused}
 use Rattle.reader.specs.declared.system.Shape.{Shape as ShapeValue}
 use Rattle.reader.specs.declared.system.SystemRead.{SystemRead}
 use Rattle.reader.specs.declared.system.SystemRead.the-variants.{Accepted, Refused as RefusedSystem}
@@ -16,15 +12,6 @@ use Rattle.reader.specs.declared.certificate.Form.the-variants.{Solution
 use Rattle.reader.specs.declared.certificate.CertificateRead.{CertificateRead}
 use Rattle.reader.specs.declared.certificate.CertificateRead.the-variants.{Accepted as AcceptedCertificate}
 use Rattle.reader.specs.declared.certificate.CertificateRead.the-variants.{Refused as RefusedCertificate}
-
--- the number of words used
-abbrev pub wordsOutcome : WordsRead → Outcome ℕ
-wordsOutcome (Used n) = accepted n
-wordsOutcome (Refused number place) = refused number place
-
--- what is due, as the code hands it on
-abbrev pub dueOf : ℕ → ℕ → ℕ → Due
-dueOf p limit count = record { modulus = p; limit = limit; count = count }
 
 abbrev pub shapeOf : ShapeValue → Shape
 shapeOf h = record { modulus = h .modulus; rows = h .rows; columns = h .columns }

@@ -1,9 +1,9 @@
 // Reading a certificate for a system whose shape is known: the head, d, N, w, Z or else q, the end.
-use crate::frame::read_body;
-use crate::polynomial::WordsRead;
 use crate::system::Shape;
-use crate::word::kind_of;
-use crate::word::payload_of;
+use frames::frame::read_body;
+use frames::polynomial::WordsRead;
+use frames::word::kind_of;
+use frames::word::payload_of;
 use limits::Limits;
 ghost use mathlib.Core.Path.{_≡_};
 ghost use Rattle.words.specs.Outcome.{mapped};

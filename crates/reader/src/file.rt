@@ -1,49 +1,14 @@
-// Reading a system from a file, four bytes to a word, lowest first.
+// Reading a system from a file.
 use crate::system::SystemRead;
 use crate::system::read_system;
 use limits::Office;
+use unpacking::unpack;
 ghost use mathlib.Core.Path.{_≡_};
-ghost use Prim.Native.Nat.{_+_, _≤_, min};
-ghost use lib.ListN.{length};
 ghost use Rattle.words.specs.Limits.{office};
 ghost use Rattle.words.specs.Outcome.{mapped};
 ghost use Rattle.words.specs.System.{shape};
-ghost use Rattle.words.specs.Bytes.{wordOf, wordAt, readSystemFile};
+ghost use Rattle.words.specs.Bytes.{readSystemFile};
 ghost use Rattle.reader.specs.Answer.{systemOutcome};
-ghost use Rattle.reader.specs.Unpacking.{Unpacked};
-
-fn word_of(a: u8, b: u8, c: u8, d: u8) -> u32
-    ensures { λ r. ⌜ r ≡ wordOf a b c d ⌝ }
-{
-    a as u32 + (b as u32) * 256 + (c as u32) * 65536 + (d as u32) * 16777216
-}
-
-// The word at a byte.
-fn word_at(bytes: &[u8], at: usize) -> u32
-    requires { ⌜ at + 4 ≤ length (now bytes) ⌝ }
-    ensures { λ r. ⌜ r ≡ wordAt (now (bytes .entry)) at ⌝ }
-{
-    word_of(bytes[at], bytes[at + 1], bytes[at + 2], bytes[at + 3])
-}
-
-fn least(a: usize, b: usize) -> usize
-    ensures { λ r. ⌜ r ≡ min a b ⌝ }
-{
-    if a < b { a } else { b }
-}
-
-// The words of the bytes, as many as there is room for; their number. The other words stay.
-pub fn unpack(bytes: &[u8], words: &mut [u32]) -> usize
-    ensures { λ r. ⌜ Unpacked (now (bytes .entry)) (now (words .entry)) (now (words .exit)) r ⌝ }
-{
-    let count = least(bytes.len() / 4, words.len());
-    let mut i: usize = 0;
-    while i < count {
-        words[i] = word_at(bytes, 4 * i);
-        i = i + 1;
-    }
-    i
-}
 
 // The system in a file of the office.
 pub fn read_system_file(bytes: &[u8]) -> SystemRead

@@ -1,7 +1,7 @@
 // Reading a system: the head, A row by row, b, the end.
-use crate::frame::read_body;
-use crate::polynomial::WordsRead;
-use crate::word::kind_of;
+use frames::frame::read_body;
+use frames::polynomial::WordsRead;
+use frames::word::kind_of;
 use limits::Limits;
 use residue::prime::is_prime;
 ghost use mathlib.Core.Path.{_≡_};

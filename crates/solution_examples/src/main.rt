@@ -6,12 +6,12 @@ use cases::input::read_bytes;
 use cases::output::text;
 use limits::Office;
 use reader::file::read_system_file;
-use reader::file::unpack;
 use reader::system::SystemRead;
 use reporting::SPACE;
 use reporting::write_report;
 use solver::Solved;
 use solver::solve;
+use unpacking::unpack;
 use verifier::Verdict;
 use verifier::check;
 

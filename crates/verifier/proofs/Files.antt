@@ -14,7 +14,7 @@ use Rattle.words.specs.LimitsLaws.{LimitsFit, office-fits}
 use Rattle.words.specs.Outcome.{Outcome, followedBy}
 use Rattle.words.specs.Outcome.Outcome.{accepted, refused}
 use Rattle.words.specs.Bytes.{wordsOf, broken, tooLong}
-use Rattle.reader.specs.Unpacking.{Unpacked}
+use Rattle.unpacking.specs.Unpacking.{Unpacked}
 use Rattle.truth.specs.Verdict.{verdict}
 use Rattle.truth.specs.Prefix.{verdict-room}
 use Rattle.verifier.specs.File.{firstOf, fileVerdict}

@@ -2,7 +2,7 @@
 use crate::Verdict;
 use crate::check;
 use limits::Office;
-use reader::file::unpack;
+use unpacking::unpack;
 ghost use mathlib.Core.Path.{_≡_};
 ghost use Rattle.words.specs.Limits.{office};
 ghost use Rattle.verifier.specs.File.{fileVerdict, fileOutcome};

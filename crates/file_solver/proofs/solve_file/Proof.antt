@@ -1,7 +1,7 @@
 -- Number 10, or what the words of the bytes give.
 use mathlib.Core.Path.{refl}
 use native.Mathlib.Omega.{arith}
-use Rattle.reader.proofs.UnpackTurns.{unpacked-all}
+use Rattle.unpacking.proofs.UnpackTurns.{unpacked-all}
 use Rattle.solver.specs.Solving.{certificateBytes}
 use Rattle.solver.specs.Answer.{solvedOutcome}
 use Rattle.solver.proofs.Reading.{solves-refused}

@@ -3,7 +3,7 @@ use mathlib.Core.Path.{refl}
 use native.Mathlib.Omega.{arith}
 use Rattle.words.specs.Limits.{office}
 use Rattle.words.specs.BytesLaws.{file-broken, file-long}
-use Rattle.reader.proofs.UnpackTurns.{unpacked-all}
+use Rattle.unpacking.proofs.UnpackTurns.{unpacked-all}
 use Rattle.reporting.proofs.Giving.{file-short, file-refused, file-words, unpacked-few}
 use borrow.Author.Needs.{needs}
 use Rattle.reporting.proofs.write_report.Statement.{statement}

@@ -2,7 +2,8 @@
 use mathlib.Core.Path.{sym, ap, _∙_}
 use native.Mathlib.Omega.{arith}
 use Rattle.limits.specs.Value.{limitsOf}
-use Rattle.reader.specs.Answer.{wordsOutcome, shapeOf, formOf, certificateOutcome}
+use Rattle.frames.specs.Answer.{wordsOutcome}
+use Rattle.reader.specs.Answer.{shapeOf, formOf, certificateOutcome}
 use Rattle.reader.proofs.CertificateSteps.{certificate-head-refused, certificate-some, certificate-body-refused}
 use Rattle.reader.proofs.CertificateSteps.{certificate-read}
 use borrow.Author.Needs.{needs}

@@ -7,7 +7,7 @@ use Rattle.words.specs.Limits.{Limits, office}
 use Rattle.words.specs.Outcome.{mapped}
 use Rattle.words.specs.System.{shape, readSystem}
 use Rattle.words.specs.BytesLaws.{file-broken, file-long, file-passed}
-use Rattle.reader.proofs.UnpackTurns.{unpacked-all}
+use Rattle.unpacking.proofs.UnpackTurns.{unpacked-all}
 use borrow.Author.Needs.{needs}
 use Rattle.reader.proofs.file.read_system_file.Statement.{statement}
 use Rattle.reader.proofs.file.read_system_file.Tie as tie

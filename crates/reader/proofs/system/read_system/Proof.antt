@@ -4,7 +4,8 @@ use Prim.Native.Nat.{_≤_}
 use native.Mathlib.Nat.{mul-le-mul}
 use native.Mathlib.Omega.{arith}
 use Rattle.limits.specs.Value.{limitsOf}
-use Rattle.reader.specs.Answer.{wordsOutcome, shapeOf, systemOutcome}
+use Rattle.frames.specs.Answer.{wordsOutcome}
+use Rattle.reader.specs.Answer.{shapeOf, systemOutcome}
 use Rattle.reader.proofs.SystemSteps.{system-head-refused, system-some, system-body-refused, system-read}
 use borrow.Author.Needs.{needs}
 use Rattle.reader.proofs.system.read_system.Statement.{statement}

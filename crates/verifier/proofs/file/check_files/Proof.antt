@@ -1,7 +1,7 @@
 -- Number 10, or no certificate, or the verdict on the words for which there is room, which is that on all.
 use mathlib.Core.Path.{sym, ap, _∙_}
 use native.Mathlib.Omega.{arith}
-use Rattle.reader.proofs.UnpackTurns.{unpacked-all}
+use Rattle.unpacking.proofs.UnpackTurns.{unpacked-all}
 use Rattle.conditions.specs.Answer.{verdictOutcome}
 use Rattle.verifier.proofs.Files.{system-broken, system-long, certificate-none, both-whole}
 use Rattle.verifier.proofs.Files.{unpacked-length, unpacked-verdict}

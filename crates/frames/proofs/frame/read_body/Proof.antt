@@ -1,11 +1,11 @@
--- `reader::frame::read_body` meets its contract: the polynomials are told from the part behind the head, one word later here.
+-- `frames::frame::read_body` meets its contract: the polynomials are told from the part behind the head, one word later here.
 use mathlib.Core.Path.{sym, ap, _∙_}
 use native.Mathlib.Omega.{arith}
-use Rattle.reader.specs.Answer.{wordsOutcome}
-use Rattle.reader.proofs.BodySteps.{body-used, body-refused}
+use Rattle.frames.specs.Answer.{wordsOutcome}
+use Rattle.frames.proofs.BodySteps.{body-used, body-refused}
 use borrow.Author.Needs.{needs}
-use Rattle.reader.proofs.frame.read_body.Statement.{statement}
-use Rattle.reader.proofs.frame.read_body.Tie as tie
+use Rattle.frames.proofs.frame.read_body.Statement.{statement}
+use Rattle.frames.proofs.frame.read_body.Tie as tie
 
 mul-read-polynomials : tie.Need-mul-read-polynomials
 mul-read-polynomials c = search needs

@@ -1,12 +1,12 @@
--- `reader::file::unpack` meets its contract. The loop's invariant: the words before its place are unpacked. The measure is the
+-- `unpacking::unpack` meets its contract. The loop's invariant: the words before its place are unpacked. The measure is the
 -- number of those that are not.
 use mathlib.Core.Path.{sym, ap, _∙_}
 use Prim.Native.Nat.{_-_}
 use native.Mathlib.Omega.{arith}
-use Rattle.reader.proofs.UnpackTurns.{Filled, filled-start, filled-room, filled-length, filled-next, filled-end}
+use Rattle.unpacking.proofs.UnpackTurns.{Filled, filled-start, filled-room, filled-length, filled-next, filled-end}
 use borrow.Author.Needs.{needs}
-use Rattle.reader.proofs.file.unpack.Statement.{statement}
-use Rattle.reader.proofs.file.unpack.Tie as tie
+use Rattle.unpacking.proofs.unpack.Statement.{statement}
+use Rattle.unpacking.proofs.unpack.Tie as tie
 
 abbrev Inv-loop : tie.InvT-loop
 Inv-loop bytes words₀ count i₀ words i = Filled bytes words₀ count words i

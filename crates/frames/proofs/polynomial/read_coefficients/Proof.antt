@@ -1,14 +1,14 @@
--- `reader::polynomial::read_coefficients` meets its contract. The loop's invariant: what is told of all coefficients is what is
+-- `frames::polynomial::read_coefficients` meets its contract. The loop's invariant: what is told of all coefficients is what is
 -- told of those from the loop's word on. The measure is the number of these.
 use mathlib.Core.Path.{_≡_, sym, _∙_}
 use mathlib.Core.Logic.{⊎-elim}
 use Prim.Native.Nat.{_+_, _-_, _≤_, _<_}
 use native.Mathlib.Omega.{arith}
 use borrow.Author.Needs.{needs}
-use Rattle.reader.proofs.CoefficientTurns.{Reached, reached-start, reached-next, reached-end, due-missing, due-kind}
-use Rattle.reader.proofs.CoefficientTurns.{due-large, due-last}
-use Rattle.reader.proofs.polynomial.read_coefficients.Statement.{statement}
-use Rattle.reader.proofs.polynomial.read_coefficients.Tie as tie
+use Rattle.frames.proofs.CoefficientTurns.{Reached, reached-start, reached-next, reached-end, due-missing, due-kind}
+use Rattle.frames.proofs.CoefficientTurns.{due-large, due-last}
+use Rattle.frames.proofs.polynomial.read_coefficients.Statement.{statement}
+use Rattle.frames.proofs.polynomial.read_coefficients.Tie as tie
 
 abbrev Inv-loop : tie.InvT-loop
 Inv-loop words p count last at₀ at = Reached words p count at

@@ -1,10 +1,10 @@
--- `reader::frame::read_end` meets its contract: each answer is what the definition gives at that test.
+-- `frames::frame::read_end` meets its contract: each answer is what the definition gives at that test.
 use mathlib.Core.Path.{sym, _∙_}
 use native.Mathlib.Omega.{arith}
-use Rattle.reader.proofs.EndWord.{end-missing, end-kind, end-payload, end-follows, end-right}
+use Rattle.frames.proofs.EndWord.{end-missing, end-kind, end-payload, end-follows, end-right}
 use borrow.Author.Needs.{needs}
-use Rattle.reader.proofs.frame.read_end.Statement.{statement}
-use Rattle.reader.proofs.frame.read_end.Tie as tie
+use Rattle.frames.proofs.frame.read_end.Statement.{statement}
+use Rattle.frames.proofs.frame.read_end.Tie as tie
 
 returns : tie.Need-returns
 returns c = sym (end-missing (c .before .before .args .words .now) _ (c .before .before .pre) (c .if1 .taken))

@@ -6,7 +6,7 @@ ghost use Prim.Native.Nat.{_≤_, _<_};
 ghost use lib.ListN.{length};
 ghost use Rattle.words.specs.Reading.{used, usedFrom};
 ghost use Rattle.words.specs.Polynomial.{coefficientsFrom, polynomialFrom, polynomialsFrom};
-ghost use Rattle.reader.specs.Answer.{wordsOutcome};
+ghost use Rattle.frames.specs.Answer.{wordsOutcome};
 
 // What reading finds.
 pub enum WordsRead {

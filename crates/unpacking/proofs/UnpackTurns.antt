@@ -9,7 +9,7 @@ use lib.ListN.{length, getD, take, drop, set, length-set, length-append, length-
 use lib.Seq.{length-take-le, take-suc, drop-cons, set-at, append-snoc, take-length, take-append-seam}
 use Rattle.words.specs.Bytes.{wordAt, wordsOf}
 use Rattle.words.specs.BytesLaws.{length-wordsOf, wordsOf-at}
-use Rattle.reader.specs.Unpacking.{Unpacked}
+use Rattle.unpacking.specs.Unpacking.{Unpacked}
 
 -- the loop's invariant: of `count` words, i are unpacked
 pub record Filled (bytes before : List ℕ) (count : ℕ) (after : List ℕ) (i : ℕ) : Type 0 where

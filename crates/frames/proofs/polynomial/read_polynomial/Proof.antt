@@ -1,4 +1,4 @@
--- `reader::polynomial::read_polynomial` meets its contract: each answer is what the definition gives at that test.
+-- `frames::polynomial::read_polynomial` meets its contract: each answer is what the definition gives at that test.
 use mathlib.Core.Path.{sym, ap, _∙_}
 use Prim.Native.Nat.{ℕ}
 use native.Mathlib.Omega.{arith}
@@ -6,10 +6,10 @@ use lib.ListN.{length, drop}
 use denote.Ref.{now}
 use Rattle.words.specs.Reading.{wordsUsed}
 use Rattle.words.specs.Polynomial.{coefficientsFrom}
-use Rattle.reader.proofs.StartWord.{start-missing, start-kind, start-many, start-right}
+use Rattle.frames.proofs.StartWord.{start-missing, start-kind, start-many, start-right}
 use borrow.Author.Needs.{needs}
-use Rattle.reader.proofs.polynomial.read_polynomial.Statement.{statement}
-use Rattle.reader.proofs.polynomial.read_polynomial.Tie as tie
+use Rattle.frames.proofs.polynomial.read_polynomial.Statement.{statement}
+use Rattle.frames.proofs.polynomial.read_polynomial.Tie as tie
 
 returns : tie.Need-returns
 returns c = sym (start-missing _ _ _ (c .if1 .taken))

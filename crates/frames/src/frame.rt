@@ -8,7 +8,7 @@ ghost use Prim.Native.Nat.{_≤_};
 ghost use lib.ListN.{length};
 ghost use Rattle.words.specs.Reading.{usedFrom};
 ghost use Rattle.words.specs.Frame.{endFrom, bodyFrom};
-ghost use Rattle.reader.specs.Answer.{wordsOutcome, dueOf};
+ghost use Rattle.frames.specs.Answer.{wordsOutcome, dueOf};
 
 // The end word at `at`, and nothing behind it.
 fn read_end(words: &[u32], at: usize) -> WordsRead

@@ -14,9 +14,9 @@ use Rattle.words.specs.Frame.{endFrom, bodyFrom}
 use Rattle.words.specs.ReadingLaws.{wordsUsed-map}
 use Rattle.words.specs.PolynomialLaws.{polynomials-read}
 use Rattle.words.specs.ForwardLaws.{Forward, polynomials-forward}
-use Rattle.reader.specs.Answer.{dueOf}
-use Rattle.reader.proofs.PolynomialTurns.{rest-part}
-use Rattle.reader.proofs.EndWord.{OfEnd}
+use Rattle.frames.specs.Answer.{dueOf}
+use Rattle.frames.proofs.PolynomialTurns.{rest-part}
+use Rattle.frames.proofs.EndWord.{OfEnd}
 
 -- what a call on the part behind the head told
 abbrev pub ToldOf : Outcome ℕ → ℕ → ℕ → ℕ → List ℕ → Type 0

@@ -1,12 +1,12 @@
--- `reader::polynomial::read_polynomials` meets its contract. The loop's invariant: what is told of all polynomials is what is
+-- `frames::polynomial::read_polynomials` meets its contract. The loop's invariant: what is told of all polynomials is what is
 -- told of those that are due, from the loop's word on. The measure is the number of these.
 use mathlib.Core.Path.{sym, ap, _∙_}
 use native.Mathlib.Omega.{arith}
 use borrow.Author.Needs.{needs}
-use Rattle.reader.specs.Answer.{wordsOutcome}
-use Rattle.reader.proofs.PolynomialTurns.{Passed, passed-start, passed-next, passed-refused, passed-end}
-use Rattle.reader.proofs.polynomial.read_polynomials.Statement.{statement}
-use Rattle.reader.proofs.polynomial.read_polynomials.Tie as tie
+use Rattle.frames.specs.Answer.{wordsOutcome}
+use Rattle.frames.proofs.PolynomialTurns.{Passed, passed-start, passed-next, passed-refused, passed-end}
+use Rattle.frames.proofs.polynomial.read_polynomials.Statement.{statement}
+use Rattle.frames.proofs.polynomial.read_polynomials.Tie as tie
 
 abbrev Inv-loop : tie.InvT-loop
 Inv-loop words p limit count at₀ due₀ at due = Passed words p limit count at due

@@ -1,0 +1,5 @@
+pub mod CoefficientTurns
+pub mod StartWord
+pub mod PolynomialTurns
+pub mod EndWord
+pub mod BodySteps
