@@ -10,7 +10,7 @@ use Rattle.words.specs.Outcome.Outcome.{refused}
 use Rattle.words.specs.Bytes.{wordsOf, bytesOf, readSystemFile}
 use Rattle.words.specs.System.{System, readSystem}
 use Rattle.words.specs.Certificate.{certificateWords}
-use Rattle.writer.specs.Writing.{overwritten}
+use Rattle.framing.specs.Overwriting.{overwritten}
 use Rattle.writer.proofs.WordBytes.{length-bytes}
 use Rattle.solver.specs.Solving.{withRoom, certificateBytes, Gives, SolvesOr, SolvesFile}
 use Rattle.solver.specs.SolvingLaws.{gives-words}

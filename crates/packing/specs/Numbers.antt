@@ -9,7 +9,7 @@ use lib.ListN.{length, getD, take, drop}
 use lib.Seq.{drop-cons}
 use Rattle.modular.specs.Canonical.{Canonical, Ends}
 use Rattle.words.specs.Word.{AllBelow}
-use Rattle.writer.specs.Values.{numbersFrom}
+use Rattle.framing.specs.Values.{numbersFrom}
 
 moved : (xs ys : List ℕ) {i j a b : ℕ} → getD xs i 0 ≡ getD ys j 0 → a ≡ i → j ≡ b → getD xs a 0 ≡ getD ys b 0
 moved xs ys e x y = ap (λ (k : ℕ). getD xs k 0) x ∙ e ∙ ap (λ (k : ℕ). getD ys k 0) y

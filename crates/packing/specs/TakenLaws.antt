@@ -18,10 +18,11 @@ use Rattle.words.specs.Frame.{framedWords}
 use Rattle.words.specs.Certificate.{Form, formWord, entryCount, certificateWords}
 use Rattle.words.specs.Certificate.Form.{solving, absent}
 use Rattle.words.specs.Certificate.Certificate.{solution, absence}
-use Rattle.writer.specs.Values.{numbersFrom, polynomialIn, polynomialsIn, certificateIn}
+use Rattle.framing.specs.Values.{numbersFrom, polynomialIn, polynomialsIn}
+use Rattle.writer.specs.Values.{certificateIn}
 use Rattle.writer.specs.ValuesLaws.{certificateIn-form, certificateIn-entries}
-use Rattle.writer.specs.declared.format.Format.{Format}
-use Rattle.writer.specs.Framing.{Holds, Writable, Wrote, entriesIn}
+use Rattle.framing.specs.declared.format.Format.{Format}
+use Rattle.framing.specs.Framing.{Holds, Writable, Wrote, entriesIn}
 use Rattle.writer.specs.Formats.{certificateFormat}
 use Rattle.areas.specs.Output.{ValidOutput}
 use Rattle.meaning.specs.Taken.{takenPolynomial, takenPolynomials, takenCertificate}

@@ -1,9 +1,9 @@
 // All polynomials of the certificate in memory, and its words.
 use crate::polynomial::pack_polynomial;
 use crate::polynomial::size_of;
+use framing::frame::write_framed;
 use writer::certificate::Form;
 use writer::certificate::format_for;
-use writer::frame::write_framed;
 ghost use mathlib.Core.Path.{_≡_};
 ghost use Prim.Native.Nat.{_≤_};
 ghost use lib.ListN.{length};
@@ -12,7 +12,7 @@ ghost use Rattle.words.specs.System.{ShapeWithin};
 ghost use Rattle.words.specs.Word.{AllBelow};
 ghost use Rattle.words.specs.Certificate.{certificateWords};
 ghost use Rattle.writer.specs.Values.{shapeOf};
-ghost use Rattle.writer.specs.Framing.{Wrote};
+ghost use Rattle.framing.specs.Framing.{Wrote};
 ghost use Rattle.writer.specs.Answer.{formOf};
 ghost use Rattle.areas.specs.Output.{ValidOutput};
 ghost use Rattle.meaning.specs.Taken.{takenCertificate};

@@ -7,7 +7,7 @@ use Rattle.words.specs.Limits.{office}
 use Rattle.words.specs.Outcome.Outcome.{accepted}
 use Rattle.words.specs.System.{System, Shape, shape, readSystem}
 use Rattle.words.specs.Certificate.{Form, formOf, certificateWords}
-use Rattle.writer.specs.Framing.{Wrote}
+use Rattle.framing.specs.Framing.{Wrote}
 use Rattle.areas.specs.Output.{ValidOutput}
 use Rattle.meaning.specs.Taken.{takenCertificate}
 use Rattle.solver.specs.Solving.{Gives}

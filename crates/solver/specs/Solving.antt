@@ -12,7 +12,7 @@ use Rattle.words.specs.Bytes.{bytesOf, readSystemFile}
 use Rattle.words.specs.Certificate.{Certificate, CertificateWithin, certificateWords}
 use Rattle.truth.specs.Solution.{Answers}
 use Rattle.truth.specs.Right.{Right}
-use Rattle.writer.specs.Writing.{overwritten}
+use Rattle.framing.specs.Overwriting.{overwritten}
 use Rattle.meaning.specs.Answers.{answerOf}
 
 -- what was read is the system to solve, if there is room for the longest certificate: "The solver reads the sheet, then looks at 11."

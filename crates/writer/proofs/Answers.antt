@@ -18,13 +18,16 @@ use Rattle.words.specs.VectorLaws.{all-at}
 use Rattle.words.specs.WidthLaws.{below-nil, below-cons}
 use Rattle.writer.specs.declared.answer.Written.{Written}
 use Rattle.writer.specs.declared.answer.Written.the-variants.{Count, Refused}
-use Rattle.writer.specs.declared.format.Format.{Format}
-use Rattle.writer.specs.Writing.{passed, refuseShape, refusePolynomials, refuseRoom, writeSystem, writeCertificate, lentAfter}
-use Rattle.writer.specs.WritingLaws.{after, shape-first, polynomials-first, polynomials-passed}
-use Rattle.writer.specs.ValuesLaws.{length-polynomialIn, getD-polynomialsIn}
-use Rattle.writer.specs.Values.{polynomialIn, systemIn, certificateIn}
-use Rattle.writer.specs.Framing.{Writable, Wrote, entriesIn, writeFramed}
-use Rattle.writer.specs.Formats.{systemFormat, certificateFormat, system-framed, certificate-framed}
+use Rattle.framing.specs.declared.format.Format.{Format}
+use Rattle.writer.specs.Writing.{refuseShape, refuseRoom, writeSystem, writeCertificate, lentAfter}
+use Rattle.trial.specs.Trial.{passed, refusePolynomials}
+use Rattle.trial.specs.TrialLaws.{after, polynomials-first, polynomials-passed}
+use Rattle.writer.specs.WritingLaws.{shape-first}
+use Rattle.framing.specs.Values.{polynomialIn}
+use Rattle.framing.specs.ValuesLaws.{length-polynomialIn, getD-polynomialsIn}
+use Rattle.writer.specs.Values.{systemIn, certificateIn}
+use Rattle.framing.specs.Framing.{Writable, Wrote, entriesIn}
+use Rattle.writer.specs.Formats.{writeFramed, systemFormat, certificateFormat, system-framed, certificate-framed}
 use Rattle.writer.specs.Answer.{Writes}
 
 -- ---- a trial before the rest

@@ -12,8 +12,8 @@ use Rattle.words.specs.SystemLaws.{system-expressible}
 use Rattle.words.specs.Certificate.{Form, entryCount}
 use Rattle.words.specs.Certificate.Form.{solving, absent}
 use Rattle.words.specs.CertificateLaws.{certificate-expressible}
-use Rattle.writer.specs.declared.format.Format.{Format}
-use Rattle.writer.specs.Framing.{Holds}
+use Rattle.framing.specs.declared.format.Format.{Format}
+use Rattle.framing.specs.Framing.{Holds}
 use Rattle.writer.specs.Formats.{systemFormat, certificateFormat}
 
 -- what writing values asks

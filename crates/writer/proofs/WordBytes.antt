@@ -6,8 +6,8 @@ use native.Mathlib.Omega.{arith}
 use lib.ListN.{length, getD, take, set, length-append}
 use lib.Seq.{take-suc, take-all, length-take-le}
 use Rattle.words.specs.Bytes.{bytesOf}
-use Rattle.writer.specs.Writing.{overwritten}
-use Rattle.writer.proofs.Overwriting.{set-written, length-overwritten}
+use Rattle.framing.specs.Overwriting.{overwritten}
+use Rattle.framing.proofs.Overwriting.{set-written, length-overwritten}
 
 pub bytes-append : (vs ws : List ℕ) → bytesOf (vs ++ ws) ≡ bytesOf vs ++ bytesOf ws
 unfolding bytesOf

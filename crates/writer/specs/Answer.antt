@@ -1,4 +1,4 @@
--- What the answers of the writers and of their trials say, in document 01's numbers and values.
+-- What the answers of the writers say, in document 01's numbers and values.
 use Prim.Native.Nat.{ℕ}
 use mathlib.Core.Path.{_≡_}
 use mathlib.Core.List.{List}
@@ -7,8 +7,6 @@ use Rattle.words.specs.Outcome.{Outcome, mapped}
 use Rattle.words.specs.Outcome.Outcome.{accepted, refused}
 use Rattle.writer.specs.declared.answer.Written.{Written}
 use Rattle.writer.specs.declared.answer.Written.the-variants as written
-use Rattle.writer.specs.declared.answer.Tried.{Tried}
-use Rattle.writer.specs.declared.answer.Tried.the-variants as tried
 use Rattle.words.specs.Certificate.{Form}
 use Rattle.words.specs.Certificate.Form.{solving, absent}
 use Rattle.writer.specs.declared.certificate.Form.{Form as FormValue}
@@ -19,11 +17,6 @@ use Rattle.writer.specs.Writing.{lentAfter}
 abbrev pub writtenOutcome : Written → Outcome ℕ
 writtenOutcome (written.Count n) = accepted n
 writtenOutcome (written.Refused number place) = refused number place
-
--- nothing refused, or number and place
-abbrev pub trialOf : Tried → Outcome (Unit {0})
-trialOf tried.Passed = accepted tt
-trialOf (tried.Refused number place) = refused number place
 
 -- which kind of certificate is handed over
 abbrev pub formOf : FormValue → Form

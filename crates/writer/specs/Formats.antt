@@ -3,15 +3,24 @@ use mathlib.Core.Path.{_≡_, ap, ap₂}
 use mathlib.Core.List.{List}
 use Prim.Native.Nat.{ℕ}
 use Rattle.words.specs.Limits.{Limits, systemCount, longestSystem, longestCertificate}
+use Rattle.words.specs.Outcome.{Outcome}
 use Rattle.words.specs.Outcome.Outcome.{accepted}
 use Rattle.words.specs.Frame.{framedWords}
 use Rattle.words.specs.System.{Shape, headWord, systemWords}
 use Rattle.words.specs.Certificate.{Form, formWord, entryCount, certificateWords}
-use Rattle.writer.specs.declared.format.Format.{Format}
-use Rattle.writer.specs.Writing.{refuseShape, refusePolynomials, refuseRoom, writeSystem, writeCertificate}
+use Rattle.framing.specs.declared.format.Format.{Format}
+use Rattle.framing.specs.Framing.{entriesIn}
+use Rattle.trial.specs.Trial.{refusePolynomials}
+use Rattle.writer.specs.Writing.{refuseShape, refuseRoom, writeSystem, writeCertificate}
 use Rattle.writer.specs.Values.{systemIn, certificateIn}
 use Rattle.writer.specs.ValuesLaws.{systemIn-entries, certificateIn-entries, certificateIn-form}
-use Rattle.writer.specs.Framing.{writeFramed}
+
+-- all that is tried of the polynomials in arrays, in order, and their words
+abbrev pub writeFramed : Format → ℕ → ℕ → List ℕ → List ℕ → Outcome (List ℕ)
+writeFramed format p lent sizes coefficients =
+    refusePolynomials p (format .limit) (format .by) 1 (entriesIn format sizes coefficients)
+    (refuseRoom (format .longest) lent
+    (accepted (framedWords (format .head) (entriesIn format sizes coefficients))))
 
 abbrev pub systemFormat : Limits → Shape → Format
 systemFormat limits h = record {

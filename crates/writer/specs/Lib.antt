@@ -4,6 +4,5 @@ pub mod Values
 pub mod ValuesLaws
 pub mod WrittenLaws
 pub mod Answer
-pub mod Framing
 pub mod Formats
 pub mod Examples

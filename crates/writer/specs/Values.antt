@@ -1,31 +1,13 @@
--- How values are handed to the writers: the sizes of the polynomials in written order, and their coefficients with the same room
--- for each. What lies beyond an array counts as 0, so that every pair of arrays stands for a system and for a certificate.
-use Prim.Native.Nat.{ℕ, zero, suc, _+_, _*_}
-use mathlib.Core.List.{List, [], _∷_}
-use lib.ListN.{getD}
+-- How values are handed to the writers: the polynomials of arrays, in written order. What lies beyond an array counts as 0, so that
+-- every pair of arrays stands for a system and for a certificate.
+use Prim.Native.Nat.{ℕ, _+_, _*_}
+use mathlib.Core.List.{List}
 use Rattle.words.specs.Limits.{Limits}
 use Rattle.words.specs.System.{System, Shape}
 use Rattle.words.specs.Certificate.{Certificate, Form}
 use Rattle.words.specs.Certificate.Certificate.{solution, absence}
 use Rattle.words.specs.Certificate.Form.{solving, absent}
-
--- so many numbers of an array, from a place on
-unfoldable pub numbersFrom : List ℕ → ℕ → ℕ → List ℕ
-numbersFrom xs at zero = []
-numbersFrom xs at (suc count) = getD xs at 0 ∷ numbersFrom xs (at + 1) count
-
--- with room for so many coefficients each
-module _ (room : ℕ) (sizes coefficients : List ℕ) where
-  -- polynomial k
-  unfoldable pub polynomialIn : ℕ → List ℕ
-  unfolding numbersFrom
-  polynomialIn k = numbersFrom coefficients (room * k) (getD sizes k 0)
-
-  -- so many polynomials from number k on
-  unfoldable pub polynomialsIn : ℕ → ℕ → List (List ℕ)
-  unfolding polynomialIn
-  polynomialsIn k zero = []
-  polynomialsIn k (suc count) = polynomialIn k ∷ polynomialsIn (k + 1) count
+use Rattle.framing.specs.Values.{polynomialIn, polynomialsIn}
 
 abbrev pub shapeOf : ℕ → ℕ → ℕ → Shape
 shapeOf p n m = record { modulus = p; rows = n; columns = m }

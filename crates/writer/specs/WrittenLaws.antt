@@ -18,11 +18,13 @@ use Rattle.words.specs.Certificate.Form.{solving, absent}
 use Rattle.words.specs.LimitsLaws.{LimitsFit}
 use Rattle.words.specs.SystemLaws.{system-laws, system-read-of-written}
 use Rattle.words.specs.CertificateLaws.{certificate-laws, certificate-read-of-written}
-use Rattle.writer.specs.Writing.{refuseShape, refusePolynomials, refuseRoom, writeSystem, writeCertificate, lentAfter}
 use Rattle.words.specs.OutcomeLaws.{refuse-passed}
-use Rattle.writer.specs.WritingLaws.{shape-passed, shape-within, polynomials-passed, polynomials-within}
+use Rattle.framing.specs.ValuesLaws.{length-polynomialsIn}
+use Rattle.trial.specs.Trial.{refusePolynomials}
+use Rattle.trial.specs.TrialLaws.{polynomials-passed, polynomials-within}
+use Rattle.writer.specs.Writing.{refuseShape, refuseRoom, writeSystem, writeCertificate, lentAfter}
+use Rattle.writer.specs.WritingLaws.{shape-passed, shape-within}
 use Rattle.writer.specs.Values.{systemIn, certificateIn}
-use Rattle.writer.specs.ValuesLaws.{length-polynomialsIn}
 use Rattle.writer.specs.declared.answer.Written.the-variants.{Count}
 use Rattle.writer.specs.Answer.{Writes}
 

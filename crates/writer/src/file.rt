@@ -3,7 +3,7 @@ ghost use mathlib.Core.Path.{_≡_};
 ghost use Prim.Native.Nat.{_+_, _*_, _/_, _%_, _≤_};
 ghost use lib.ListN.{length, set};
 ghost use Rattle.words.specs.Bytes.{bytesOf};
-ghost use Rattle.writer.specs.Writing.{overwritten};
+ghost use Rattle.framing.specs.Overwriting.{overwritten};
 
 // The four bytes of a word, from the place `at` on.
 fn write_word(word: u32, bytes: &mut [u8], at: usize)

@@ -1,13 +1,14 @@
 // Trying p, n and m.
-use crate::answer::Tried;
 use limits::Office;
 use residue::prime::is_prime;
+use trial::Tried;
 ghost use mathlib.Core.Path.{_≡_};
 ghost use Rattle.words.specs.Limits.{office};
 ghost use Rattle.words.specs.System.{oneTo};
-ghost use Rattle.writer.specs.Writing.{passed, refuseShape};
+ghost use Rattle.trial.specs.Trial.{passed};
+ghost use Rattle.writer.specs.Writing.{refuseShape};
 ghost use Rattle.writer.specs.Values.{shapeOf};
-ghost use Rattle.writer.specs.Answer.{trialOf};
+ghost use Rattle.trial.specs.Answer.{trialOf};
 
 // "p: any prime from 2 to 65,521"
 const LARGEST_MODULUS: u32 = 65521;

@@ -1,10 +1,10 @@
 // The writer of systems.
-use crate::answer::Tried;
 use crate::answer::Written;
-use crate::format::Format;
 use crate::shape::try_shape;
 use crate::values::write_values;
+use framing::format::Format;
 use limits::Office;
+use trial::Tried;
 ghost use mathlib.Core.Path.{_≡_};
 ghost use lib.ListN.{length};
 ghost use Rattle.words.specs.Limits.{office};

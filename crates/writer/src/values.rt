@@ -1,13 +1,14 @@
 // From values in arrays to words, or to a refusal: what the writers of systems and of certificates have in common.
-use crate::answer::Tried;
 use crate::answer::Written;
-use crate::format::Format;
-use crate::frame::write_framed;
-use crate::trial::try_polynomials;
+use framing::format::Format;
+use framing::frame::write_framed;
+use trial::Tried;
+use trial::try_polynomials;
 ghost use Prim.Native.Nat.{_≤_};
 ghost use lib.ListN.{length};
 ghost use Rattle.words.specs.Limits.{wordsFor};
-ghost use Rattle.writer.specs.Framing.{Holds, writeFramed};
+ghost use Rattle.framing.specs.Framing.{Holds};
+ghost use Rattle.writer.specs.Formats.{writeFramed};
 ghost use Rattle.writer.specs.Answer.{Writes};
 
 // 6 to 8, or greater by so much as the format says, then 11; where nothing is refused, the words.

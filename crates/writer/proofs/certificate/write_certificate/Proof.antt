@@ -5,10 +5,11 @@ use borrow.Author.Needs.{needs}
 use Rattle.words.specs.Limits.{office}
 use Rattle.words.specs.LimitsLaws.{office-fits}
 use Rattle.words.specs.System.{Shape, ShapeWithin}
-use Rattle.writer.specs.Writing.{passed, refuseShape}
+use Rattle.trial.specs.Trial.{passed}
+use Rattle.writer.specs.Writing.{refuseShape}
 use Rattle.writer.specs.WritingLaws.{shape-passed}
 use Rattle.writer.specs.Values.{shapeOf}
-use Rattle.writer.specs.Answer.{trialOf}
+use Rattle.trial.specs.Answer.{trialOf}
 use Rattle.writer.proofs.Answers.{certificate-refused, certificate-written}
 use Rattle.writer.proofs.Ready.{ready-as, certificate-ready}
 use Rattle.writer.proofs.certificate.write_certificate.Statement.{statement}

@@ -3,8 +3,8 @@ use mathlib.Core.Path.{_≡_, sym, ap, _∙_}
 use native.Mathlib.Nat.{le-trans}
 use borrow.Author.Needs.{needs}
 use Rattle.words.specs.Outcome.Outcome.{refused}
-use Rattle.writer.specs.Writing.{passed}
-use Rattle.writer.specs.Answer.{trialOf}
+use Rattle.trial.specs.Trial.{passed}
+use Rattle.trial.specs.Answer.{trialOf}
 use Rattle.writer.proofs.Answers.{trial, values-refused, values-writable, values-short, values-words}
 use Rattle.writer.proofs.values.write_values.Statement.{statement}
 use Rattle.writer.proofs.values.write_values.Tie as tie

@@ -1,0 +1,4 @@
+pub mod Overwriting
+pub mod Values
+pub mod ValuesLaws
+pub mod Framing

@@ -1,0 +1,75 @@
+// Writing a head, polynomials and an end over the first of the lent words. The values are tried before, or known to keep the limits.
+use crate::format::Format;
+ghost use mathlib.Core.Path.{_≡_};
+ghost use mathlib.Core.List.{map};
+ghost use Prim.Native.Nat.{_+_, _*_, _≤_, _<_};
+ghost use lib.ListN.{length};
+ghost use Rattle.words.specs.Limits.{wordsFor};
+ghost use Rattle.words.specs.Word.{word, AllBelow};
+ghost use Rattle.words.specs.Polynomial.{polynomialWords, polynomialsWords};
+ghost use Rattle.words.specs.Frame.{framedWords};
+ghost use Rattle.framing.specs.Overwriting.{overwritten};
+ghost use Rattle.framing.specs.Framing.{Holds, Writable, Wrote, entriesIn};
+
+// The words of the coefficients.
+fn write_coefficients(f: &[u32], words: &mut [u32])
+    requires { ⌜ (length (now f) ≤ length (now words)) × AllBelow 268435456 (now f) ⌝ }
+    ensures { λ _. ⌜ now (words .exit) ≡ overwritten (map (word 3) (now (f .entry))) (now (words .entry)) ⌝ }
+{
+    let mut i: usize = 0;
+    while i < f.len() {
+        words[i] = 0x30000000 + f[i];
+        i = i + 1;
+    }
+}
+
+// The start word, then the coefficients.
+fn write_polynomial(f: &[u32], words: &mut [u32])
+    requires { ⌜ (1 + length (now f) ≤ length (now words)) × (length (now f) < 268435456) × AllBelow 268435456 (now f) ⌝ }
+    ensures { λ _. ⌜ now (words .exit) ≡ overwritten (polynomialWords (now (f .entry))) (now (words .entry)) ⌝ }
+{
+    words[0] = 0x20000000 + f.len() as u32;
+    write_coefficients(f, &mut words[1..]);
+}
+
+// All polynomials, in written order; the number of their words.
+fn write_polynomials(
+    format: Format,
+    sizes: &[u32],
+    coefficients: &[u32],
+    words: &mut [u32],
+) -> usize
+    requires { ⌜ Holds format (now sizes) (now coefficients) × Writable format (now sizes) (now coefficients)
+        × (format .count * (1 + format .limit) ≤ length (now words)) ⌝ }
+    ensures { λ r. ⌜ Wrote
+        (polynomialsWords (entriesIn format (now (sizes .entry)) (now (coefficients .entry))))
+        (now (words .entry)) (now (words .exit)) r
+        × (r ≤ format .count * (1 + format .limit)) ⌝ }
+{
+    let limit = format.limit;
+    let count = format.count;
+    let mut at: usize = 0;
+    let mut k: usize = 0;
+    while k < count {
+        let size = sizes[k] as usize;
+        let from = limit * k;
+        write_polynomial(&coefficients[from..from + size], &mut words[at..]);
+        at = at + 1 + size;
+        k = k + 1;
+    }
+    at
+}
+
+// A head, the polynomials, an end; the number of all words.
+pub fn write_framed(format: Format, sizes: &[u32], coefficients: &[u32], words: &mut [u32]) -> usize
+    requires { ⌜ Holds format (now sizes) (now coefficients) × Writable format (now sizes) (now coefficients)
+        × (wordsFor (format .count) (format .limit) ≤ length (now words)) ⌝ }
+    ensures { λ r. ⌜ Wrote
+        (framedWords (format .head) (entriesIn format (now (sizes .entry)) (now (coefficients .entry))))
+        (now (words .entry)) (now (words .exit)) r ⌝ }
+{
+    words[0] = format.head;
+    let end = 1 + write_polynomials(format, sizes, coefficients, &mut words[1..]);
+    words[end] = 0x40000000 + (end + 1) as u32;
+    end + 1
+}
