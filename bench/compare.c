@@ -15,7 +15,8 @@
 enum { PASSES = 5, REPETITIONS = 15, FEWER_REPETITIONS = 3, NOT_DONE = 63 };
 enum { ROWS = PRIMES + SHAPES * PRIMES + LOADS - SHAPES };
 
-static const double least_time = 100e-6; // seconds that one measurement takes at least
+// seconds that one measurement takes at least: so long that it counts little what the program before it left in the caches
+static const double least_time = 1e-3;
 
 check_function check_O2, check_O3;
 solve_function solve_O3, solve_shared;
@@ -248,16 +249,17 @@ static size_t load_file(const char *folder, const char *name, uint8_t *bytes, si
     return count;
 }
 
-// processor seconds that other programs have used since the machine started, 0 where the system does not say
+// processor seconds that other programs have used since the machine started, or that the host of a virtual machine has kept for
+// itself; 0 where the system does not say
 static double others_seconds(void)
 {
-    double user = 0, nice = 0, kernel = 0;
+    double user = 0, nice = 0, kernel = 0, stolen = 0;
     FILE *f = fopen("/proc/stat", "r");
     if (f == NULL)
         return 0;
-    bool read = fscanf(f, "cpu %lf %lf %lf", &user, &nice, &kernel) == 3;
+    bool read = fscanf(f, "cpu %lf %lf %lf %*f %*f %*f %*f %lf", &user, &nice, &kernel, &stolen) == 4;
     fclose(f);
-    return read ? (user + nice + kernel) / (double)sysconf(_SC_CLK_TCK) - seconds(CLOCK_PROCESS_CPUTIME_ID) : 0;
+    return read ? (user + nice + kernel + stolen) / (double)sysconf(_SC_CLK_TCK) - seconds(CLOCK_PROCESS_CPUTIME_ID) : 0;
 }
 
 static void load_batch(struct batch *b, const char *folder, struct row *r)
