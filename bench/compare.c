@@ -15,7 +15,7 @@
 enum { PASSES = 5, REPETITIONS = 15, FEWER_REPETITIONS = 3, NOT_DONE = 63 };
 enum { ROWS = PRIMES + SHAPES * PRIMES + LOADS - SHAPES };
 
-// seconds that one measurement takes at least: so long that it counts little what the program before it left in the caches
+// seconds that one measurement takes at least: so long that what the program before it left in the caches counts little
 static const double least_time = 1e-3;
 
 check_function check_O2, check_O3;

@@ -2,7 +2,7 @@
 -- can start, and it holds the state in which `reduction` begins to insert the column.
 use Prim.Native.Nat.{ℕ, zero, suc, _+_, _-_, _%_, _<_, _≤_}
 use mathlib.Core.Path.{_≡_, refl, sym, _∙_, ap}
-use mathlib.Core.Logic.{inr, ⊎-elim}
+use mathlib.Core.Logic.{⊎-elim}
 use mathlib.Core.List.{List}
 use native.Mathlib.Nat.{zero-add, zero-mod, mod-eq-of-lt}
 use native.Mathlib.Omega.{arith}
@@ -13,7 +13,7 @@ use Rattle.algebra.specs.Series.{unit}
 use Rattle.algebra.specs.Polynomial.{Polynomial, polynomials, coefficients-one}
 use Rattle.modular.specs.Prime.{Prime}
 use Rattle.modular.specs.Residue.{residues}
-use Rattle.vector.specs.Stored.{stored, length-stored, stored-inside, stored-outside, below-or-not}
+use Rattle.vector.specs.Stored.{stored, length-stored, stored-inside, below-or-not}
 use Rattle.reduction.specs.Slots.{Slots}
 use Rattle.reduction.specs.Inserting.{cleared, begin}
 use Rattle.reduction.specs.Holds.{Holds}

@@ -5,7 +5,7 @@ use lib.ListN.{getD, set}
 use Rattle.vector.specs.Stored.{stored}
 use Rattle.lattice.specs.declared.hand.Hand.{Hand}
 
--- the column in 128 words
+-- the column in the first 128 words; others stay
 abbrev pub laidBlock : List ℕ → List ℕ → List ℕ
 laidBlock column block = stored (λ j. getD column (0 + j) 0) block 0 128
 

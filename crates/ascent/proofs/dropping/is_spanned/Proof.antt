@@ -1,4 +1,4 @@
--- `is_spanned` meets its contract: the block is the column, and zeros behind it.
+-- `is_spanned` meets its contract: the block is the column.
 use Prim.Native.Nat.{ℕ, _*_}
 use mathlib.Core.Path.{refl}
 use mathlib.Core.List.{List}
