@@ -7,15 +7,14 @@ use lib.ListN.{getD}
 use Rattle.algebra.specs.Polynomial.{Polynomial, polynomials}
 use Rattle.modular.specs.Prime.{Prime}
 use Rattle.modular.specs.Residue.{residues}
-use Rattle.reduction.specs.Slots.{Slots, unweighted}
-use Rattle.reduction.specs.Flat.{Flat}
+use Rattle.reduction.specs.Slots.{Slots, SameBlocks, unweighted}
 use Rattle.reduction.specs.Polynomials.{euclidean}
 use Rattle.reduction.specs.Levels.{Levels}
 use Rattle.reduction.specs.Descent.{Descent}
 use Rattle.reduction.specs.Unfinished.{Unfinished}
-use Rattle.lattice.specs.Word.{words}
 use Rattle.lattice.specs.Memory.{Level}
 use Rattle.lattice.specs.Holding.{HoldsSlots}
+use Rattle.lattice.specs.Coefficients.{HoldsCoefficients}
 use Rattle.areas.specs.Input.{Equations, systemOf, HoldsSystem}
 use Rattle.areas.specs.Output.{ValidOutput, HoldsAt, HoldsAbsence}
 
@@ -26,11 +25,15 @@ module _ (p : ℕ) (prime : Prime p) (n m : ℕ) where
     pub level : ℕ → Slots (Polynomial (residues p prime))
     pub kernel : ℕ → Polynomial (residues p prime)
     pub levels : Levels (systemOf p prime n m X) level kernel j
-    pub holds : HoldsSlots p prime n unweighted L (level j)
+    -- memory has the blocks of level j, with whatever tails
+    pub slots : Slots (Polynomial (residues p prime))
+    pub holds : HoldsSlots p prime n unweighted L slots
+    pub blocks : SameBlocks n slots (level j)
 
-  -- a solution certificate but for the numerators of the columns before j, and what is left of d·b for these
+  -- a solution certificate but for the numerators of the columns before j, and what is left of d·b for these, as coefficients of the
+  -- blocks of level j
   pub record HoldsDescended {X : Equations p prime n m} {j : ℕ} {input : List ℕ} {L : Level} (H : HoldsLevels X j input L)
-      (t output : List ℕ) : Type 0 where
+      (quotients output : List ℕ) : Type 0 where
     pub level : ℕ → Slots (Polynomial (residues p prime))
     pub kernel : ℕ → Polynomial (residues p prime)
     pub levels : Levels (systemOf p prime n m X) level kernel m
@@ -48,13 +51,13 @@ module _ (p : ℕ) (prime : Prime p) (n m : ℕ) where
     pub holds-N : (k : ℕ) → j ≤ k → k < m → HoldsAt p prime output (1 + k) (N k)
     pub holds-w : HoldsAt p prime output (1 + m) w
     pub holds-Z : (i : ℕ) → i < n → HoldsAt p prime output (2 + m + i) (Z i)
-    pub holds-vector : Flat (residues p prime) n 8 unweighted (words p prime t 0 1088) vector
+    pub coefficients : HoldsCoefficients p prime n (level j) vector quotients
 
   -- whether there is a solution
   unfoldable pub HoldsAscended : Bool → (X : Equations p prime n m) {j : ℕ} {input : List ℕ} {L : Level} → HoldsLevels X j input L
       → List ℕ → List ℕ → Type 0
-  HoldsAscended true X H t output = HoldsDescended H t output
-  HoldsAscended false X H t output = HoldsAbsence p prime (systemOf p prime n m X) output
+  HoldsAscended true X H quotients output = HoldsDescended H quotients output
+  HoldsAscended false X H quotients output = HoldsAbsence p prime (systemOf p prime n m X) output
 
 -- some system has this level
 pub record HasLevels (p n m j : ℕ) (input : List ℕ) (L : Level) : Type 0 where
@@ -62,8 +65,8 @@ pub record HasLevels (p n m j : ℕ) (input : List ℕ) (L : Level) : Type 0 whe
   pub equations : Equations p prime n m
   pub levels : HoldsLevels p prime n m equations j input L
 
-pub record Ascended (p n m j : ℕ) (input : List ℕ) (L : Level) (t output : List ℕ) (solved : Bool) : Type 0 where
-  pub below : (i : ℕ) → getD t i 0 < p
+pub record Ascended (p n m j : ℕ) (input : List ℕ) (L : Level) (quotients output : List ℕ) (solved : Bool) : Type 0 where
+  pub below : (i : ℕ) → getD quotients i 0 < p
   pub valid : ValidOutput p output
   pub holds : (prime : Prime p) (X : Equations p prime n m) (H : HoldsLevels p prime n m X j input L)
-      → HoldsAscended p prime n m solved X H t output
+      → HoldsAscended p prime n m solved X H quotients output

@@ -18,9 +18,9 @@ use Rattle.ascent.specs.Ascended.{HoldsLevels, HoldsDescended, HoldsAsce
 use Rattle.ascent.specs.Certifies.{Certifies}
 use Rattle.ascent.specs.Empty.{empty-levels}
 
-module _ {p n m : ℕ} (few : n ≤ 8) {input : List ℕ} {L : Level} (t output : List ℕ) where
+module _ {p n m : ℕ} (few : n ≤ 8) {input : List ℕ} {L : Level} (quotients output : List ℕ) where
   module _ (prime : Prime p) {X : Equations p prime n m} (H : HoldsLevels p prime n m X 0 input L) where
-    solution : HoldsDescended p prime n m H t output → HoldsSolution p prime (systemOf p prime n m X) output
+    solution : HoldsDescended p prime n m H quotients output → HoldsSolution p prime (systemOf p prime n m X) output
     solution D = record {
       d = D .d;
       N = D .N;
@@ -36,13 +36,13 @@ module _ {p n m : ℕ} (few : n ≤ 8) {input : List ℕ} {L : Level} (t output 
       holds-Z = D .holds-Z;
     }
 
-    certificate : (solved : Bool) → HoldsAscended p prime n m solved X H t output
+    certificate : (solved : Bool) → HoldsAscended p prime n m solved X H quotients output
         → HoldsCertificate p prime (systemOf p prime n m X) output solved
     unfolding HoldsAscended HoldsCertificate
     certificate true D = solution D
     certificate false A = A
 
-  pub certifies : AtMost 0 (L .slots) → AtMost 0 (L .sizes) → {solved : Bool} → Ascended p n m 0 input L t output solved
+  pub certifies : AtMost 0 (L .slots) → AtMost 0 (L .sizes) → {solved : Bool} → Ascended p n m 0 input L quotients output solved
       → Certifies p n m input output solved
   certifies zeros zero-sizes {solved} A = record {
     valid = A .valid;

@@ -50,7 +50,9 @@ module _ (L : Level) (zeros : AtMost 0 (L .slots)) (zero-sizes : AtMost 0 (L .si
       level = λ k. empty prime;
       kernel = λ k. polynomials (residues p prime) .zero;
       levels = record { empty = λ q h. refl; link = λ j h. absurd (omega arith) };
+      slots = empty prime;
       holds = record { size = λ q h. omega (arith, zero-sizes q); vector = λ q h f. absurd (omega arith) };
+      blocks = record { sizes = λ q h. refl; vectors = λ q k h f l. refl };
     }
 
   pub has-empty : {p n m : ℕ} {input : List ℕ} → HasSystem p n m input → HasLevels p n m 0 input L

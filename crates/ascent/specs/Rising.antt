@@ -1,79 +1,58 @@
--- One column up: the level after it, and its kernel, behind the levels so far.
-use Prim.Native.Nat.{ℕ, suc, _+_, _*_, _<_, _≤_}
-use mathlib.Core.Path.{_≡_, sym, _∙_, ap, subst, subst₂}
+-- A column that is inserted, up: what is left of it makes the next level, which is linked to the one before as the column's own.
+use Prim.Native.Nat.{ℕ, suc, _*_, _<_, _≤_}
+use mathlib.Core.Path.{_≡_, refl}
 use mathlib.Core.List.{List}
-use native.Mathlib.Numerals.{add-one}
 use native.Mathlib.Omega.{arith}
 use Rattle.algebra.specs.Polynomial.{Polynomial}
-use Rattle.algebra.specs.Size.{sized}
+use Rattle.algebra.specs.Size.{size, sized}
 use Rattle.modular.specs.Prime.{Prime}
 use Rattle.modular.specs.Residue.{residues}
-use Rattle.reduction.specs.Replace.{replace, replace-here, replace-other}
-use Rattle.reduction.specs.Slots.{Slots, Same, same-refl, unweighted}
-use Rattle.reduction.specs.Link.{Link}
-use Rattle.reduction.specs.Levels.{Levels, levels-next}
-use Rattle.reduction.specs.Holds.{Holds}
+use Rattle.reduction.specs.Slots.{Slots, same-refl, same-blocks, unweighted}
+use Rattle.reduction.specs.Link.{link-shift, link-same}
 use Rattle.lattice.specs.Memory.{Level}
-use Rattle.lattice.specs.Holding.{HoldsSlots}
-use Rattle.lattice.specs.Word.{words}
+use Rattle.lattice.specs.Reading.{ends-pivot}
+use Rattle.lattice.specs.Coefficients.{coefficients-blocks}
 use Rattle.levels.specs.Linked.{Linked}
 use Rattle.levels.specs.Next.{NextLevel}
-use Rattle.areas.specs.Input.{Equations, systemOf}
-use Rattle.ascent.specs.Ascended.{HoldsLevels, HasLevels}
+use Rattle.filling.specs.Column.{HoldsLeft, ColumnDivided}
+use Rattle.areas.specs.Input.{Equations}
+use Rattle.ascent.specs.Ascended.{HoldsLevels}
+use Rattle.ascent.specs.Extending.{Extension}
 
-module _ {p : ℕ} {n m j : ℕ} {input : List ℕ} {L L′ : Level} {kernel : List ℕ} {found : ℕ} (inside : j < m)
-    (next : NextLevel p L input (128 * j) L′ kernel found) where
+-- something is left of column j, in `rest`
+pub record Leaves (p : ℕ) (L : Level) (input : List ℕ) (j : ℕ) (rest : List ℕ) : Type 0 where
+  pub factors : List ℕ
+  pub left : ℕ
+  pub divided : ColumnDivided p L input (128 * j) rest factors left
+  pub some : 0 < left
+
+module _ {p : ℕ} {n m j : ℕ} {input : List ℕ} {L L′ : Level} {rest factors kernel : List ℕ} {left found : ℕ} (inside : j < m)
+    (C : ColumnDivided p L input (128 * j) rest factors left) (some : 0 < left) (next : NextLevel p L rest 0 L′ kernel found) where
   module _ (prime : Prime p) {X : Equations p prime n m} (H : HoldsLevels p prime n m X j input L) where
-    abbrev K : Linked p prime n 15 (λ i. X .matrix i j) (H .level j) L′ kernel
-    K = next .linked prime n 15 (H .level j) (λ i. X .matrix i j) (λ i h. X .matrix-small i j h inside) (H .holds)
-        (H .system .column j inside)
+    abbrev Q : HoldsLeft p prime n (H .slots) (λ i. X .matrix i j) rest factors
+    Q = C .divides prime n (H .slots) (λ i. X .matrix i j) (H .holds) (H .system .column j inside)
 
-    abbrev level′ : ℕ → Slots (Polynomial (residues p prime))
-    level′ = replace (H .level) (j + 1) (K .slots)
+    small : (i : ℕ) → i < n → size (residues p prime) (Q .vector i) ≤ suc 15
+    small i h = omega (arith, ends-pivot p prime (C .ends) (Q .holds) some .all i h, C .ends .within)
 
-    abbrev kernel′ : ℕ → Polynomial (residues p prime)
-    kernel′ = replace (H .kernel) j (K .polynomial)
+    pub K : Linked p prime n 15 (Q .vector) (H .slots) L′ kernel
+    K = next .linked prime n 15 (H .slots) (Q .vector) small (H .holds) (Q .holds)
 
-    earlier-level : (k : ℕ) → k ≤ j → level′ k ≡ H .level k
-    earlier-level k h = replace-other (H .level) (j + 1) (K .slots) k (λ e. omega arith)
-
-    earlier-kernel : (k : ℕ) → k < j → kernel′ k ≡ H .kernel k
-    earlier-kernel k h = replace-other (H .kernel) j (K .polynomial) k (λ e. omega arith)
-
-    abbrev Links : (U U′ : Slots (Polynomial (residues p prime))) → Polynomial (residues p prime) → Type 0
-    Links = Link (sized (residues p prime)) n 15 (λ i. X .matrix i j)
-
-    link : Links (level′ j) (level′ (suc j)) (kernel′ j)
-    link = subst₂ (λ U κ. Links U (level′ (suc j)) κ) (sym (earlier-level j (omega arith)))
-        (sym (replace-here (H .kernel) j (K .polynomial)))
-        (subst (λ U. Links (H .level j) U (K .polynomial))
-        (sym (ap level′ (sym (add-one j)) ∙ replace-here (H .level) (j + 1) (K .slots))) (K .link))
-
-    pub raised : HoldsLevels p prime n m X (j + 1) input L′
-    raised = record {
-      system = H .system;
-      level = level′;
-      kernel = kernel′;
-      levels = subst (Levels (systemOf p prime n m X) level′ kernel′) (sym (add-one j))
-          (levels-next (systemOf p prime n m X) (H .levels)
-          (λ k h. subst (Same n (H .level k)) (sym (earlier-level k h)) (same-refl (H .level k)))
-          (λ k h. sym (earlier-kernel k h)) link);
-      holds = subst (HoldsSlots p prime n unweighted L′) (sym (replace-here (H .level) (j + 1) (K .slots))) (K .holds);
+    pub rising : Extension p prime H L′
+    rising = record {
+      next = K .slots;
+      kernel = K .polynomial;
+      link = link-shift (sized (residues p prime)) n 15 (coefficients-blocks prime (H .blocks) (Q .coefficients) .span)
+          (link-same (sized (residues p prime)) n 15 (H .blocks) (same-refl (K .slots)) (K .link));
+      slots = K .slots;
+      holds = K .holds;
+      blocks = same-blocks (same-refl (K .slots));
     }
 
-    -- the earlier levels and kernels stay
-    pub raised-level : (k : ℕ) → k ≤ j → raised .level k ≡ H .level k
-    unfolding raised
-    raised-level = earlier-level
+    pub rising-next : rising .next ≡ K .slots
+    unfolding rising
+    rising-next = refl
 
-    pub raised-kernel : (k : ℕ) → k < j → raised .kernel k ≡ H .kernel k
-    unfolding raised
-    raised-kernel = earlier-kernel
-
-    pub raised-holds-kernel : Holds (residues p prime) (words p prime kernel 0 128) (raised .kernel j)
-    unfolding raised
-    raised-holds-kernel = subst (Holds (residues p prime) (words p prime kernel 0 128))
-        (sym (replace-here (H .kernel) j (K .polynomial))) (K .holds-kernel)
-
-  pub has-raised : HasLevels p n m j input L → HasLevels p n m (j + 1) input L′
-  has-raised has = record { prime = has .prime; equations = has .equations; levels = raised (has .prime) (has .levels) }
+    pub rising-kernel : rising .kernel ≡ K .polynomial
+    unfolding rising
+    rising-kernel = refl

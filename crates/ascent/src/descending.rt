@@ -1,48 +1,53 @@
-// A turn of the way down, with areas of its own to work in.
+// A column that was inserted, on the way down, with areas of its own to work in.
 use descent::descend_column;
+use lattice::divide;
 use residue::modulus::Modulus;
+use vector::clear;
 ghost use mathlib.Core.Path.{_≡_};
 ghost use Prim.Native.Nat.{ℕ, _+_, _*_, _<_, _≤_};
 ghost use lib.ListN.{length, getD};
 ghost use Rattle.residue.specs.Modulus.{ValidModulus};
 ghost use Rattle.lattice.specs.Memory.{level, ValidLevel};
 ghost use Rattle.descent.specs.Kernel.{ValidKernel};
-ghost use Rattle.descent.specs.Turn.{Turned};
 ghost use Rattle.areas.specs.Input.{ValidInput};
 ghost use Rattle.areas.specs.Output.{ValidOutput};
+ghost use Rattle.ascent.specs.Falling.{Fallen};
 
-// Column j of the input, whose level and kernel are given: its numerator goes to the output, and its part is taken off t. Returns
-// the size of the numerator.
+// Column j of the input, between the level before it and the level `up` that its insertion made, with its kernel of so many words: its
+// numerator goes to the output, and the quotients become those of what is left by the level before.
 pub fn descend(
-    t: &mut [u64],
     slots: &[u64],
     sizes: &[usize],
     inverses: &[u64],
+    up: &[u64],
+    ends: &[usize],
+    reciprocals: &[u64],
     n: usize,
     kernel: &[u64],
     size: usize,
     input: &[u64],
     j: usize,
+    quotients: &mut [u64],
     output: &mut [u64],
     modulus: Modulus,
-) -> usize
+)
     requires { ⌜ ValidModulus modulus × (n ≤ 8) × (j < 8) × ValidInput (modulus .p) (now input) ⌝ }
     requires level { ⌜ ValidLevel (modulus .p) (level (now slots) (now sizes) (now inverses)) ⌝ }
+    requires upper { ⌜ ValidLevel (modulus .p) (level (now up) (now ends) (now reciprocals)) ⌝ }
     requires kernel { ⌜ ValidKernel (modulus .p) (now kernel) 0 size ⌝ }
-    requires vector { ⌜ (length (now t) ≡ 1088) × ((i : ℕ) → getD (now t) i 0 < modulus .p) ⌝ }
+    requires coefficients { ⌜ (length (now quotients) ≡ 1088) × ((i : ℕ) → getD (now quotients) i 0 < modulus .p) ⌝ }
     requires area { ⌜ ValidOutput (modulus .p) (now output) ⌝ }
-    ensures { λ r. ⌜ Turned (modulus .p) (level (now (slots .entry)) (now (sizes .entry)) (now (inverses .entry))) n
-        (now (kernel .entry)) 0 (now (input .entry)) (128 * j) (now (t .entry)) (now (output .entry)) (128 * (1 + j))
-        (now (t .exit)) (now (output .exit)) r ⌝ }
+    ensures { λ _. ⌜ Fallen (modulus .p) (level (now (slots .entry)) (now (sizes .entry)) (now (inverses .entry)))
+        (level (now (up .entry)) (now (ends .entry)) (now (reciprocals .entry))) n (now (kernel .entry)) (now (input .entry)) (128 * j)
+        (now (quotients .entry)) (now (output .entry)) (128 * (1 + j)) (now (quotients .exit)) (now (output .exit)) ⌝ }
 {
-    let mut block = [0u64; 1088];
-    let mut quotients = [0u64; 1088];
+    let mut t = [0u64; 1088];
     let mut y = [0u64; 256];
     descend_column(
-        t,
-        slots,
-        sizes,
-        inverses,
+        quotients,
+        up,
+        ends,
+        reciprocals,
         n,
         kernel,
         0,
@@ -51,9 +56,10 @@ pub fn descend(
         128 * j,
         output,
         128 * (1 + j),
-        &mut block,
-        &mut quotients,
+        &mut t,
         &mut y,
         modulus,
-    )
+    );
+    clear(quotients, 0, 1088);
+    divide(slots, sizes, inverses, &mut t, 1088, quotients, modulus);
 }

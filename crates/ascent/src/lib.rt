@@ -10,6 +10,7 @@ ghost use Rattle.ascent.specs.Certifies.{HasSystem, Certifies};
 pub mod ascending;
 pub mod descending;
 pub mod dropping;
+pub mod top;
 
 // The certificate of a system of n rows and m columns, to the output. Returns whether it is a solution.
 pub fn certify(input: &[u64], n: usize, m: usize, output: &mut [u64], modulus: Modulus) -> bool
@@ -18,19 +19,19 @@ pub fn certify(input: &[u64], n: usize, m: usize, output: &mut [u64], modulus: M
     requires area { ⌜ ValidOutput (modulus .p) (now output) ⌝ }
     ensures { λ r. ⌜ Certifies (modulus .p) n m (now (input .entry)) (now (output .exit)) r ⌝ }
 {
-    let slots = [0u64; 2048];
-    let sizes = [0usize; 16];
-    let inverses = [0u64; 8];
-    let mut t = [0u64; 1088];
+    let mut slots = [0u64; 2048];
+    let mut sizes = [0usize; 16];
+    let mut inverses = [0u64; 8];
+    let mut quotients = [0u64; 1088];
     ascend(
         input,
         n,
         m,
         0,
-        &slots,
-        &sizes,
-        &inverses,
-        &mut t,
+        &mut slots,
+        &mut sizes,
+        &mut inverses,
+        &mut quotients,
         output,
         modulus,
     )

@@ -1,7 +1,7 @@
 -- `take_column`: what is stored, and what is left of the block.
 use Prim.Native.Nat.{ℕ, zero, _+_, _-_, _*_, _%_, _<_, _≤_}
 use mathlib.Core.Path.{_≡_, refl, sym, _∙_, ap, ap₂, subst}
-use mathlib.Core.Logic.{inl, inr, ⊎-elim}
+use mathlib.Core.Logic.{_⊎_, inl, inr, ⊎-elim}
 use mathlib.Core.List.{List, [], _∷_}
 use native.Mathlib.Nat.{mod-lt, mod-eq-of-lt, zero-add}
 use native.Mathlib.Omega.{arith}
@@ -15,7 +15,7 @@ use Rattle.algebra.specs.Polynomial.{equal-coefficients, coefficients-zero, coe
 use Rattle.algebra.specs.Expressions.{shift, shift-mul}
 use Rattle.modular.specs.Prime.{Prime}
 use Rattle.modular.specs.Modulo.{modulo}
-use Rattle.modular.specs.Residue.{Residue, residues}
+use Rattle.modular.specs.Residue.{residues}
 use Rattle.residue.specs.Below.{neg-below}
 use Rattle.vector.specs.Reduced.{polynomial}
 use Rattle.vector.specs.Stored.{stored, length-stored, stored-inside, stored-outside, below-or-not}
@@ -30,6 +30,7 @@ use Rattle.lattice.specs.Found.{found-ends}
 use Rattle.descent.specs.Read.{read-zeros}
 use Rattle.descent.specs.Product.{strided, less, TakesProduct}
 use Rattle.descent.specs.Column.{TakesColumn}
+use Rattle.descent.proofs.Lanes.{none-held}
 
 module _ {p : ℕ} (prime₀ : Prime p) where
   positive : 0 < p
@@ -47,34 +48,43 @@ module _ {p : ℕ} (prime₀ : Prime p) where
       let more : 0 < p - w % p = omega (arith, mod-lt w positive) in
       omega (arith, mod-eq-of-lt less, mod-eq-of-lt (mod-lt (p - w % p) positive))
 
-  module _ (h h′ : List ℕ) (a : ℕ) (y : List ℕ) (stores : h′ ≡ stored (λ j. modulo p .neg (getD y j 0 % p)) h a 128)
-      (room : a + 128 ≤ length h) where
-    stored-word : (j : ℕ) → j < 128 → getD h′ (a + j) 0 ≡ modulo p .neg (getD y j 0 % p)
-    stored-word j lt = ap (λ l. getD l (a + j) 0) stores ∙ stored-inside _ h a 128 j room lt
+  -- what `store_negated` does
+  module _ (h h′ : List ℕ) (a : ℕ) (y : List ℕ) (n : ℕ) (stores : h′ ≡ stored (λ j. modulo p .neg (getD y j 0 % p)) h a n)
+      (room : a + n ≤ length h) where
+    pub stored-word : (j : ℕ) → j < n → getD h′ (a + j) 0 ≡ modulo p .neg (getD y j 0 % p)
+    stored-word j lt = ap (λ l. getD l (a + j) 0) stores ∙ stored-inside _ h a n j room lt
 
     pub stored-length : length h′ ≡ length h
-    stored-length = ap length stores ∙ length-stored _ h a 128
+    stored-length = ap length stores ∙ length-stored _ h a n
 
-    pub stored-below : ((i : ℕ) → getD h i 0 < p) → (i : ℕ) → getD h′ i 0 < p
+    pub stored-below : ((i : ℕ) → (i < a) ⊎ (a + n ≤ i) → getD h i 0 < p) → (i : ℕ) → getD h′ i 0 < p
     stored-below below i =
         ⊎-elim
-        (λ lo. subst (λ x. x < p) (sym (ap (λ l. getD l i 0) stores ∙ stored-outside _ h a 128 i (inl lo))) (below i))
+        (λ lo. kept (inl lo))
         (λ ge. ⊎-elim
         (λ hi.
         let place : a + (i - a) ≡ i = omega arith in
         subst (λ x. x < p) (sym (ap (λ z. getD h′ z 0) (sym place) ∙ stored-word (i - a) (omega arith)))
         (neg-below p (prime₀ .large) (getD y (i - a) 0 % p)))
-        (λ hi. subst (λ x. x < p) (sym (ap (λ l. getD l i 0) stores ∙ stored-outside _ h a 128 i (inr hi))) (below i))
-        (below-or-not i (a + 128)))
+        (λ hi. kept (inr hi))
+        (below-or-not i (a + n)))
         (below-or-not i a)
+      where
+        kept : (i < a) ⊎ (a + n ≤ i) → getD h′ i 0 < p
+        kept out = subst (λ x. x < p) (sym (ap (λ l. getD l i 0) stores ∙ stored-outside _ h a n i out)) (below i out)
+
+  module _ (h h′ : List ℕ) (a : ℕ) (y : List ℕ) (stores : h′ ≡ stored (λ j. modulo p .neg (getD y j 0 % p)) h a 128)
+      (room : a + 128 ≤ length h) where
+    coordinate-word : (j : ℕ) → j < 128 → getD h′ (a + j) 0 ≡ modulo p .neg (getD y j 0 % p)
+    coordinate-word = stored-word h h′ a y 128 stores room
 
     pub stored-ends : (size : ℕ) → size ≡ length (polynomial p y 0 128) → Ends p h′ a 128 size
     stored-ends size found =
         let E = found-ends p positive y 128 128 (omega arith) (λ j ge lt. absurd (omega arith)) size found in record {
           within = E .within;
-          last = λ some. subst (λ x. 0 < x % p) (sym (stored-word (size - 1) (omega (arith, E .within))))
+          last = λ some. subst (λ x. 0 < x % p) (sym (coordinate-word (size - 1) (omega (arith, E .within))))
               (neg-positive (getD y (size - 1) 0) (subst (λ i. 0 < getD y i 0 % p) (zero-add (size - 1)) (E .last some)));
-          behind = λ j ge lt. ap (λ x. x % p) (stored-word j lt)
+          behind = λ j ge lt. ap (λ x. x % p) (coordinate-word j lt)
               ∙ neg-zero-word (getD y j 0) (ap (λ i. getD y i 0 % p) (sym (zero-add j)) ∙ E .behind j ge lt);
         }
 
@@ -94,7 +104,7 @@ module _ {p : ℕ} (prime₀ : Prime p) where
 
       word-is : (j : ℕ) → j < 128 → residue p prime (getD h′ (a + j) 0) ≡ coefficients (residues p prime) x j
       word-is j lt =
-          ap (residue p prime) (stored-word j lt)
+          ap (residue p prime) (coordinate-word j lt)
           ∙ residue-minus p prime (getD y j 0)
           ∙ ap (residues p prime .ring .neg) (sym (words-first p prime y 256 j (omega arith)))
           ∙ sym (coefficient-is j)
@@ -160,10 +170,6 @@ module _ {p : ℕ} {t h : List ℕ} {a : ℕ} {columns : List ℕ} {at : ℕ} {t
       (λ w. Holds (residues p prime) (λ e. words p prime t′ 0 1088 (flat 8 i e)) (less p prime y w z)) is
       (T .holds 1088 (omega arith) room prime i lane y z C D)
 
-  none : (H : ℕ → Residue p) → ((e : ℕ) → H e ≡ residues p prime .ring .zero) → Holds (residues p prime) H
-      (polynomials (residues p prime) .zero)
-  none H z = record { at = λ e. coefficients-zero (residues p prime) e ∙ sym (z e) }
-
   abbrev 𝟘 : Polynomial (residues p prime)
   𝟘 = polynomials (residues p prime) .zero
 
@@ -178,7 +184,7 @@ module _ {p : ℕ} {t h : List ℕ} {a : ℕ} {columns : List ℕ} {at : ℕ} {t
         (shift-less p prime (ω i) (v i) x (u i))
         (lane-after i (omega (arith, A .lanes)) _ _ (A .lane i lt) (B .lane i lt));
     beside = λ i e out lane.
-        sym (lane-after i lane 𝟘 𝟘 (none _ (λ f. A .beside i f out lane)) (none _ (λ f. B .beside i f out lane)) .at e)
+        sym (lane-after i lane 𝟘 𝟘 (none-held p prime (λ f. A .beside i f out lane)) (none-held p prime (λ f. B .beside i f out lane)) .at e)
         ∙ ap (λ y. coefficients (residues p prime) y e) nothing
         ∙ coefficients-zero (residues p prime) e;
   }

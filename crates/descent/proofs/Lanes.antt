@@ -1,22 +1,27 @@
 -- What a range of words holds, read as one lane, as a shorter range, or with strides.
-use Prim.Native.Nat.{ℕ, _+_, _-_, _*_, _<_, _≤_}
+use Prim.Native.Nat.{ℕ, _+_, _-_, _*_, _%_, _<_, _≤_}
 use mathlib.Core.Path.{_≡_, sym, _∙_, ap}
 use mathlib.Core.Logic.{⊎-elim}
 use mathlib.Core.List.{List}
+use native.Mathlib.Nat.{zero-mod}
 use native.Mathlib.Omega.{arith}
 use native.Mathlib.Decide.{decLt}
 use lib.ListN.{getD}
 use Rattle.algebra.specs.Field.{Field}
-use Rattle.algebra.specs.Polynomial.{Polynomial, coefficients, equal-coefficients}
+use Rattle.algebra.specs.Polynomial.{Polynomial, polynomials, coefficients, equal-coefficients, coefficients-zero}
+use Rattle.algebra.specs.Size.{size, coefficients-beyond}
 use Rattle.modular.specs.Prime.{Prime}
-use Rattle.modular.specs.Residue.{residues}
+use Rattle.modular.specs.Residue.{Residue, residues}
+use Rattle.vector.specs.Bound.{AtMost}
 use Rattle.vector.specs.Stored.{below-or-not}
-use Rattle.reduction.specs.Holds.{Holds, read, read-at, read-beyond}
+use Rattle.reduction.specs.Holds.{Holds, holds-size, read-at, read-beyond}
 use Rattle.reduction.specs.Flat.{flat}
 use Rattle.lattice.specs.Memory.{ZeroFrom}
 use Rattle.lattice.specs.Word.{residue, words, words-inside, words-behind, words-first}
 use Rattle.lattice.specs.Range.{words-zero}
+use Rattle.lattice.specs.Quotients.{HoldsQuotient}
 use Rattle.descent.specs.Product.{strided}
+use Rattle.descent.specs.Combination.{factor}
 
 pub holds-same : {K : Type 0} {F : Field K} {H H′ : ℕ → K} {x : Polynomial F} → ((e : ℕ) → H e ≡ H′ e) → Holds F H x → Holds F H′ x
 holds-same same A = record { at = λ e. A .at e ∙ same e }
@@ -34,20 +39,36 @@ module _ (p : ℕ) (prime : Prime p) where
       (λ ge. words-zero p prime l b n m z j ge ∙ sym (words-behind p prime l b m j ge))
       (below-or-not j m)
 
-  -- the lane of row q is what `strided` reads
-  pub quotient-read : (l : List ℕ) (q : ℕ) → q < 8 → (x : Polynomial (residues p prime))
-      → Holds (residues p prime) (λ e. words p prime l 0 1088 (flat 8 q e)) x
-      → x ≡ read (residues p prime) 136 (strided p prime l (7 - q) 8)
-  quotient-read l q lt x A = equal-coefficients (residues p prime) _ _ (λ e. A .at e ∙ go e (decLt e 136))
+  -- the lane of row q: how much it has room for, and what `strided` reads of it
+  module _ (l : List ℕ) (q : ℕ) (lt : q < 8) (x : Polynomial (residues p prime)) (A : HoldsQuotient p prime l q x) where
+    pub quotient-size : size (residues p prime) x ≤ 136
+    quotient-size = holds-size (residues p prime) A 136 (λ e ge. words-behind p prime l 0 1088 (flat 8 q e) (omega arith))
+
+    pub quotient-read : (k : ℕ) → k ≤ 136 → size (residues p prime) x ≤ k → factor p prime l k q ≡ x
+    quotient-read k most short = equal-coefficients (residues p prime) _ _ (λ e. go e (decLt e k))
+      where
+        go : (e : ℕ) → Dec (e < k) → coefficients (residues p prime) (factor p prime l k q) e ≡ coefficients (residues p prime) x e
+        go e (yes h) =
+            let place : flat 8 q e ≡ 7 - q + e * 8 = omega arith in
+            read-at (residues p prime) k (strided p prime l (7 - q) 8) e h
+            ∙ ap (λ i. residue p prime (getD l i 0)) (sym place)
+            ∙ sym (words-first p prime l 1088 (flat 8 q e) (omega arith))
+            ∙ sym (A .at e)
+        go e (no h) =
+            read-beyond (residues p prime) k (strided p prime l (7 - q) 8) e (omega arith)
+            ∙ sym (coefficients-beyond (residues p prime) x e (omega arith))
+
+  pub none-held : {H : ℕ → Residue p} → ((e : ℕ) → H e ≡ residues p prime .ring .zero) → Holds (residues p prime) H
+      (polynomials (residues p prime) .zero)
+  none-held z = record { at = λ e. coefficients-zero (residues p prime) e ∙ sym (z e) }
+
+  -- words that are all 0 hold zero
+  pub zeros-held : (l : List ℕ) → AtMost 0 l → (N : ℕ) (f : ℕ → ℕ)
+      → Holds (residues p prime) (λ e. words p prime l 0 N (f e)) (polynomials (residues p prime) .zero)
+  zeros-held l none N f = none-held (λ e. words-zero p prime l 0 N 0 (λ j ge lt. zero-word j) (f e) (omega arith))
     where
-      go : (e : ℕ) → Dec (e < 136)
-          → words p prime l 0 1088 (flat 8 q e) ≡ coefficients (residues p prime)
-          (read (residues p prime) 136 (strided p prime l (7 - q) 8)) e
-      go e (yes h) =
-          let place : flat 8 q e ≡ 7 - q + e * 8 = omega arith in
-          words-first p prime l 1088 (flat 8 q e) (omega arith)
-          ∙ ap (λ i. residue p prime (getD l i 0)) place
-          ∙ sym (read-at (residues p prime) 136 (strided p prime l (7 - q) 8) e h)
-      go e (no h) =
-          words-behind p prime l 0 1088 (flat 8 q e) (omega arith)
-          ∙ sym (read-beyond (residues p prime) 136 (strided p prime l (7 - q) 8) e (omega arith))
+      nothing : (j : ℕ) → getD l (0 + j) 0 ≡ 0
+      nothing j = omega (arith, none (0 + j))
+
+      zero-word : (j : ℕ) → getD l (0 + j) 0 % p ≡ 0
+      zero-word j = ap (λ w. w % p) (nothing j) ∙ zero-mod p

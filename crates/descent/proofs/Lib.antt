@@ -4,4 +4,5 @@ pub mod Combinations
 pub mod Kernels
 pub mod Columns
 pub mod Coordinates
+pub mod Combining
 pub mod Turning

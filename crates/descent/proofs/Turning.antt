@@ -13,37 +13,35 @@ use Rattle.modular.specs.Residue.{residues}
 use Rattle.vector.specs.Stored.{stored-outside}
 use Rattle.reduction.specs.Replace.{replace, replace-here, replace-other}
 use Rattle.reduction.specs.Slots.{unweighted}
-use Rattle.reduction.specs.Descent.{Descent, Turn, descent-turn}
+use Rattle.reduction.specs.Descent.{Descent, Turn, descent-turn, descent-room}
 use Rattle.reduction.specs.Holds.{holds-size, holds-size-exact}
+use Rattle.reduction.specs.Flat.{Flat}
 use Rattle.lattice.specs.Memory.{Level, ZeroFrom}
 use Rattle.lattice.specs.Word.{words}
 use Rattle.lattice.specs.Range.{words-zero, zero-word}
-use Rattle.lattice.specs.Quotients.{Dividend}
 use Rattle.descent.specs.Product.{less}
 use Rattle.descent.specs.Kernel.{ValidKernel}
 use Rattle.descent.specs.Coordinate.{Coordinate, FindsCoordinate}
+use Rattle.descent.specs.Blocks.{CombinesBlocks}
 use Rattle.descent.specs.Column.{HoldsRest, TakesColumn}
 use Rattle.descent.specs.Turn.{HoldsDescent, HoldsTurn, Turned}
 use Rattle.descent.proofs.Columns.{stored-length, stored-below}
 
-module _ {p : ℕ} {L : Level} {n : ℕ} {kernels : List ℕ} {kernel size₀ : ℕ} {columns : List ℕ} {at : ℕ} {t coordinates : List ℕ} {place : ℕ}
+module _ {p : ℕ} (L : Level) {n : ℕ} {kernels : List ℕ} {kernel size₀ : ℕ} {columns : List ℕ} {at : ℕ}
+    {quotients coordinates : List ℕ} {place : ℕ} {t : List ℕ}
     {t′ coordinates′ : List ℕ} {found : ℕ} {y : List ℕ} (valid : ValidKernel p kernels kernel size₀)
-    (X : FindsCoordinate p L n kernels kernel size₀ t y)
+    (X : FindsCoordinate p L n kernels kernel size₀ quotients y) (Z : CombinesBlocks p L n quotients t)
     (Y : TakesColumn p t coordinates place y columns at t′ coordinates′ found) where
-  module _ (prime : Prime p) (A : HoldsDescent p prime L kernels kernel columns at t) (rows : A .system .rows ≡ n) where
-    dividend : Dividend p prime (A .system .rows) unweighted L t
-    dividend = record {
-      slots = A .level (suc (A .column));
-      vector = A .vector;
-      holds-slots = A .holds-slots;
-      holds = A .holds-vector;
-    }
-
+  module _ (prime : Prime p) (A : HoldsDescent p prime L kernels kernel columns at quotients) (rows : A .system .rows ≡ n) where
     C : Coordinate p prime (A .system .rows) (A .level (suc (A .column))) (A .vector) (A .kernel (A .column)) y
-    unfolding dividend
-    C = subst (λ m. FindsCoordinate p L m kernels kernel size₀ t y) (sym rows) X .finds prime unweighted dividend
-        (A .kernel (A .column))
-        (A .descent .span) (A .holds-kernel)
+    C = subst (λ m. FindsCoordinate p L m kernels kernel size₀ quotients y) (sym rows) X .finds prime unweighted
+        (A .level (suc (A .column))) (A .vector) (A .kernel (A .column)) (A .holds-slots) (A .coefficients) (A .holds-kernel)
+
+    -- t has room for the vector (L6)
+    held : Flat (residues p prime) (A .system .rows) 8 unweighted (words p prime t 0 1088) (A .vector)
+    held = subst (λ m. CombinesBlocks p L m quotients t) (sym rows) Z .holds prime (A .level (suc (A .column))) (A .vector)
+        (A .holds-slots) (A .coefficients)
+        (λ i h. omega (arith, descent-room (A .system) (A .level) (A .kernel) (A .levels) (A .inside) (A .descent) i h, A .small, A .low))
 
     abbrev x : Polynomial (residues p prime)
     x = less p prime (C .tails) (C .multiple) (A .kernel (A .column))
@@ -112,7 +110,7 @@ module _ {p : ℕ} {L : Level} {n : ℕ} {kernels : List ℕ} {kernel size₀ : 
         (omega (arith, short)))
 
     R : HoldsRest p prime (A .system .rows) unweighted (A .vector) (λ i. A .system .matrix i (A .column)) x coordinates′ place t′
-    R = Y .holds zero prime (A .system .rows) unweighted (A .vector) (λ i. A .system .matrix i (A .column)) x (A .holds-vector)
+    R = Y .holds zero prime (A .system .rows) unweighted (A .vector) (λ i. A .system .matrix i (A .column)) x held
         (A .holds-column) (C .holds)
 
     turned : HoldsTurn p prime A coordinates′ place t′
@@ -126,12 +124,12 @@ module _ {p : ℕ} {L : Level} {n : ℕ} {kernels : List ℕ} {kernel size₀ : 
     }
 
   pub turn-made : Prime p → place + 128 ≤ length coordinates → ((i : ℕ) → getD coordinates i 0 < p)
-      → Turned p L n kernels kernel columns at t coordinates place t′ coordinates′ found
+      → Turned p L n kernels kernel columns at quotients coordinates place t′ coordinates′ found
   turn-made prime₀ room below = record {
-    same-length = Y .same-length;
+    same-length = Y .same-length ∙ Z .length-is;
     below = Y .below;
-    same-coordinates = stored-length prime₀ coordinates coordinates′ place y (Y .stores) room;
-    coordinates-below = stored-below prime₀ coordinates coordinates′ place y (Y .stores) room below;
+    same-coordinates = stored-length prime₀ coordinates coordinates′ place y 128 (Y .stores) room;
+    coordinates-below = stored-below prime₀ coordinates coordinates′ place y 128 (Y .stores) room (λ i out. below i);
     others = λ i out. ap (λ l. getD l i 0) (Y .stores) ∙ stored-outside _ coordinates place 128 i out;
     ends = Y .ends;
     holds = turned;

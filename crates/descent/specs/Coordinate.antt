@@ -12,7 +12,8 @@ use Rattle.reduction.specs.Span.{InSpan}
 use Rattle.reduction.specs.Holds.{Holds}
 use Rattle.lattice.specs.Memory.{Level, ZeroFrom}
 use Rattle.lattice.specs.Word.{words}
-use Rattle.lattice.specs.Quotients.{Dividend}
+use Rattle.lattice.specs.Holding.{HoldsSlots}
+use Rattle.lattice.specs.Coefficients.{HoldsCoefficients}
 use Rattle.descent.specs.Product.{less}
 
 -- v, with a tail, in the span of the slots U; u is the kernel
@@ -25,10 +26,9 @@ pub record Coordinate (p : ℕ) (prime : Prime p) (n : ℕ) (U : Slots (Polynomi
   pub holds : Holds (residues p prime) (words p prime y 0 256)
       (polynomials (residues p prime) .neg (less p prime tails multiple u))
 
-pub record FindsCoordinate (p : ℕ) (L : Level) (n : ℕ) (kernel : List ℕ) (at size : ℕ) (t y : List ℕ) : Type 0 where
+pub record FindsCoordinate (p : ℕ) (L : Level) (n : ℕ) (kernel : List ℕ) (at size : ℕ) (quotients y : List ℕ) : Type 0 where
   pub bound : AtMost (1344 * (p * p)) y
   pub short : 0 < size → ZeroFrom p y 0 256 (size - 1)
-  pub finds : (prime : Prime p) (ω : ℕ → ℕ) (f : Dividend p prime n ω L t) (u : Polynomial (residues p prime))
-      → InSpan (polynomials (residues p prime)) n n (f .slots) (f .vector) → Holds (residues p prime)
-      (words p prime kernel at 128) u
-      → Coordinate p prime n (f .slots) (f .vector) u y
+  pub finds : (prime : Prime p) (ω : ℕ → ℕ) (U : Slots (Polynomial (residues p prime))) (v : ℕ → Polynomial (residues p prime))
+      (u : Polynomial (residues p prime)) → HoldsSlots p prime n ω L U → HoldsCoefficients p prime n U v quotients
+      → Holds (residues p prime) (words p prime kernel at 128) u → Coordinate p prime n U v u y

@@ -5,6 +5,8 @@ pub mod Product
 pub mod Combination
 pub mod Kernel
 pub mod Coordinate
+-- the vector anew from its coefficients
+pub mod Blocks
 -- the column taken off, and the turn as a whole
 pub mod Column
 pub mod Turn

@@ -19,16 +19,19 @@ use Rattle.reduction.specs.Flat.{Flat}
 use Rattle.lattice.specs.Memory as memory
 use Rattle.lattice.specs.Memory.{Ends}
 use Rattle.lattice.specs.Holding.{HoldsSlots}
+use Rattle.lattice.specs.Coefficients.{HoldsCoefficients}
 use Rattle.lattice.specs.Word.{words}
 
 module _ (p : ℕ) (prime : Prime p) where
-  -- Memory holds a descent that has come to column j + 1: the level, its kernel (zero where there is none), the column and the vector.
-  pub record HoldsDescent (L : memory.Level) (kernels : List ℕ) (place : ℕ) (columns : List ℕ) (at : ℕ) (t : List ℕ) : Type 0 where
+  -- Memory holds a descent that has come to column j + 1: the level, its kernel (zero where there is none), the column and the
+  -- coefficients of the vector.
+  pub record HoldsDescent (L : memory.Level) (kernels : List ℕ) (place : ℕ) (columns : List ℕ) (at : ℕ) (quotients : List ℕ) : Type 0 where
     pub system : System (sized (residues p prime))
     pub level : ℕ → Slots (Polynomial (residues p prime))
     pub kernel : ℕ → Polynomial (residues p prime)
     pub levels : Levels system level kernel (system .columns)
-    -- L6: no degree is above 120
+    -- L6: no degree of a coordinate is above 120, and none of the vector above 135
+    pub low : system .degree ≤ 15
     pub small : rank (system .rows) (level (system .columns) .size) * system .degree ≤ 120
     pub column : ℕ
     pub inside : column < system .columns
@@ -40,11 +43,11 @@ module _ (p : ℕ) (prime : Prime p) where
     pub holds-kernel : Holds (residues p prime) (words p prime kernels place 128) (kernel column)
     pub holds-column : Flat (residues p prime) (system .rows) 8 unweighted (words p prime columns at 128)
         (λ i. system .matrix i column)
-    pub holds-vector : Flat (residues p prime) (system .rows) 8 unweighted (words p prime t 0 1088) vector
+    pub coefficients : HoldsCoefficients p prime (system .rows) (level (suc column)) vector quotients
 
   -- and then that it has come to column j, with the coordinate of that column in `coordinates` from `place` on
-  pub record HoldsTurn {L : memory.Level} {kernels : List ℕ} {kernel : ℕ} {columns : List ℕ} {at : ℕ} {t : List ℕ}
-      (A : HoldsDescent L kernels kernel columns at t) (coordinates : List ℕ) (place : ℕ) (t′ : List ℕ) : Type 0 where
+  pub record HoldsTurn {L : memory.Level} {kernels : List ℕ} {kernel : ℕ} {columns : List ℕ} {at : ℕ} {quotients : List ℕ}
+      (A : HoldsDescent L kernels kernel columns at quotients) (coordinates : List ℕ) (place : ℕ) (t′ : List ℕ) : Type 0 where
     pub coordinate : Polynomial (residues p prime)
     pub vector : ℕ → Polynomial (residues p prime)
     pub turn : Turn (A .system) (A .level) (A .kernel) (A .column) (A .vector) (A .coordinates) vector
@@ -55,13 +58,13 @@ module _ (p : ℕ) (prime : Prime p) where
     pub holds-vector : Flat (residues p prime) (A .system .rows) 8 unweighted (words p prime t′ 0 1088) vector
 
 pub record Turned (p : ℕ) (L : memory.Level) (n : ℕ) (kernels : List ℕ) (kernel : ℕ) (columns : List ℕ) (at : ℕ)
-    (t coordinates : List ℕ)
+    (quotients coordinates : List ℕ)
     (place : ℕ) (t′ coordinates′ : List ℕ) (size : ℕ) : Type 0 where
-  pub same-length : length t′ ≡ length t
+  pub same-length : length t′ ≡ 1088
   pub below : (i : ℕ) → getD t′ i 0 < p
   pub same-coordinates : length coordinates′ ≡ length coordinates
   pub coordinates-below : (i : ℕ) → getD coordinates′ i 0 < p
   pub others : (i : ℕ) → (i < place) ⊎ (place + 128 ≤ i) → getD coordinates′ i 0 ≡ getD coordinates i 0
   pub ends : Ends p coordinates′ place 128 size
-  pub holds : (prime : Prime p) (A : HoldsDescent p prime L kernels kernel columns at t) → A .system .rows ≡ n
+  pub holds : (prime : Prime p) (A : HoldsDescent p prime L kernels kernel columns at quotients) → A .system .rows ≡ n
       → HoldsTurn p prime A coordinates′ place t′

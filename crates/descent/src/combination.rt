@@ -1,7 +1,7 @@
-// The combination of the tails of a level, with the quotients of a division for coefficients.
+// The combination of the tails of a level, with the quotients for coefficients.
 use crate::product::subtract_product;
 use residue::modulus::Modulus;
-ghost use Prim.Native.Nat.{ℕ, _<_, _≤_};
+ghost use Prim.Native.Nat.{ℕ, _+_, _*_, _<_, _≤_};
 ghost use lib.ListN.{length, getD};
 ghost use Rattle.residue.specs.Modulus.{ValidModulus};
 ghost use Rattle.vector.specs.Bound.{AtMost};
@@ -21,8 +21,8 @@ pub fn subtract_combination(
     requires { ⌜ ValidModulus modulus × (rows ≤ 8) × ValidLevel (modulus .p) (level (now slots) (now sizes) (now inverses)) ⌝ }
     requires zero { ⌜ (256 ≤ length (now y)) × AtMost 0 (now y) ⌝ }
     requires factors { ⌜ (1088 ≤ length (now quotients)) × ((i : ℕ) → getD (now quotients) i 0 < modulus .p) ⌝ }
-    ensures { λ _. ⌜ TakesCombination (modulus .p) (level (now (slots .entry)) (now (sizes .entry)) (now (inverses .entry)))
-        (now (quotients .entry)) rows (now (y .entry)) (now (y .exit)) ⌝ }
+    ensures { λ _. ⌜ TakesCombination (modulus .p) 1 256 (now (quotients .entry)) (λ _. 136) (now (slots .entry))
+        (λ q. 256 * q + 128) rows (now (y .entry)) (now (y .exit)) ⌝ }
 {
     let mut q = 0;
     while q < rows {

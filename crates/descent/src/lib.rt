@@ -1,4 +1,5 @@
 // The way down: a vector of the span of the levels is taken apart, one column after another.
+pub mod blocks;
 pub mod combination;
 pub mod coordinate;
 pub mod kernel;

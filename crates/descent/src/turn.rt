@@ -1,4 +1,5 @@
 // One turn of the way down: column j gets its coordinate, and its part is taken off the vector.
+use crate::blocks::combine_blocks;
 use crate::coordinate::take_column;
 use crate::search::find_coordinate;
 use residue::modulus::Modulus;
@@ -11,11 +12,11 @@ ghost use Rattle.lattice.specs.Memory.{level, ValidLevel};
 ghost use Rattle.descent.specs.Kernel.{ValidKernel};
 ghost use Rattle.descent.specs.Turn.{Turned};
 
-// From the vector t, in the span of the level j + 1 whose slots and kernel are given, and column j at `at`: its coordinate goes to
-// 128 words from `place` on, and t becomes t less the coordinate times the column. Returns the size of the coordinate. The block,
-// the quotients and y are areas to work in, the latter two 0.
+// From a vector in the span of the level j + 1, whose slots and kernel are given, by its coefficients, and column j at `at`: the
+// coordinate of the column goes to 128 words from `place` on, and t becomes the vector less the coordinate times the column. Returns
+// the size of the coordinate. y is an area to work in, 0 at the start.
 pub fn descend_column(
-    t: &mut [u64],
+    quotients: &[u64],
     slots: &[u64],
     sizes: &[usize],
     inverses: &[u64],
@@ -27,24 +28,22 @@ pub fn descend_column(
     at: usize,
     coordinates: &mut [u64],
     place: usize,
-    block: &mut [u64],
-    quotients: &mut [u64],
+    t: &mut [u64],
     y: &mut [u64],
     modulus: Modulus,
 ) -> usize
     requires { ⌜ ValidModulus modulus × (rows ≤ 8) × ValidLevel (modulus .p) (level (now slots) (now sizes) (now inverses)) ⌝ }
     requires kernel { ⌜ ValidKernel (modulus .p) (now kernels) kernel size ⌝ }
     requires column { ⌜ (at + 128 ≤ length (now columns)) × ((i : ℕ) → getD (now columns) i 0 < modulus .p) ⌝ }
-    requires vector { ⌜ (length (now t) ≡ 1088) × ((i : ℕ) → getD (now t) i 0 < modulus .p) ⌝ }
+    requires factors { ⌜ (length (now quotients) ≡ 1088) × ((i : ℕ) → getD (now quotients) i 0 < modulus .p) ⌝ }
     requires coordinates { ⌜ (place + 128 ≤ length (now coordinates)) × ((i : ℕ) → getD (now coordinates) i 0 < modulus .p) ⌝ }
-    requires areas { ⌜ (length (now block) ≡ 1088) × (length (now quotients) ≡ 1088) × (length (now y) ≡ 256) ⌝ }
-    requires zeros { ⌜ AtMost 0 (now quotients) × AtMost 0 (now y) ⌝ }
+    requires areas { ⌜ (length (now t) ≡ 1088) × (length (now y) ≡ 256) × AtMost 0 (now y) ⌝ }
     ensures { λ r. ⌜ Turned (modulus .p) (level (now (slots .entry)) (now (sizes .entry)) (now (inverses .entry))) rows
-        (now (kernels .entry)) kernel (now (columns .entry)) at (now (t .entry)) (now (coordinates .entry)) place
+        (now (kernels .entry)) kernel (now (columns .entry)) at (now (quotients .entry)) (now (coordinates .entry)) place
         (now (t .exit)) (now (coordinates .exit)) r ⌝ }
 {
     find_coordinate(
-        t,
+        quotients,
         slots,
         sizes,
         inverses,
@@ -52,10 +51,9 @@ pub fn descend_column(
         kernels,
         kernel,
         size,
-        block,
-        quotients,
         y,
         modulus,
     );
+    combine_blocks(quotients, slots, sizes, inverses, rows, t, modulus);
     take_column(t, coordinates, place, y, columns, at, modulus)
 }

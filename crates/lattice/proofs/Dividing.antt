@@ -172,9 +172,9 @@ module _ {p : ℕ} (prime₀ : Prime p) {L : Level} {block₀ quotients₀ : Lis
           (λ lt. ap (λ w. w % p) (getD-set-other quotients place (0 + x) sum 0 (λ e. ne (omega (arith, here)))))
 
       lane : (q : ℕ) → q < n
-          → HoldsQuotient p prime n ω quotients′ q (quotient (polynomials (residues p prime)) n (f .slots) (step (D .trace) taken) q)
+          → HoldsQuotient p prime quotients′ q (quotient (polynomials (residues p prime)) n (f .slots) (step (D .trace) taken) q)
       unfolding quotient taken
-      lane q h = replace-elim (λ q x. q < n → HoldsQuotient p prime n ω quotients′ q x)
+      lane q h = replace-elim (λ q x. q < n → HoldsQuotient p prime quotients′ q x)
           (quotient (polynomials (residues p prime)) n (f .slots) (D .trace)) (row k) _
           (λ l. holds-monomial (residues p prime) a degree (D .holds-quotient (row k) l) words-here
           (λ e ne. words-other (flat 8 (row k) e) (λ same. ne (omega arith))))

@@ -12,6 +12,7 @@ pub mod Step
 -- divide
 pub mod Monomial
 pub mod Quotients
+pub mod Coefficients
 -- insert
 pub mod Moves
 pub mod Leading

@@ -15,18 +15,18 @@ use Rattle.lattice.specs.Word.{words}
 use Rattle.lattice.specs.Memory.{Level, Ends, Sums}
 use Rattle.lattice.specs.Holding.{HoldsSlots}
 
-module _ (p : ℕ) (prime : Prime p) (n : ℕ) (ω : ℕ → ℕ) where
-  -- the array of lane 7 - q
-  abbrev pub HoldsQuotient : List ℕ → ℕ → Polynomial (residues p prime) → Type 0
-  HoldsQuotient l q = Holds (residues p prime) (λ e. words p prime l 0 1088 (flat 8 q e))
+-- the array of lane 7 - q
+abbrev pub HoldsQuotient : (p : ℕ) (prime : Prime p) → List ℕ → ℕ → Polynomial (residues p prime) → Type 0
+HoldsQuotient p prime l q = Holds (residues p prime) (λ e. words p prime l 0 1088 (flat 8 q e))
 
+module _ (p : ℕ) (prime : Prime p) (n : ℕ) (ω : ℕ → ℕ) where
   -- f divided by the slots U as far as it has come
   pub record Divides (U : Slots (Polynomial (residues p prime))) (f : ℕ → Polynomial (residues p prime))
       (block quotients : List ℕ) : Type 0 where
     pub rest : ℕ → Polynomial (residues p prime)
     pub trace : Division (polynomials (residues p prime)) n U f rest
     pub holds-rest : Flat (residues p prime) n 8 ω (words p prime block 0 1088) rest
-    pub holds-quotient : (q : ℕ) → q < n → HoldsQuotient quotients q (quotient (polynomials (residues p prime)) n U trace q)
+    pub holds-quotient : (q : ℕ) → q < n → HoldsQuotient p prime quotients q (quotient (polynomials (residues p prime)) n U trace q)
 
   -- memory holds slots and a vector to divide
   pub record Dividend (L : Level) (block : List ℕ) : Type 0 where

@@ -9,8 +9,8 @@ use Rattle.ring.specs.Ring.{Ring}
 use Rattle.algebra.specs.Sized.{Sized}
 use Rattle.reduction.specs.Total.{rank, degrees, rank-ext, degrees-ext, total-constant}
 use Rattle.reduction.specs.Replace.{below-suc}
-use Rattle.reduction.specs.Slots.{Slots, Filled, unweighted, Same}
-use Rattle.reduction.specs.Span.{InSpan}
+use Rattle.reduction.specs.Slots.{Slots, Filled, unweighted, Same, SameBlocks, same-blocks, filled-blocks}
+use Rattle.reduction.specs.Span.{InSpan, span-blocks}
 use Rattle.reduction.specs.System.{System}
 use Rattle.reduction.specs.Link.{Link, Grows, Kernel, link-same}
 
@@ -31,6 +31,18 @@ module _ {A : Type 0} {R : Ring A} {S : Sized R} (T : System S) where
     rank-le = omega (arith, rank-ext n (U .size) (λ q. 0) (λ q h. ap (min 1) (z q h)), total-constant n 0);
     degrees-le = omega (arith, degrees-ext n (U .size) (λ q. 0) z, total-constant n 0);
   }
+
+  -- tails play no part
+  pub level-blocks : {j : ℕ} {U U′ : Slots A} → SameBlocks n U U′ → Level j U → Level j U′
+  level-blocks {U = U} {U′} e L = record {
+    filled = filled-blocks e (L .filled);
+    spanned = λ k h. span-blocks R e (L .spanned k h);
+    rank-le = omega (arith, L .rank-le, same);
+    degrees-le = omega (arith, L .degrees-le, degrees-ext n (U .size) (U′ .size) (e .sizes), ap (λ r. r *ₙ δ) same);
+  }
+    where
+      same : rank n (U .size) ≡ rank n (U′ .size)
+      same = rank-ext n (U .size) (U′ .size) (λ q h. ap (min 1) (e .sizes q h))
 
   -- L5: one column more; L6: its degrees
   pub level-next : {j : ℕ} {U U′ : Slots A} {kernel : A} → Level j U → Link S n δ (λ i. M i j) U U′ kernel → Level (suc j) U′
@@ -63,5 +75,5 @@ module _ {A : Type 0} {R : Ring A} {S : Sized R} (T : System S) where
     empty = λ q h. omega (arith, C .empty q h, e 0 (omega arith) .sizes q h);
     link = below-suc i (λ j. Link S n δ (λ k. M k j) (level′ j) (level′ (suc j)) (kernel′ j))
         (λ j h. subst (Link S n δ (λ k. M k j) (level′ j) (level′ (suc j))) (e′ j h)
-        (link-same S n δ (e j (omega arith)) (e (suc j) h) (C .link j h))) K;
+        (link-same S n δ (same-blocks (e j (omega arith))) (e (suc j) h) (C .link j h))) K;
   }

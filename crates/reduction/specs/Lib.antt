@@ -25,6 +25,7 @@ pub mod Division
 pub mod System
 pub mod Link
 pub mod Column
+pub mod Filling
 pub mod Levels
 pub mod Lowering
 pub mod Descent

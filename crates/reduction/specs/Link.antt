@@ -9,8 +9,8 @@ use Rattle.ring.specs.Ring.{Ring}
 use Rattle.ring.specs.Identity.{quotes, identity}
 use Rattle.algebra.specs.Sized.{Sized}
 use Rattle.reduction.specs.Total.{rank, degrees, rank-ext, degrees-ext}
-use Rattle.reduction.specs.Slots.{Slots, Filled, unweighted, Same, same-sym, filled-same}
-use Rattle.reduction.specs.Span.{InSpan, span-combine, span-fewer, span-same}
+use Rattle.reduction.specs.Slots.{Slots, Filled, unweighted, Same, SameBlocks, same-sym, blocks-sym, filled-same}
+use Rattle.reduction.specs.Span.{InSpan, span-combine, span-fewer, span-same, span-blocks}
 
 -- the column went into a slot of its own
 pub record Grows {A : Type 0} {R : Ring A} (S : Sized R) (n δ : ℕ) (U U′ : Slots A) (kernel : A) : Type 0 where
@@ -58,14 +58,27 @@ module _ {A : Type 0} {R : Ring A} (S : Sized R) (n δ : ℕ) where
     kind = inr record { positive = omega (arith, size-one); no-more = refl; degrees-le = omega (arith, size-one) };
   }
 
-  -- a link depends only on what is looked at
-  pub link-same : {a : ℕ → A} {U U₁ U′ U₁′ : Slots A} {kernel : A} → Same n U U₁ → Same n U′ U₁′
+  -- the column less a vector of the span before makes the same link
+  pub link-shift : {a a′ : ℕ → A} {U U′ : Slots A} {kernel : A} → InSpan R n n U (λ k. a′ k - a k) → Link a U U′ kernel
+      → Link a′ U U′ kernel
+  link-shift {a} {a′} {kernel = kernel} s K = record {
+    filled = K .filled;
+    up = K .up;
+    new = span-combine R 𝟙 𝟙 (K .up (λ k. a′ k - a k) s) (K .new) a′
+        (λ k h. identity R (a′ k ∷ a k ∷ []) (λ ρ qb qa. search quotes depth 16) refl);
+    down = λ x t κ. span-combine R 𝟙 (- (x n - κ * kernel)) (K .down x t κ) s (λ k. x k - (x n - κ * kernel) * a′ k)
+        (λ k h. identity R (x k ∷ x n ∷ κ ∷ kernel ∷ a k ∷ a′ k ∷ []) (λ ρ qx qn qκ qe qa qb. search quotes depth 16) refl);
+    kind = K .kind;
+  }
+
+  -- a link depends only on what is looked at: of the slots before, their blocks
+  pub link-same : {a : ℕ → A} {U U₁ U′ U₁′ : Slots A} {kernel : A} → SameBlocks n U U₁ → Same n U′ U₁′
       → Link a U U′ kernel → Link a U₁ U₁′ kernel
   link-same {a} {U} {U₁} {U′} {U₁′} {kernel} e e′ K = record {
     filled = filled-same e′ (K .filled);
-    up = λ x s. span-same R (omega arith) e′ (K .up x (span-same R (omega arith) (same-sym e) s));
+    up = λ x s. span-same R (omega arith) e′ (K .up x (span-blocks R (blocks-sym e) s));
     new = span-same R (omega arith) e′ (K .new);
-    down = λ x s κ. span-same R (omega arith) e (K .down x (span-same R (omega arith) (same-sym e′) s) κ);
+    down = λ x s κ. span-blocks R e (K .down x (span-same R (omega arith) (same-sym e′) s) κ);
     kind = kind (K .kind);
   }
     where

@@ -35,6 +35,11 @@ pub record Same {A : Type 0} (n : ℕ) (U U′ : Slots A) : Type 0 where
   pub sizes : (q : ℕ) → q < n → U .size q ≡ U′ .size q
   pub vectors : (q k : ℕ) → q < n → 0 < U .size q → k < suc n → U .at q k ≡ U′ .at q k
 
+-- the same blocks, whatever their tails
+pub record SameBlocks {A : Type 0} (n : ℕ) (U U′ : Slots A) : Type 0 where
+  pub sizes : (q : ℕ) → q < n → U .size q ≡ U′ .size q
+  pub vectors : (q k : ℕ) → q < n → 0 < U .size q → k < n → U .at q k ≡ U′ .at q k
+
 -- the same slots but for the one at p
 pub record SameBut {A : Type 0} (n p : ℕ) (U U′ : Slots A) : Type 0 where
   pub inside : p < n
@@ -54,6 +59,15 @@ module _ {A : Type 0} {n : ℕ} where
     vectors = λ q k h p l. sym (e .vectors q k h (omega (arith, e .sizes q h)) l);
   }
 
+  pub same-blocks : {U U′ : Slots A} → Same n U U′ → SameBlocks n U U′
+  same-blocks e = record { sizes = e .sizes; vectors = λ q k h p l. e .vectors q k h p (omega arith) }
+
+  pub blocks-sym : {U U′ : Slots A} → SameBlocks n U U′ → SameBlocks n U′ U
+  blocks-sym e = record {
+    sizes = λ q h. sym (e .sizes q h);
+    vectors = λ q k h p l. sym (e .vectors q k h (omega (arith, e .sizes q h)) l);
+  }
+
   pub same-but-sym : {p : ℕ} {U U′ : Slots A} → SameBut n p U U′ → SameBut n p U′ U
   same-but-sym e = record {
     inside = e .inside;
@@ -69,10 +83,13 @@ module _ {A : Type 0} {n : ℕ} where
   }
 
   module _ {R : Ring A} {S : Sized R} {ω : ℕ → ℕ} where
-    pub filled-same : {U U′ : Slots A} → Same n U U′ → Filled S n ω U → Filled S n ω U′
-    filled-same {U} {U′} e full q h f =
+    pub filled-blocks : {U U′ : Slots A} → SameBlocks n U U′ → Filled S n ω U → Filled S n ω U′
+    filled-blocks {U} {U′} e full q h f =
         let f′ : 0 < U .size q = omega (arith, e .sizes q h) in
-        subst (Pivot S n ω (U′ .at q) q) (e .sizes q h) (pivot-ext (λ i l. e .vectors q i h f′ (omega arith)) (full q h f′))
+        subst (Pivot S n ω (U′ .at q) q) (e .sizes q h) (pivot-ext (λ i l. e .vectors q i h f′ l) (full q h f′))
+
+    pub filled-same : {U U′ : Slots A} → Same n U U′ → Filled S n ω U → Filled S n ω U′
+    filled-same e = filled-blocks (same-blocks e)
 
     pub filled-tailed : {U : Slots A} (g : ℕ → A) → Filled S n ω U → Filled S n ω (tailed n U g)
     filled-tailed {U} g full q h f = pivot-ext (λ i l. sym (extend-below n (U .at q) (g q) i l)) (full q h f)

@@ -10,7 +10,7 @@ use Rattle.ring.specs.Sum.{sum, sum-ext, sum-none, sum-add, sum-mul, sum-single
 use Rattle.ring.specs.Identity.{quotes, identity}
 use Rattle.ring.specs.Combination.{given, combination}
 use Rattle.reduction.specs.Replace.{replace, replace-here, replace-other}
-use Rattle.reduction.specs.Slots.{Slots, Same, SameBut}
+use Rattle.reduction.specs.Slots.{Slots, Same, SameBlocks, SameBut}
 
 module _ {A : Type 0} (R : Ring A) where
   open Ring R using (add as _+_, mul as _*_, neg as -_, zero as 𝟘, one as 𝟙)
@@ -88,6 +88,12 @@ module _ {A : Type 0} (R : Ring A) where
               ∙ sum-add R n (λ q. a * (c q * U .at q k)) (λ q. b * (d q * U .at q k))
               ∙ ap₂ _+_ (sum-mul R n a (λ q. c q * U .at q k)) (sum-mul R n b (λ q. d q * U .at q k))
 
+      pub span-combine-coefficient : {u v : ℕ → A} (a b : A) (s : InSpan n l U u) (t : InSpan n l U v) (x : ℕ → A)
+          (e : (k : ℕ) → k < l → x k ≡ a * u k + b * v k) (q : ℕ)
+          → span-combine a b s t x e .coefficient q ≡ a * s .coefficient q + b * t .coefficient q
+      unfolding span-combine
+      span-combine-coefficient a b s t x e q = refl
+
       pub span-ext : {u : ℕ → A} → InSpan n l U u → (x : ℕ → A) → ((k : ℕ) → k < l → x k ≡ u k) → InSpan n l U x
       span-ext s x e = record { coefficient = s .coefficient; empty = s .empty; equal = λ k h. e k h ∙ s .equal k h }
 
@@ -99,23 +105,27 @@ module _ {A : Type 0} (R : Ring A) where
       pub span-fewer : {u : ℕ → A} {l′ : ℕ} → l′ ≤ l → InSpan n l U u → InSpan n l′ U u
       span-fewer h s = record { coefficient = s .coefficient; empty = s .empty; equal = λ k g. s .equal k (omega arith) }
 
-      -- the span depends only on what is looked at
-      pub span-same : {U′ : Slots A} {u : ℕ → A} → l ≤ suc n → Same n U U′ → InSpan n l U u → InSpan n l U′ u
-      span-same {U′} h e s = record {
-        coefficient = c;
-        empty = λ q g z. s .empty q g (e .sizes q g ∙ z);
-        equal = λ k g. s .equal k g ∙ sum-ext R n (λ q. c q * U .at q k) (λ q. c q * U′ .at q k)
-            (λ q f. at q k f (omega arith) (ℕ-discrete (U .size q) 0));
+      -- the span depends only on what is looked at; the coefficients stay
+      pub span-agree : {U′ : Slots A} {u : ℕ → A} → ((q : ℕ) → q < n → U .size q ≡ U′ .size q)
+          → ((q k : ℕ) → q < n → 0 < U .size q → k < l → U .at q k ≡ U′ .at q k) → InSpan n l U u → InSpan n l U′ u
+      span-agree {U′} sizes vectors s = record {
+        coefficient = s .coefficient;
+        empty = λ q g z. s .empty q g (sizes q g ∙ z);
+        equal = λ k g. s .equal k g ∙ sum-ext R n (λ q. s .coefficient q * U .at q k) (λ q. s .coefficient q * U′ .at q k)
+            (λ q f. at q k f g (ℕ-discrete (U .size q) 0));
       }
         where
           c : ℕ → A
           c = s .coefficient
 
-          at : (q k : ℕ) → q < n → k < suc n → Dec (U .size q ≡ 0) → c q * U .at q k ≡ c q * U′ .at q k
+          at : (q k : ℕ) → q < n → k < l → Dec (U .size q ≡ 0) → c q * U .at q k ≡ c q * U′ .at q k
           at q k f g (yes z) =
               ap (λ x. x * U .at q k) (s .empty q f z) ∙ zero-mul R (U .at q k)
               ∙ sym (ap (λ x. x * U′ .at q k) (s .empty q f z) ∙ zero-mul R (U′ .at q k))
-          at q k f g (no z) = ap (λ x. c q * x) (e .vectors q k f (omega arith) g)
+          at q k f g (no z) = ap (λ x. c q * x) (vectors q k f (omega arith) g)
+
+      pub span-same : {U′ : Slots A} {u : ℕ → A} → l ≤ suc n → Same n U U′ → InSpan n l U u → InSpan n l U′ u
+      span-same h e = span-agree (e .sizes) (λ q k g f b. e .vectors q k g f (omega arith))
 
       -- slot p changed: its part of u is taken out, a multiple of the new vector put in
       module _ {p : ℕ} {U′ : Slots A} {u : ℕ → A} (h : l ≤ suc n) (e : SameBut n p U U′) (s : InSpan n l U u)
@@ -153,9 +163,12 @@ module _ {A : Type 0} (R : Ring A) where
               (λ ρ qx qc qp qu qa qv qs qt. search quotes depth 20) refl);
         }
 
-        pub span-change-here : span-change .coefficient p ≡ a
+        pub span-change-coefficient : (q : ℕ) → span-change .coefficient q ≡ replace (s .coefficient) p a q
         unfolding span-change
-        span-change-here = replace-here c p a
+        span-change-coefficient q = refl
+
+        pub span-change-here : span-change .coefficient p ≡ a
+        span-change-here = span-change-coefficient p ∙ replace-here c p a
 
       -- a row that kills the vectors of the filled slots kills their span
       pub span-killed : {u : ℕ → A} (Z : ℕ → A) → ((q : ℕ) → q < n → 0 < U .size q → sum R l (λ i. Z i * U .at q i) ≡ 𝟘)
@@ -190,3 +203,12 @@ module _ {A : Type 0} (R : Ring A) where
       multiple = 𝟘;
       rest = span-ext s (λ k. u k - 𝟘 * h k) (λ k g. identity R (u k ∷ h k ∷ []) (λ ρ qu qh. search quotes depth 16) refl);
     }
+
+  -- the span of the blocks does not depend on the tails
+  pub span-blocks : {n : ℕ} {U U′ : Slots A} {u : ℕ → A} → SameBlocks n U U′ → InSpan n n U u → InSpan n n U′ u
+  span-blocks e = span-agree (e .sizes) (e .vectors)
+
+  pub span-blocks-coefficient : {n : ℕ} {U U′ : Slots A} {u : ℕ → A} (e : SameBlocks n U U′) (s : InSpan n n U u) (q : ℕ)
+      → span-blocks e s .coefficient q ≡ s .coefficient q
+  unfolding span-blocks span-agree
+  span-blocks-coefficient e s q = refl

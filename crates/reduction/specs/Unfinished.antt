@@ -1,15 +1,16 @@
 -- A solution certificate but for its numerators: what is known when the right side was inserted into the last level U, with block
 -- zero at the end, and the second system was solved. The way down from d·b gives the numerators.
-use Prim.Native.Nat.{ℕ, suc, _<_, _≤_}
+use Prim.Native.Nat.{ℕ, suc, _<_, _≤_, min}
 use Prim.Native.Nat.{_+_ as _+ₙ_, _*_ as _*ₙ_}
-use mathlib.Core.Path.{_≡_}
+use mathlib.Core.Path.{_≡_, ap, subst}
+use native.Mathlib.Omega.{arith}
 use Rattle.ring.specs.Ring.{Ring}
 use Rattle.ring.specs.Sum.{sum}
 use Rattle.algebra.specs.Sized.{Sized}
-use Rattle.reduction.specs.Total.{rank, degrees}
+use Rattle.reduction.specs.Total.{rank, degrees, rank-ext, degrees-ext}
 use Rattle.reduction.specs.Pivot.{Vanishes}
-use Rattle.reduction.specs.Slots.{Slots, unweighted}
-use Rattle.reduction.specs.Span.{InSpan}
+use Rattle.reduction.specs.Slots.{Slots, SameBlocks, unweighted}
+use Rattle.reduction.specs.Span.{InSpan, span-blocks}
 use Rattle.reduction.specs.Euclidean.{Euclidean, Associate}
 use Rattle.reduction.specs.Inserting.{Inserting}
 use Rattle.reduction.specs.System.{System}
@@ -43,4 +44,14 @@ module _ {A : Type 0} {R : Ring A} {S : Sized R} (E : Euclidean S) (T : System S
     vector-small = solution-small E T L X z μ;
     right = λ N solves. solution-right E T L X z μ w′ Y monic K N solves;
     small = λ N small. solution-sizes E T L X z μ w′ Y monic K N small;
+  }
+
+  -- tails of U play no part
+  pub unfinished-blocks : {U U′ : Slots A} {d w : A} {Z : ℕ → A} → SameBlocks n U U′ → Unfinished U d w Z → Unfinished U′ d w Z
+  unfinished-blocks {U} {U′} {d} {w} {Z} e X = record {
+    span = span-blocks R e (X .span);
+    vector-small = λ i h. omega (arith, X .vector-small i h, degrees-ext n (U .size) (U′ .size) (e .sizes));
+    right = X .right;
+    small = subst (λ r. (N : ℕ → A) → ((j : ℕ) → j < m → size (N j) ≤ suc (r *ₙ δ)) → SmallSolution E T (suc (r *ₙ δ)) d N w Z)
+        (rank-ext n (U .size) (U′ .size) (λ q h. ap (min 1) (e .sizes q h))) (X .small);
   }

@@ -51,7 +51,7 @@ module _ {A : Type 0} (R : Ring A) (n : ℕ) (U : Slots A) where
 pub record HoldsDual (p : ℕ) (prime : Prime p) (n B D : ℕ) (U : Slots (Polynomial (residues p prime)))
     (w : Polynomial (residues p prime)) (quotients : List ℕ) : Type 0 where
   pub Y : ℕ → Polynomial (residues p prime)
-  pub holds : (k : ℕ) → k < n → HoldsQuotient p prime n (weights (polynomials (residues p prime)) n D U) quotients (back n k) (Y k)
+  pub holds : (k : ℕ) → k < n → HoldsQuotient p prime quotients (back n k) (Y k)
   pub dual : Dual (sized (residues p prime)) n B U w Y
 
 module _ (p : ℕ) (prime : Prime p) {n B D : ℕ} {U : Slots (Polynomial (residues p prime))} (O : Tops (sized (residues p prime)) n B D U)

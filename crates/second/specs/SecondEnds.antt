@@ -11,7 +11,7 @@ use Rattle.algebra.specs.Monic.{Monic}
 use Rattle.modular.specs.Prime.{Prime}
 use Rattle.modular.specs.Residue.{residues}
 use Rattle.reduction.specs.Slots.{Slots, unweighted}
-use Rattle.reduction.specs.Transpose.{Tops, back, weights}
+use Rattle.reduction.specs.Transpose.{Tops, back}
 use Rattle.reduction.specs.Euclidean.{Associate}
 use Rattle.reduction.specs.Polynomials.{associate}
 use Rattle.reduction.specs.Holds.{Holds}
@@ -35,9 +35,9 @@ module _ {p n : ℕ} (small : n ≤ 8) {L : Level} (valid : ValidLevel p L) {w :
     {quotients : List ℕ} (divided : DividedSecond p n L block quotients) (o : List ℕ) (room : length o ≡ 1024) (rows : List ℕ)
     (er : rows ≡ stored (quotientWord quotients n) o 0 1024) where
   -- a quotient of at most 121 coefficients is in the 128 words of its row
-  row-holds : (prime : Prime p) (ω : ℕ → ℕ) (k : ℕ) → k < n → (y : Polynomial (residues p prime)) → size (residues p prime) y ≤ 121
-      → HoldsQuotient p prime n ω quotients (back n k) y → Holds (residues p prime) (words p prime rows (128 * k) 128) y
-  row-holds prime ω k h y short holds = record { at = λ e. ⊎-elim (near e) (far e) (below-or-not e 128) }
+  row-holds : (prime : Prime p) (k : ℕ) → k < n → (y : Polynomial (residues p prime)) → size (residues p prime) y ≤ 121
+      → HoldsQuotient p prime quotients (back n k) y → Holds (residues p prime) (words p prime rows (128 * k) 128) y
+  row-holds prime k h y short holds = record { at = λ e. ⊎-elim (near e) (far e) (below-or-not e 128) }
     where
       near : (e : ℕ) → e < 128 → coefficients (residues p prime) y e ≡ words p prime rows (128 * k) 128 e
       near e lt =
@@ -74,7 +74,7 @@ module _ {p n : ℕ} (small : n ≤ 8) {L : Level} (valid : ValidLevel p L) {w :
       monic = m .monic;
       dual = D .dual;
       holds-w = F .holds;
-      holds-Y = λ k h. row-holds prime (weights (polynomials (residues p prime)) n (greatest (L .sizes) n) U) k h (D .Y k)
+      holds-Y = λ k h. row-holds prime k h (D .Y k)
           (omega (arith, D .dual .row-small k h)) (D .holds k h);
     }
 

@@ -33,7 +33,7 @@ ascend-requires c κs =
       (have .0, have .1, have .2, omega arith, have .3),
       (
         empty-valid first (zeros-none 2048) (zeros-none 16) (have .0 .prime) refl refl refl,
-        (has-empty first (zeros-none 2048) (zeros-none 16) (given .1 .0), (refl, given .1 .1)),
+        (has-empty first (zeros-none 2048) (zeros-none 16) (given .1 .0), (refl, zeros-none 1088, given .1 .1)),
       ),
     )
 
@@ -41,8 +41,7 @@ same-length : tie.Need-same-length
 same-length c = search needs
 
 returns : tie.Need-returns
-returns c =
-    certifies (c .before .before .before .before .before .before .before .before .before .before .before .pre .0 .1) _ _ (zeros-none 2048) (zeros-none 16) (c .before .before .before .ascend .ensures)
+returns c = certifies (c .before .before .before .before .before .before .before .before .before .before .before .before .before .before .pre .0 .1) _ _ (zeros-none 2048) (zeros-none 16) (c .before .before .before .before .before .before .ascend .ensures .0)
 
 pub certify-spec : {M : Type 1} → statement M
 certify-spec =

@@ -1,8 +1,10 @@
--- `descend` meets its contract: its areas have the lengths that the turn asks, and are 0.
+-- `descend` meets its contract: a turn of the way down, and its rest divided.
+use Prim.Native.Nat.{_*_}
 use mathlib.Core.Path.{refl}
 use native.Mathlib.Omega.{arith}
 use borrow.Author.Needs.{needs}
 use Rattle.vector.specs.Bound.{zeros-none}
+use Rattle.ascent.specs.Falling.{cleared-none}
 use Rattle.ascent.proofs.descending.descend.Statement.{statement}
 use Rattle.ascent.proofs.descending.descend.Tie as tie
 
@@ -21,20 +23,41 @@ slice-aggregate-descend-column c = search needs
 slice-aggregate-descend-column-2 : tie.Need-slice-aggregate-descend-column-2
 slice-aggregate-descend-column-2 c = search needs
 
-slice-aggregate-descend-column-3 : tie.Need-slice-aggregate-descend-column-3
-slice-aggregate-descend-column-3 c = search needs
-
 descend-column-requires : tie.Need-descend-column-requires
 descend-column-requires c κs =
-    let given = c .before .before .before .before .before .before .before .before .before .before .before .before .pre in
+    let given = c .before .before .before .before .before .before .before .before .before .before .before .before .before .before .pre in
     let input = given .0 .3 in
-    let output = given .1 .1 .1 .1 in (
-      (given .0 .0, given .0 .1, given .1 .0),
+    let output = given .1 .1 .1 .1 .1 in (
+      (given .0 .0, given .0 .1, given .1 .1 .0),
       (
-        given .1 .1 .0,
+        given .1 .1 .1 .0,
         (
-          (omega (arith, input .room), input .below),
-          (given .1 .1 .1 .0, ((omega (arith, output .room), output .below), ((refl, refl, refl), (zeros-none 1088, zeros-none 256)))),
+          (omega (arith, input .room, given .0 .2), input .below),
+          (
+            given .1 .1 .1 .1 .0,
+            ((omega (arith, output .room, given .0 .2), output .below), (refl, refl, zeros-none 256)),
+          ),
+        ),
+      ),
+    )
+
+clear-requires : tie.Need-clear-requires
+clear-requires c κs = omega (arith, c .before .before .before .before .before .before .before .before .before .before .before .before .before .before .before .before .before .before .before .before .pre .1 .1 .1 .1 .0 .0)
+
+slice-aggregate-divide : tie.Need-slice-aggregate-divide
+slice-aggregate-divide c = search needs
+
+divide-requires : tie.Need-divide-requires
+divide-requires c κs =
+    let given = c .before .before .before .before .before .before .before .before .before .before .before .before .before .before .before .before .before .before .before .before .before .before .before .before .before .pre in
+    let turned = c .before .before .before .before .before .before .before .before .before .before .descend-column .ensures in
+    let cleared = c .before .before .before .before .clear in (
+      (given .0 .0, given .1 .0),
+      (
+        (omega (arith, turned .same-length), omega arith, (λ j ge lt. absurd (omega arith)), λ i. omega (arith, turned .below i)),
+        (
+          omega (arith, given .1 .1 .1 .1 .0 .0, cleared .kept .0),
+          cleared-none (c .before .before .before .before .before .before .before .before .before .before .before .before .before .before .before .before .before .before .before .before .before .before .before .before .before .args .quotients .now) (given .1 .1 .1 .1 .0 .0) (cleared .ensures),
         ),
       ),
     )
@@ -46,7 +69,14 @@ same-length-2 : tie.Need-same-length-2
 same-length-2 c = search needs
 
 returns : tie.Need-returns
-returns c = search needs
+returns c = record {
+  rest = c .before .before .before .before .before .before .before .before .before .before .before .before .before .before .descend-column .last .1 .1 .1 .1 .1 .1 .1 .1 .1 .1 .1 .1 .0;
+  size = c .before .before .before .before .before .before .before .before .before .before .before .before .before .before .descend-column .result;
+  turned = c .before .before .before .before .before .before .before .before .before .before .before .before .before .before .descend-column .ensures;
+  emptied = c .before .before .before .divide .last .1 .1 .1 .0;
+  left = c .before .before .before .divide .result;
+  divided = c .before .before .before .divide .ensures;
+}
 
 pub descend-spec : {M : Type 1} → statement M
 descend-spec =
@@ -57,8 +87,10 @@ descend-spec =
     mul-descend-column-2
     slice-aggregate-descend-column
     slice-aggregate-descend-column-2
-    slice-aggregate-descend-column-3
     descend-column-requires
+    clear-requires
+    slice-aggregate-divide
+    divide-requires
     same-length
     same-length-2
     returns)

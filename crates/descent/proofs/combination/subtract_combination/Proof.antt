@@ -1,9 +1,8 @@
 -- The loop keeps a `TakesCombination`: the slots before q are done.
-use Prim.Native.Nat.{_-_, _≤_}
-use mathlib.Core.Path.{_≡_, subst}
+use Prim.Native.Nat.{_+_, _-_, _*_, _≤_}
+use mathlib.Core.Path.{_≡_, refl, subst}
 use native.Mathlib.Omega.{arith}
 use borrow.Author.Needs.{needs}
-use Rattle.lattice.specs.Memory.{level}
 use Rattle.descent.specs.Combination.{TakesCombination}
 use Rattle.descent.proofs.Combinations.{combination-start, combination-small, combination-turn}
 use Rattle.descent.proofs.combination.subtract_combination.Statement.{statement}
@@ -11,7 +10,7 @@ use Rattle.descent.proofs.combination.subtract_combination.Tie as tie
 
 abbrev Inv-loop : tie.InvT-loop
 Inv-loop y₀ quotients slots sizes inverses rows modulus q₀ y q =
-    (q ≤ rows) × TakesCombination (modulus .p) (level slots sizes inverses) quotients q y₀ y
+    (q ≤ rows) × TakesCombination (modulus .p) 1 256 quotients (λ _. 136) slots (λ r. 256 * r + 128) q y₀ y
 
 abbrev μ-loop : tie.MeasureT-loop
 μ-loop y₀ quotients slots sizes inverses rows modulus q₀ y q = rows - q
@@ -54,8 +53,7 @@ subtract-product-requires c κs =
       (
         (omega arith, S .pre .1 .1 .1),
         (
-          combination-small (L .inv .1) valid (omega arith) (S .pre .1 .0 .0) (S .pre .0 .0 .limit)
-              (S .pre .1 .0 .1),
+          combination-small (L .inv .1) (omega arith) (S .pre .0 .0 .limit) (S .pre .1 .0 .1),
           valid .below,
         ),
       ),
@@ -70,9 +68,11 @@ loop-less c = search needs
 loop-again : tie.Need-loop-again Inv-loop μ-loop
 loop-again c =
     let S = c .before .before .before .before .before .before .before .before .before .before .before .before in
-    let L = c .before .before .before .before .before .before .loop in (
+    let L = c .before .before .before .before .before .before .loop in
+    let slot = S .pre .0 .2 .slot (L .q) (omega arith) in (
       omega arith,
-      combination-turn (L .inv .1) (S .pre .0 .2) (omega arith) (S .pre .1 .0 .0) (c .before .before .subtract-product .ensures),
+      combination-turn (L .inv .1) refl (omega arith) (omega (arith, slot .tail-within)) (S .pre .1 .0 .0) (omega (arith, slot .tail-within))
+          (slot .tail) (c .before .before .subtract-product .ensures),
     )
 
 same-length : tie.Need-same-length Inv-loop μ-loop
@@ -83,8 +83,8 @@ returns c =
     let S = c .before .before .before .before .before .before .before in
     let L = c .before .loop in
     let end : L .q ≡ S .args .rows = omega arith in
-    subst (λ q. TakesCombination (S .args .modulus .p) (level (S .args .slots .now) (S .args .sizes .now) (S .args .inverses .now))
-    (S .args .quotients .now) q (S .args .y .now) (L .y)) end (L .inv .1)
+    subst (λ q. TakesCombination (S .args .modulus .p) 1 256 (S .args .quotients .now) (λ _. 136) (S .args .slots .now)
+    (λ r. 256 * r + 128) q (S .args .y .now) (L .y)) end (L .inv .1)
 
 pub subtract-combination-spec : {M : Type 1} → statement M
 subtract-combination-spec =

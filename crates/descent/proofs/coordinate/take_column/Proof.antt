@@ -29,13 +29,13 @@ subtract-product-requires c κs =
     let m : ValidModulus (S .args .modulus) = S .pre .0 .0 in
     let few = c .before .before .lesser .ensures in
     let stores = c .before .before .before .before .before .before .store-negated .ensures in
-    let size = stored-length (m .prime) (S .args .h .now) _ (S .args .a) (S .args .y .now) stores (S .pre .1 .0 .0) in (
+    let size = stored-length (m .prime) (S .args .h .now) _ (S .args .a) (S .args .y .now) 128 stores (S .pre .1 .0 .0) in (
       (m, omega (arith, few), omega (arith, few), S .pre .1 .1 .1 .0),
       (
         (
           omega (arith, few, S .pre .1 .0 .0),
-          stored-below (m .prime) (S .args .h .now) _ (S .args .a) (S .args .y .now) stores
-              (S .pre .1 .0 .0) (S .pre .1 .0 .1),
+          stored-below (m .prime) (S .args .h .now) _ (S .args .a) (S .args .y .now) 128 stores
+              (S .pre .1 .0 .0) (λ i out. S .pre .1 .0 .1 i),
         ),
         ((λ i. omega (arith, S .pre .0 .2 i)), S .pre .1 .1 .1 .1),
       ),

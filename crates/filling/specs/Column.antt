@@ -1,0 +1,154 @@
+-- A column divided by the slots of a level: what is left of it, reduced, and its coefficients in the blocks of the slots.
+use Prim.Native.Nat.{ℕ, _+_, _-_, _%_, _<_, _≤_}
+use mathlib.Core.Path.{_≡_, refl, sym, _∙_, ap}
+use mathlib.Core.Logic.{inr, ⊎-elim}
+use mathlib.Core.List.{List, [], _∷_}
+use native.Mathlib.Nat.{zero-mod, zero-add, mod-lt, mod-eq-of-lt}
+use native.Mathlib.Omega.{arith}
+use native.Mathlib.Decide.{decLe}
+use lib.ListN.{length, getD, List·getD-eq-default}
+use Rattle.ring.specs.Identity.{quotes, identity}
+use Rattle.ring.specs.Ring.{Ring}
+use Rattle.ring.specs.Combination.{given, combination}
+use Rattle.algebra.specs.Polynomial.{Polynomial, polynomials}
+use Rattle.modular.specs.Prime.{Prime}
+use Rattle.modular.specs.Residue.{residues}
+use Rattle.vector.specs.Stored.{stored, length-stored, stored-inside, stored-outside, below-or-not}
+use Rattle.vector.specs.Bound.{AtMost, at-most-stored}
+use Rattle.reduction.specs.Slots.{Slots, unweighted}
+use Rattle.reduction.specs.Span.{combined}
+use Rattle.reduction.specs.Division.{quotient, quotient-empty, division-equal}
+use Rattle.reduction.specs.Flat.{Flat}
+use Rattle.lattice.specs.Word.{residue, residue-same, residue-zero, words, words-inside, words-first, words-behind}
+use Rattle.lattice.specs.Memory.{Level, ZeroFrom, Ends, Sums}
+use Rattle.lattice.specs.Holding.{HoldsSlots}
+use Rattle.lattice.specs.Range.{words-zero, ends-same}
+use Rattle.lattice.specs.Reading.{flat-same}
+use Rattle.lattice.specs.Quotients.{Divides, Divided}
+use Rattle.lattice.specs.Coefficients.{HoldsCoefficients}
+
+-- a vector is left of the column, which is in the span but for that
+pub record HoldsLeft (p : ℕ) (prime : Prime p) (n : ℕ) (U : Slots (Polynomial (residues p prime)))
+    (column : ℕ → Polynomial (residues p prime)) (rest factors : List ℕ) : Type 0 where
+  pub vector : ℕ → Polynomial (residues p prime)
+  pub holds : Flat (residues p prime) n 8 unweighted (words p prime rest 0 128) vector
+  pub coefficients : HoldsCoefficients p prime n U
+      (λ k. polynomials (residues p prime) .add (column k) (polynomials (residues p prime) .neg (vector k))) factors
+
+pub record ColumnDivided (p : ℕ) (L : Level) (input : List ℕ) (at : ℕ) (rest factors : List ℕ) (left : ℕ) : Type 0 where
+  pub below : (i : ℕ) → getD rest i 0 < p
+  pub factors-below : (i : ℕ) → getD factors i 0 < p
+  pub ends : Ends p rest 0 128 left
+  pub divides : (prime : Prime p) (n : ℕ) (U : Slots (Polynomial (residues p prime))) (column : ℕ → Polynomial (residues p prime))
+      → HoldsSlots p prime n unweighted L U → Flat (residues p prime) n 8 unweighted (words p prime input at 128) column
+      → HoldsLeft p prime n U column rest factors
+
+-- 128 words of the input, copied to a block of zeros
+module _ (p : ℕ) (input : List ℕ) (at : ℕ) (zeros : List ℕ) (long : length zeros ≡ 128) (none : AtMost 0 zeros) where
+  abbrev block : List ℕ
+  block = stored (λ i. getD input (at + i) 0) zeros 0 128
+
+  pub copied-zero : ZeroFrom p (stored (λ i. getD input (at + i) 0) zeros 0 128) 0 1088 128
+  copied-zero i ge lt =
+      let empty : getD zeros (0 + i) 0 ≡ 0 = omega (arith, none (0 + i)) in
+      ap (λ w. w % p) (stored-outside (λ i. getD input (at + i) 0) zeros 0 128 (0 + i) (inr (omega arith)) ∙ empty) ∙ zero-mod p
+
+  pub copied-sums : ((i : ℕ) → getD input i 0 < p) → Sums p 2112 (stored (λ i. getD input (at + i) 0) zeros 0 128)
+  copied-sums below i = omega (
+    arith,
+    at-most-stored p (λ i. getD input (at + i) 0) zeros 0 128 (λ k lt. omega (arith, below (at + k)))
+        (λ k. omega (arith, none k)) i,
+  )
+
+  copied-words : (prime : Prime p) (x : ℕ) → words p prime input at 128 x ≡ words p prime block 0 1088 x
+  copied-words prime x =
+      ⊎-elim
+      (λ lt. words-inside p prime input at 128 x lt
+      ∙ ap (λ w. residue p prime w) (sym (stored-inside (λ i. getD input (at + i) 0) zeros 0 128 x (omega arith) lt))
+      ∙ sym (words-inside p prime block 0 1088 x (omega arith)))
+      (λ ge. words-behind p prime input at 128 x ge ∙ sym (words-zero p prime block 0 1088 128 copied-zero x ge))
+      (below-or-not x 128)
+
+  -- divided, and what is left of it reduced
+  module _ (prime₀ : Prime p) {L : Level} {block₀ block′ factors rest : List ℕ} {left : ℕ}
+      (copied : block₀ ≡ stored (λ i. getD input (at + i) 0) zeros 0 128) (done : Divided p L block₀ block′ factors left)
+      (room : length block′ ≡ 128) (reduces : rest ≡ stored (λ j. getD block′ j 0 % p) block′ 0 128) where
+    positive : 0 < p
+    positive = let large = prime₀ .large in omega arith
+
+    rest-word : (j : ℕ) → j < 128 → getD rest j 0 ≡ getD block′ j 0 % p
+    rest-word j lt =
+        ap (λ i. getD rest i 0) (sym (zero-add j))
+        ∙ ap (λ l. getD l (0 + j) 0) reduces
+        ∙ stored-inside (λ j. getD block′ j 0 % p) block′ 0 128 j (omega arith) lt
+
+    rest-length : length rest ≡ 128
+    rest-length = ap length reduces ∙ length-stored (λ j. getD block′ j 0 % p) block′ 0 128 ∙ room
+
+    rest-below : (i : ℕ) → getD rest i 0 < p
+    rest-below i =
+        ⊎-elim
+        (λ lt. omega (arith, rest-word i lt, mod-lt (getD block′ i 0) positive))
+        (λ past.
+        let nothing : getD rest i 0 ≡ 0 = List·getD-eq-default rest 0 (omega (arith, rest-length)) in
+        omega (arith, positive))
+        (below-or-not i 128)
+
+    rest-words : (prime : Prime p) (x : ℕ) → words p prime block′ 0 1088 x ≡ words p prime rest 0 128 x
+    rest-words prime x =
+        ⊎-elim
+        (λ lt. words-first p prime block′ 1088 x (omega arith)
+        ∙ residue-same p prime _ _ (sym (mod-eq-of-lt (mod-lt (getD block′ x 0) positive)) ∙ ap (λ w. w % p) (sym (rest-word x lt)))
+        ∙ sym (words-first p prime rest 128 x lt))
+        (λ past. words-zero p prime block′ 0 1088 128 nothing x past ∙ sym (words-behind p prime rest 0 128 x past))
+        (below-or-not x 128)
+      where
+        nothing : ZeroFrom p block′ 0 1088 128
+        nothing j ge lt = ap (λ w. w % p) (List·getD-eq-default block′ 0 (omega (arith, room))) ∙ zero-mod p
+
+    few : left ≤ 128
+    few = go (decLe left 128)
+      where
+        go : Dec (left ≤ 128) → left ≤ 128
+        go (yes h) = h
+        go (no h) =
+            let nothing : getD block′ (0 + (left - 1)) 0 ≡ 0 = List·getD-eq-default block′ 0 (omega (arith, room)) in
+            absurd (omega (arith, done .ends .last (omega arith), ap (λ w. w % p) nothing, zero-mod p))
+
+    left-of : (prime : Prime p) (n : ℕ) (U : Slots (Polynomial (residues p prime))) (column : ℕ → Polynomial (residues p prime))
+        → HoldsSlots p prime n unweighted L U → Flat (residues p prime) n 8 unweighted (words p prime input at 128) column
+        → HoldsLeft p prime n U column rest factors
+    left-of prime n U column slots flat = record {
+      vector = Q .rest;
+      holds = flat-same (rest-words prime) (Q .holds-rest);
+      coefficients = record {
+        span = record {
+          coefficient = quotient R n U (Q .trace);
+          empty = quotient-empty R n U (Q .trace);
+          equal = λ k h. combination R (R .add (column k) (R .neg (Q .rest k))) (combined R n (quotient R n U (Q .trace)) U k)
+              (given (R .one) (division-equal R n U (Q .trace) k (omega arith)) ∷ [])
+              (identity R (column k ∷ Q .rest k ∷ combined R n (quotient R n U (Q .trace)) U k ∷ [])
+              (λ ρ qc qr qs. search quotes depth 16) refl);
+        };
+        holds = Q .holds-quotient;
+      };
+    }
+      where
+        R : Ring (Polynomial (residues p prime))
+        R = polynomials (residues p prime)
+
+        Q : Divides p prime n unweighted U column block′ factors
+        Q = done .divides prime n unweighted record {
+          slots = U;
+          vector = column;
+          holds-slots = slots;
+          holds = flat-same (λ x. copied-words prime x ∙ ap (λ l. words p prime l 0 1088 x) (sym copied)) flat;
+        }
+
+    pub column-divided : ColumnDivided p L input at rest factors left
+    column-divided = record {
+      below = rest-below;
+      factors-below = done .below;
+      ends = ends-same p prime₀ block′ rest 0 0 1088 128 (rest-words prime₀) left few (done .ends);
+      divides = left-of;
+    }
