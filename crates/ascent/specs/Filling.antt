@@ -1,9 +1,9 @@
 -- A column that fills an empty slot: up, the others stay; down, its coordinate is the coefficient of its slot, and the coefficients
 -- of what is left follow without a division.
-use Prim.Native.Nat.{ℕ, suc, _+_, _-_, _*_, _<_, _≤_}
+use Prim.Native.Nat.{ℕ, suc, _+_, _-_, _*_, _%_, _<_, _≤_}
 use mathlib.Core.Path.{_≡_, refl, sym, _∙_, ap, subst}
 use mathlib.Core.List.{List, [], _∷_}
-use native.Mathlib.Nat.{mod-eq-of-lt, zero-add}
+use native.Mathlib.Nat.{zero-add}
 use native.Mathlib.Numerals.{add-one}
 use native.Mathlib.Omega.{arith}
 use lib.ListN.{getD}
@@ -36,13 +36,9 @@ use Rattle.ascent.specs.Undoing.{above, undone}
 
 -- the last word that is left is not 0
 pub left-leading : {p : ℕ} {L : Level} {input : List ℕ} {at : ℕ} {rest factors : List ℕ} {left : ℕ}
-    → ColumnDivided p L input at rest factors left → 0 < left → 0 < getD rest (left - 1) 0
-left-leading {rest = rest} {left = left} C some = omega (
-  arith,
-  C .ends .last some,
-  mod-eq-of-lt (C .below (0 + (left - 1))),
-  ap (λ i. getD rest i 0) (zero-add (left - 1)),
-)
+    → ColumnDivided p L input at rest factors left → 0 < left → 0 < getD rest (left - 1) 0 % p
+left-leading {p} {rest = rest} {left = left} C some =
+    subst (λ i. 0 < getD rest i 0 % p) (zero-add (left - 1)) (C .ends .last some)
 
 module _ {p : ℕ} {n m j : ℕ} {input : List ℕ} {L : Level} (inside : j < m) (valid : ValidLevel p L) {rest factors : List ℕ} {left : ℕ}
     (C : ColumnDivided p L input (128 * j) rest factors left) (some : 0 < left) (free : slotSize L (row left) ≡ 0) where
@@ -81,7 +77,7 @@ module _ {p : ℕ} {n m j : ℕ} {input : List ℕ} {L : Level} (inside : j < m)
       kernel = R .zero;
       link = filled-link (sized (residues p prime)) n 15 full P empty (omega (arith, C .ends .within)) (G .span);
       slots = put (H .slots) (row left) (extend n a (tailOf p prime L (row left))) (height left);
-      holds = filled-holds valid (row left) (omega arith) rest left prime n unweighted (H .slots) a (H .holds) (Q .holds);
+      holds = filled-holds valid (row left) (omega arith) free rest left (C .ends) prime n unweighted (H .slots) a (H .holds) (Q .holds);
       blocks = filled-with-blocks R (row left) a (height left) (tailOf p prime L (row left)) (H .blocks);
     }
 

@@ -3,6 +3,7 @@ use Prim.Native.Nat.{ℕ, suc, _*_, _<_, _≤_}
 use mathlib.Core.Path.{_≡_, refl}
 use mathlib.Core.List.{List}
 use native.Mathlib.Omega.{arith}
+use lib.ListN.{getD}
 use Rattle.algebra.specs.Polynomial.{Polynomial}
 use Rattle.algebra.specs.Size.{size, sized}
 use Rattle.modular.specs.Prime.{Prime}
@@ -19,11 +20,12 @@ use Rattle.areas.specs.Input.{Equations}
 use Rattle.ascent.specs.Ascended.{HoldsLevels}
 use Rattle.ascent.specs.Extending.{Extension}
 
--- something is left of column j, in `rest`
+-- something is left of column j, in `rest`, reduced
 pub record Leaves (p : ℕ) (L : Level) (input : List ℕ) (j : ℕ) (rest : List ℕ) : Type 0 where
   pub factors : List ℕ
   pub left : ℕ
   pub divided : ColumnDivided p L input (128 * j) rest factors left
+  pub below : (i : ℕ) → getD rest i 0 < p
   pub some : 0 < left
 
 module _ {p : ℕ} {n m j : ℕ} {input : List ℕ} {L L′ : Level} {rest factors kernel : List ℕ} {left found : ℕ} (inside : j < m)

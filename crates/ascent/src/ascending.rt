@@ -8,6 +8,7 @@ use filling::fill_slot;
 use levels::next::next_level;
 use quotients::lower_quotients;
 use residue::modulus::Modulus;
+use vector::reduce_range;
 ghost use mathlib.Core.Path.{_≡_};
 ghost use Prim.Native.Nat.{_*_, _<_, _≤_};
 ghost use lib.ListN.{length};
@@ -83,7 +84,7 @@ pub fn ascend(
             slots,
             sizes,
             inverses,
-            &rest,
+            &mut rest,
             &mut factors,
             left,
             quotients,
@@ -91,6 +92,7 @@ pub fn ascend(
             modulus,
         );
     }
+    reduce_range(&mut rest, 128, modulus);
     insert_column(
         input,
         n,
@@ -155,7 +157,7 @@ fn fill_column(
     slots: &mut [u64],
     sizes: &mut [usize],
     inverses: &mut [u64],
-    rest: &[u64],
+    rest: &mut [u64],
     factors: &mut [u64],
     left: usize,
     quotients: &mut [u64],

@@ -1,5 +1,6 @@
 // The solver's loops as a whole: from a system in memory to its certificate.
 use crate::ascending::ascend;
+use crate::top::reach_top;
 use residue::modulus::Modulus;
 ghost use Prim.Native.Nat.{_≤_};
 ghost use Rattle.residue.specs.Modulus.{ValidModulus};
@@ -23,6 +24,20 @@ pub fn certify(input: &[u64], n: usize, m: usize, output: &mut [u64], modulus: M
     let mut sizes = [0usize; 16];
     let mut inverses = [0u64; 8];
     let mut quotients = [0u64; 1088];
+    // with this second call the compiler keeps `reach_top`, which has large arrays, out of `ascend`, of which each column has one
+    if m == 0 {
+        return reach_top(
+            input,
+            n,
+            m,
+            &slots,
+            &sizes,
+            &inverses,
+            &mut quotients,
+            output,
+            modulus,
+        );
+    }
     ascend(
         input,
         n,

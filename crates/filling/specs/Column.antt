@@ -1,4 +1,4 @@
--- A column divided by the slots of a level: what is left of it, reduced, and its coefficients in the blocks of the slots.
+-- A column divided by the slots of a level: what is left of it, in sums, and its coefficients in the blocks of the slots.
 use Prim.Native.Nat.{ℕ, _+_, _-_, _%_, _<_, _≤_}
 use mathlib.Core.Path.{_≡_, refl, sym, _∙_, ap}
 use mathlib.Core.Logic.{inr, ⊎-elim}
@@ -22,7 +22,7 @@ use Rattle.reduction.specs.Flat.{Flat}
 use Rattle.lattice.specs.Word.{residue, residue-same, residue-zero, words, words-inside, words-first, words-behind}
 use Rattle.lattice.specs.Memory.{Level, ZeroFrom, Ends, Sums}
 use Rattle.lattice.specs.Holding.{HoldsSlots}
-use Rattle.lattice.specs.Range.{words-zero, ends-same}
+use Rattle.lattice.specs.Range.{words-same, words-zero, ends-same}
 use Rattle.lattice.specs.Reading.{flat-same}
 use Rattle.lattice.specs.Quotients.{Divides, Divided}
 use Rattle.lattice.specs.Coefficients.{HoldsCoefficients}
@@ -36,7 +36,7 @@ pub record HoldsLeft (p : ℕ) (prime : Prime p) (n : ℕ) (U : Slots (Polynomia
       (λ k. polynomials (residues p prime) .add (column k) (polynomials (residues p prime) .neg (vector k))) factors
 
 pub record ColumnDivided (p : ℕ) (L : Level) (input : List ℕ) (at : ℕ) (rest factors : List ℕ) (left : ℕ) : Type 0 where
-  pub below : (i : ℕ) → getD rest i 0 < p
+  pub sums : Sums p 0 rest
   pub factors-below : (i : ℕ) → getD factors i 0 < p
   pub ends : Ends p rest 0 128 left
   pub divides : (prime : Prime p) (n : ℕ) (U : Slots (Polynomial (residues p prime))) (column : ℕ → Polynomial (residues p prime))
@@ -69,42 +69,19 @@ module _ (p : ℕ) (input : List ℕ) (at : ℕ) (zeros : List ℕ) (long : leng
       (λ ge. words-behind p prime input at 128 x ge ∙ sym (words-zero p prime block 0 1088 128 copied-zero x ge))
       (below-or-not x 128)
 
-  -- divided, and what is left of it reduced
-  module _ (prime₀ : Prime p) {L : Level} {block₀ block′ factors rest : List ℕ} {left : ℕ}
-      (copied : block₀ ≡ stored (λ i. getD input (at + i) 0) zeros 0 128) (done : Divided p L block₀ block′ factors left)
-      (room : length block′ ≡ 128) (reduces : rest ≡ stored (λ j. getD block′ j 0 % p) block′ 0 128) where
-    positive : 0 < p
-    positive = let large = prime₀ .large in omega arith
+  -- divided
+  module _ (prime₀ : Prime p) {L : Level} {block₀ rest factors : List ℕ} {left : ℕ}
+      (copied : block₀ ≡ stored (λ i. getD input (at + i) 0) zeros 0 128) (done : Divided p L block₀ rest factors left)
+      (room : length rest ≡ 128) where
+    nothing : ZeroFrom p rest 0 1088 128
+    nothing j ge lt = ap (λ w. w % p) (List·getD-eq-default rest 0 (omega (arith, room))) ∙ zero-mod p
 
-    rest-word : (j : ℕ) → j < 128 → getD rest j 0 ≡ getD block′ j 0 % p
-    rest-word j lt =
-        ap (λ i. getD rest i 0) (sym (zero-add j))
-        ∙ ap (λ l. getD l (0 + j) 0) reduces
-        ∙ stored-inside (λ j. getD block′ j 0 % p) block′ 0 128 j (omega arith) lt
-
-    rest-length : length rest ≡ 128
-    rest-length = ap length reduces ∙ length-stored (λ j. getD block′ j 0 % p) block′ 0 128 ∙ room
-
-    rest-below : (i : ℕ) → getD rest i 0 < p
-    rest-below i =
-        ⊎-elim
-        (λ lt. omega (arith, rest-word i lt, mod-lt (getD block′ i 0) positive))
-        (λ past.
-        let nothing : getD rest i 0 ≡ 0 = List·getD-eq-default rest 0 (omega (arith, rest-length)) in
-        omega (arith, positive))
-        (below-or-not i 128)
-
-    rest-words : (prime : Prime p) (x : ℕ) → words p prime block′ 0 1088 x ≡ words p prime rest 0 128 x
+    rest-words : (prime : Prime p) (x : ℕ) → words p prime rest 0 1088 x ≡ words p prime rest 0 128 x
     rest-words prime x =
         ⊎-elim
-        (λ lt. words-first p prime block′ 1088 x (omega arith)
-        ∙ residue-same p prime _ _ (sym (mod-eq-of-lt (mod-lt (getD block′ x 0) positive)) ∙ ap (λ w. w % p) (sym (rest-word x lt)))
-        ∙ sym (words-first p prime rest 128 x lt))
-        (λ past. words-zero p prime block′ 0 1088 128 nothing x past ∙ sym (words-behind p prime rest 0 128 x past))
+        (λ lt. words-first p prime rest 1088 x (omega arith) ∙ sym (words-first p prime rest 128 x lt))
+        (λ past. words-zero p prime rest 0 1088 128 nothing x past ∙ sym (words-behind p prime rest 0 128 x past))
         (below-or-not x 128)
-      where
-        nothing : ZeroFrom p block′ 0 1088 128
-        nothing j ge lt = ap (λ w. w % p) (List·getD-eq-default block′ 0 (omega (arith, room))) ∙ zero-mod p
 
     few : left ≤ 128
     few = go (decLe left 128)
@@ -112,7 +89,7 @@ module _ (p : ℕ) (input : List ℕ) (at : ℕ) (zeros : List ℕ) (long : leng
         go : Dec (left ≤ 128) → left ≤ 128
         go (yes h) = h
         go (no h) =
-            let nothing : getD block′ (0 + (left - 1)) 0 ≡ 0 = List·getD-eq-default block′ 0 (omega (arith, room)) in
+            let nothing : getD rest (0 + (left - 1)) 0 ≡ 0 = List·getD-eq-default rest 0 (omega (arith, room)) in
             absurd (omega (arith, done .ends .last (omega arith), ap (λ w. w % p) nothing, zero-mod p))
 
     left-of : (prime : Prime p) (n : ℕ) (U : Slots (Polynomial (residues p prime))) (column : ℕ → Polynomial (residues p prime))
@@ -137,7 +114,7 @@ module _ (p : ℕ) (input : List ℕ) (at : ℕ) (zeros : List ℕ) (long : leng
         R : Ring (Polynomial (residues p prime))
         R = polynomials (residues p prime)
 
-        Q : Divides p prime n unweighted U column block′ factors
+        Q : Divides p prime n unweighted U column rest factors
         Q = done .divides prime n unweighted record {
           slots = U;
           vector = column;
@@ -147,8 +124,47 @@ module _ (p : ℕ) (input : List ℕ) (at : ℕ) (zeros : List ℕ) (long : leng
 
     pub column-divided : ColumnDivided p L input at rest factors left
     column-divided = record {
-      below = rest-below;
+      sums = done .sums;
       factors-below = done .below;
-      ends = ends-same p prime₀ block′ rest 0 0 1088 128 (rest-words prime₀) left few (done .ends);
+      ends = ends-same p prime₀ rest rest 0 0 1088 128 (rest-words prime₀) left few (done .ends);
       divides = left-of;
     }
+
+-- reduced as a whole, it is left of the column too
+module _ {p : ℕ} (prime₀ : Prime p) {L : Level} {input : List ℕ} {at : ℕ} {rest factors : List ℕ} {left : ℕ}
+    (C : ColumnDivided p L input at rest factors left) (room : length rest ≡ 128) {rest′ : List ℕ}
+    (reduces : rest′ ≡ stored (λ j. getD rest j 0 % p) rest 0 128) where
+  positive : 0 < p
+  positive = let large = prime₀ .large in omega arith
+
+  reduced-word : (j : ℕ) → j < 128 → getD rest′ j 0 ≡ getD rest j 0 % p
+  reduced-word j lt =
+      ap (λ i. getD rest′ i 0) (sym (zero-add j))
+      ∙ ap (λ l. getD l (0 + j) 0) reduces
+      ∙ stored-inside (λ j. getD rest j 0 % p) rest 0 128 j (omega arith) lt
+
+  pub reduced-below : (i : ℕ) → getD rest′ i 0 < p
+  reduced-below i =
+      ⊎-elim
+      (λ lt. omega (arith, reduced-word i lt, mod-lt (getD rest i 0) positive))
+      (λ past.
+      let none : getD rest′ i 0 ≡ 0 = List·getD-eq-default rest′ 0
+      (omega (arith, ap length reduces ∙ length-stored (λ j. getD rest j 0 % p) rest 0 128 ∙ room)) in
+      omega (arith, positive))
+      (below-or-not i 128)
+
+  same-words : (prime : Prime p) (x : ℕ) → words p prime rest 0 128 x ≡ words p prime rest′ 0 128 x
+  same-words prime x = words-same p prime rest rest′ 0 0 128 x (λ lt.
+      ap (λ i. getD rest i 0 % p) (zero-add x)
+      ∙ sym (ap (λ i. getD rest′ i 0 % p) (zero-add x) ∙ ap (λ w. w % p) (reduced-word x lt)
+      ∙ mod-eq-of-lt (mod-lt (getD rest x 0) positive)))
+
+  pub column-reduced : ColumnDivided p L input at rest′ factors left
+  column-reduced = record {
+    sums = λ i. omega (arith, reduced-below i);
+    factors-below = C .factors-below;
+    ends = ends-same p prime₀ rest rest′ 0 0 128 128 (same-words prime₀) left (C .ends .within) (C .ends);
+    divides = λ prime n U column slots flat.
+        let Q = C .divides prime n U column slots flat in
+        record { vector = Q .vector; holds = flat-same (same-words prime) (Q .holds); coefficients = Q .coefficients };
+  }

@@ -4,7 +4,7 @@ use Prim.Native.Nat.{ℕ, _+_, _-_, _*_, _%_, _<_, _≤_}
 use mathlib.Core.Path.{_≡_, sym, _∙_, ap, ap₂, subst}
 use mathlib.Core.Logic.{_⊎_, inl, inr, ⊎-elim}
 use mathlib.Core.List.{List}
-use native.Mathlib.Nat.{mod-eq-of-lt, zero-add}
+use native.Mathlib.Nat.{mod-eq-of-lt, mod-lt, zero-add, zero-mod}
 use native.Mathlib.Omega.{arith}
 use native.Mathlib.Decide.{ℕ-discrete}
 use lib.ListN.{length, getD, set, length-set}
@@ -27,11 +27,11 @@ use Rattle.lattice.specs.Range.{words-same}
 use Rattle.lattice.specs.Reading.{flat-same, held-same}
 use Rattle.levels.specs.Cleared.{held-extend}
 
--- the block, of so many words, in slot q
+-- so many words of the block, reduced, in slot q
 abbrev pub filled : ℕ → Level → ℕ → List ℕ → ℕ → Level
 filled p L q block size =
-    level (stored (λ j. getD block (0 + j) 0) (L .slots) (256 * q) 128) (set (L .sizes) q size)
-    (set (L .inverses) q (modulo p .inverse (getD block (size - 1) 0)))
+    level (stored (λ j. getD block j 0 % p) (L .slots) (256 * q) size) (set (L .sizes) q size)
+    (set (L .inverses) q (modulo p .inverse (getD block (size - 1) 0 % p)))
 
 -- no block in slot q, and this inverse in its place
 abbrev pub emptied : Level → ℕ → ℕ → Level
@@ -45,18 +45,36 @@ level-equal {s} {s′} {z} {z′} {i} {i′} es ez ei = ap₂ (λ a b. level a b
 abbrev pub tailOf : (p : ℕ) (prime : Prime p) → Level → ℕ → Polynomial (residues p prime)
 tailOf p prime L q = read (residues p prime) 128 (words p prime (L .slots) (256 * q + 128) 128)
 
-module _ {p : ℕ} {L : Level} (valid : ValidLevel p L) (q : ℕ) (inside : q < 8) (block : List ℕ) (size : ℕ) where
+module _ {p : ℕ} {L : Level} (valid : ValidLevel p L) (q : ℕ) (inside : q < 8) (empty : slotSize L q ≡ 0) (block : List ℕ) (size : ℕ)
+    (ends : Ends p block 0 128 size) where
   abbrev F : Level
   F = filled p L q block size
 
   abbrev word : ℕ → ℕ
-  word j = getD block (0 + j) 0
+  word j = getD block j 0 % p
+
+  positive : 0 < p
+  positive = omega (arith, valid .below 0)
 
   room : 256 * q + 128 ≤ length (L .slots)
   room = omega (arith, valid .room)
 
-  here : (j : ℕ) → j < 128 → getD (F .slots) (256 * q + j) 0 ≡ word j
-  here j lt = stored-inside word (L .slots) (256 * q) 128 j room lt
+  -- the slot was empty
+  nothing : (j : ℕ) → j < 128 → getD (L .slots) (256 * q + j) 0 ≡ 0
+  nothing j lt = sym (mod-eq-of-lt (valid .below (256 * q + j)))
+      ∙ valid .slot q inside .block .behind j (omega (arith, empty)) lt
+
+  here : (j : ℕ) → j < size → getD (F .slots) (256 * q + j) 0 ≡ word j
+  here j lt = stored-inside word (L .slots) (256 * q) size j (omega (arith, room, ends .within)) lt
+
+  same-residue : (j : ℕ) → j < 128 → getD block (0 + j) 0 % p ≡ getD (F .slots) (256 * q + j) 0 % p
+  same-residue j lt =
+      ⊎-elim
+      (λ counts.
+      ap (λ i. getD block i 0 % p) (zero-add j) ∙ sym (ap (λ w. w % p) (here j counts) ∙ mod-eq-of-lt (mod-lt (getD block j 0) positive)))
+      (λ past. ends .behind j past lt ∙ sym (ap (λ w. w % p)
+      (stored-outside word (L .slots) (256 * q) size (256 * q + j) (inr (omega arith)) ∙ nothing j lt) ∙ zero-mod p))
+      (below-or-not j size)
 
   size-here : slotSize F q ≡ size
   size-here = getD-set-same (L .sizes) q size 0 (omega (arith, valid .all-sizes))
@@ -66,11 +84,11 @@ module _ {p : ℕ} {L : Level} (valid : ValidLevel p L) (q : ℕ) (inside : q < 
 
   -- the words of other slots, and tails
   apart : (i j : ℕ) → j < 256 → (i ≡ q → 128 ≤ j) → getD (F .slots) (256 * i + j) 0 ≡ getD (L .slots) (256 * i + j) 0
-  apart i j lt tail = stored-outside word (L .slots) (256 * q) 128 (256 * i + j) (go (ℕ-discrete i q))
+  apart i j lt tail = stored-outside word (L .slots) (256 * q) size (256 * i + j) (go (ℕ-discrete i q))
     where
-      go : Dec (i ≡ q) → (256 * i + j < 256 * q) ⊎ (256 * q + 128 ≤ 256 * i + j)
-      go (yes e) = inr (omega (arith, tail e))
-      go (no e) = ⊎-elim (λ less. inl (omega arith)) (λ more. inr (omega arith)) (below-or-not i q)
+      go : Dec (i ≡ q) → (256 * i + j < 256 * q) ⊎ (256 * q + size ≤ 256 * i + j)
+      go (yes e) = inr (omega (arith, tail e, ends .within))
+      go (no e) = ⊎-elim (λ less. inl (omega arith)) (λ more. inr (omega (arith, ends .within))) (below-or-not i q)
 
   tail-apart : (i j : ℕ) → j < 128 → getD (F .slots) (256 * i + 128 + j) 0 ≡ getD (L .slots) (256 * i + 128 + j) 0
   tail-apart i j lt =
@@ -84,18 +102,18 @@ module _ {p : ℕ} {L : Level} (valid : ValidLevel p L) (q : ℕ) (inside : q < 
       let same : tailSize F i ≡ tailSize L i = size-other (8 + i) (λ e. omega arith) in
       (omega (arith, old .tail-within), λ j ge lt. ap (λ w. w % p) (tail-apart i j lt) ∙ old .tail j (omega arith) lt)
 
-  slot-here : Ends p block 0 128 size → 0 < size → row size ≡ q → ValidSlot p F q
-  slot-here ends some at = record {
+  slot-here : 0 < size → row size ≡ q → ValidSlot p F q
+  slot-here some at = record {
     block = subst (Ends p (F .slots) (256 * q) 128) (sym size-here) record {
       within = ends .within;
-      last = λ f. subst (λ w. 0 < w % p) (sym (here (size - 1) (omega (arith, ends .within)))) (ends .last f);
-      behind = λ j ge lt. ap (λ w. w % p) (here j lt) ∙ ends .behind j ge lt;
+      last = λ f. subst (λ w. 0 < w) (same-residue (size - 1) (omega (arith, ends .within))) (ends .last f);
+      behind = λ j ge lt. sym (same-residue j lt) ∙ ends .behind j ge lt;
     };
     pivot = λ f. ap row size-here ∙ at;
     inverse = λ f.
-        getD-set-same (L .inverses) q (modulo p .inverse (getD block (size - 1) 0)) 0 (omega (arith, valid .all-inverses))
+        getD-set-same (L .inverses) q (modulo p .inverse (word (size - 1))) 0 (omega (arith, valid .all-inverses))
         ∙ ap (λ w. modulo p .inverse w) (sym (ap (λ k. getD (F .slots) (256 * q + (k - 1)) 0) size-here
-        ∙ here (size - 1) (omega (arith, ends .within)) ∙ ap (λ i. getD block i 0) (zero-add (size - 1))));
+        ∙ here (size - 1) (omega arith)));
     tail-within = tail-kept q inside (valid .slot q inside) .0;
     tail = tail-kept q inside (valid .slot q inside) .1;
   }
@@ -113,50 +131,42 @@ module _ {p : ℕ} {L : Level} (valid : ValidLevel p L) (q : ℕ) (inside : q < 
         };
         pivot = λ f. ap row same ∙ old .pivot (omega arith);
         inverse = λ f.
-            getD-set-other (L .inverses) q i (modulo p .inverse (getD block (size - 1) 0)) 0 other
+            getD-set-other (L .inverses) q i (modulo p .inverse (word (size - 1))) 0 other
             ∙ old .inverse (omega arith)
             ∙ ap (λ w. modulo p .inverse w) (sym (ap (λ k. getD (F .slots) (256 * i + (k - 1)) 0) same ∙ last));
         tail-within = tail-kept i h old .0;
         tail = tail-kept i h old .1;
       }
 
-  pub filled-valid : ((i : ℕ) → getD block i 0 < p) → Ends p block 0 128 size → 0 < size → row size ≡ q
-      → ValidLevel p (filled p L q block size)
-  filled-valid below ends some at = record {
-    room = omega (arith, valid .room, length-stored word (L .slots) (256 * q) 128);
+  pub filled-valid : 0 < size → row size ≡ q → ValidLevel p (filled p L q block size)
+  filled-valid some at = record {
+    room = omega (arith, valid .room, length-stored word (L .slots) (256 * q) size);
     all-sizes = omega (arith, valid .all-sizes, length-set (L .sizes) q size);
-    all-inverses = omega (
-      arith,
-      valid .all-inverses,
-      length-set (L .inverses) q (modulo p .inverse (getD block (size - 1) 0)),
-    );
+    all-inverses = omega (arith, valid .all-inverses, length-set (L .inverses) q (modulo p .inverse (word (size - 1))));
     below = λ i. omega (
       arith,
-      below 0,
-      at-most-stored (p - 1) word (L .slots) (256 * q) 128 (λ j lt. omega (arith, below (0 + j)))
+      positive,
+      at-most-stored (p - 1) word (L .slots) (256 * q) size (λ j lt. omega (arith, mod-lt (getD block j 0) positive))
           (λ k. omega (arith, valid .below k)) i,
     );
     slot = λ i h. go i h (ℕ-discrete i q);
   }
     where
       go : (i : ℕ) → i < 8 → Dec (i ≡ q) → ValidSlot p F i
-      go i h (yes e) = subst (ValidSlot p F) (sym e) (slot-here ends some at)
+      go i h (yes e) = subst (ValidSlot p F) (sym e) (slot-here some at)
       go i h (no e) = slot-other i h e
 
   -- emptied again: the words of the slot were 0
-  emptied-slots : slotSize L q ≡ 0 → stored (λ j. 0) (F .slots) (256 * q) 128 ≡ L .slots
-  emptied-slots empty = ext-getD 0 _ _ same-length (λ i lt. go i (below-or-not i (256 * q)) (below-or-not i (256 * q + 128)))
+  emptied-slots : stored (λ j. 0) (F .slots) (256 * q) 128 ≡ L .slots
+  emptied-slots = ext-getD 0 _ _ same-length (λ i lt. go i (below-or-not i (256 * q)) (below-or-not i (256 * q + 128)))
     where
       same-length : length (stored (λ j. 0) (F .slots) (256 * q) 128) ≡ length (L .slots)
-      same-length = length-stored (λ j. 0) (F .slots) (256 * q) 128 ∙ length-stored word (L .slots) (256 * q) 128
+      same-length = length-stored (λ j. 0) (F .slots) (256 * q) 128 ∙ length-stored word (L .slots) (256 * q) size
 
       outside : (i : ℕ) → (i < 256 * q) ⊎ (256 * q + 128 ≤ i) → getD (stored (λ j. 0) (F .slots) (256 * q) 128) i 0 ≡ getD (L .slots) i 0
       outside i out =
-          stored-outside (λ j. 0) (F .slots) (256 * q) 128 i out ∙ stored-outside word (L .slots) (256 * q) 128 i out
-
-      zero : (j : ℕ) → j < 128 → getD (L .slots) (256 * q + j) 0 ≡ 0
-      zero j lt = sym (mod-eq-of-lt (valid .below (256 * q + j)))
-          ∙ valid .slot q inside .block .behind j (omega (arith, empty)) lt
+          stored-outside (λ j. 0) (F .slots) (256 * q) 128 i out
+          ∙ stored-outside word (L .slots) (256 * q) size i (⊎-elim inl (λ hi. inr (omega (arith, ends .within))) out)
 
       go : (i : ℕ) → (i < 256 * q) ⊎ (256 * q ≤ i) → (i < 256 * q + 128) ⊎ (256 * q + 128 ≤ i)
           → getD (stored (λ j. 0) (F .slots) (256 * q) 128) i 0 ≡ getD (L .slots) i 0
@@ -166,17 +176,17 @@ module _ {p : ℕ} {L : Level} (valid : ValidLevel p L) (q : ℕ) (inside : q < 
           let place : i ≡ 256 * q + (i - 256 * q) = omega arith in
           ap (λ x. getD (stored (λ j. 0) (F .slots) (256 * q) 128) x 0) place
           ∙ stored-inside (λ j. 0) (F .slots) (256 * q) 128 (i - 256 * q)
-          (omega (arith, room, length-stored word (L .slots) (256 * q) 128)) (omega arith)
-          ∙ sym (ap (λ x. getD (L .slots) x 0) place ∙ zero (i - 256 * q) (omega arith))
+          (omega (arith, room, length-stored word (L .slots) (256 * q) size)) (omega arith)
+          ∙ sym (ap (λ x. getD (L .slots) x 0) place ∙ nothing (i - 256 * q) (omega arith))
 
-  emptied-sizes : slotSize L q ≡ 0 → set (F .sizes) q 0 ≡ L .sizes
-  emptied-sizes empty = set-set (L .sizes) q size 0 ∙ ap (set (L .sizes) q) (sym empty) ∙ set-getD (L .sizes) q 0
+  emptied-sizes : set (F .sizes) q 0 ≡ L .sizes
+  emptied-sizes = set-set (L .sizes) q size 0 ∙ ap (set (L .sizes) q) (sym empty) ∙ set-getD (L .sizes) q 0
 
   emptied-inverses : set (F .inverses) q (getD (L .inverses) q 0) ≡ L .inverses
   emptied-inverses = set-set (L .inverses) q _ (getD (L .inverses) q 0) ∙ set-getD (L .inverses) q 0
 
-  pub emptied-filled : slotSize L q ≡ 0 → emptied (filled p L q block size) q (getD (L .inverses) q 0) ≡ L
-  emptied-filled empty = level-equal (emptied-slots empty) (emptied-sizes empty) emptied-inverses
+  pub emptied-filled : emptied (filled p L q block size) q (getD (L .inverses) q 0) ≡ L
+  emptied-filled = level-equal emptied-slots emptied-sizes emptied-inverses
 
   -- what it holds
   module _ (prime : Prime p) (n : ℕ) (ω : ℕ → ℕ) (U : Slots (Polynomial (residues p prime)))
@@ -208,7 +218,7 @@ module _ {p : ℕ} {L : Level} (valid : ValidLevel p L) (q : ℕ) (inside : q < 
         new : Held (residues p prime) n 8 ω (words p prime (F .slots) (256 * q) 128) (words p prime (F .slots) (256 * q + 128) 128)
             new-vector
         new = held-extend
-            (flat-same (λ x. words-same p prime block (F .slots) 0 (256 * q) 128 x (λ lt. ap (λ w. w % p) (sym (here x lt)))) A)
+            (flat-same (λ x. words-same p prime block (F .slots) 0 (256 * q) 128 x (same-residue x)) A)
             (record {
               at = λ e. read-holds (residues p prime) 128 (words p prime (L .slots) (256 * q + 128) 128)
                   (λ k ge. words-behind p prime (L .slots) (256 * q + 128) 128 k ge) .at e ∙ tails q e;

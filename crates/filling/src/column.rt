@@ -2,7 +2,6 @@
 use lattice::divide;
 use residue::modulus::Modulus;
 use vector::copy;
-use vector::reduce_range;
 ghost use mathlib.Core.Path.{_≡_};
 ghost use Prim.Native.Nat.{ℕ, _+_, _<_, _≤_};
 ghost use lib.ListN.{length, getD};
@@ -11,8 +10,8 @@ ghost use Rattle.vector.specs.Bound.{AtMost};
 ghost use Rattle.lattice.specs.Memory.{level, ValidLevel};
 ghost use Rattle.filling.specs.Column.{ColumnDivided};
 
-// Divides the column in 128 words of the input from `at` on. What is left goes to `rest`, the quotients to `factors`, both 0 at the
-// start. Returns how many words are left.
+// Divides the column in 128 words of the input from `at` on. What is left goes to `rest`, in sums that are not reduced, the quotients to
+// `factors`, both 0 at the start. Returns how many words are left.
 pub fn divide_column(
     input: &[u64],
     at: usize,
@@ -30,7 +29,5 @@ pub fn divide_column(
         (now (input .entry)) at (now (rest .exit)) (now (factors .exit)) r ⌝ }
 {
     copy(rest, 0, input, at, 128);
-    let left = divide(slots, sizes, inverses, rest, 128, factors, modulus);
-    reduce_range(rest, 128, modulus);
-    left
+    divide(slots, sizes, inverses, rest, 128, factors, modulus)
 }

@@ -1,34 +1,36 @@
 // A slot that was empty is filled with a block, and emptied again.
 use residue::modulus::Modulus;
 use vector::clear;
-use vector::copy;
+use vector::exchange;
 ghost use mathlib.Core.Path.{_≡_};
-ghost use Prim.Native.Nat.{_-_, _<_, _≤_};
+ghost use Prim.Native.Nat.{_-_, _%_, _<_, _≤_};
 ghost use lib.ListN.{length, getD};
 ghost use Rattle.residue.specs.Modulus.{ValidModulus};
+ghost use Rattle.vector.specs.Bound.{Reducible};
 ghost use Rattle.lattice.specs.Memory.{level};
 ghost use Rattle.filling.specs.Filled.{filled, emptied};
 
-// The 128 words of the block, the number of those that count, and the inverse of the last of them, to slot q.
+// So many words of the block, reduced, their number, and the inverse of the last of them, to slot q. The block gets what stood there.
 pub fn fill_slot(
     slots: &mut [u64],
     sizes: &mut [usize],
     inverses: &mut [u64],
     q: usize,
-    block: &[u64],
+    block: &mut [u64],
     size: usize,
     modulus: Modulus,
 )
     requires { ⌜ ValidModulus modulus × (q < 8) × (2048 ≤ length (now slots)) × (16 ≤ length (now sizes))
         × (8 ≤ length (now inverses)) ⌝ }
-    requires block { ⌜ (length (now block) ≡ 128) × (0 < size) × (size ≤ 128) × (0 < getD (now block) (size - 1) 0)
-        × (getD (now block) (size - 1) 0 < modulus .p) ⌝ }
+    requires block { ⌜ (length (now block) ≡ 128) × (size ≤ 128) × Reducible (modulus .p) (now block) 128 ⌝ }
+    requires last { ⌜ (0 < size) × (0 < getD (now block) (size - 1) 0 % modulus .p) ⌝ }
     ensures { λ _. ⌜ level (now (slots .exit)) (now (sizes .exit)) (now (inverses .exit))
         ≡ filled (modulus .p) (level (now (slots .entry)) (now (sizes .entry)) (now (inverses .entry))) q (now (block .entry)) size ⌝ }
 {
-    copy(slots, 256 * q, block, 0, 128);
+    let last = modulus.reduce(block[size - 1]);
+    exchange(block, slots, 256 * q, size, modulus);
     sizes[q] = size;
-    inverses[q] = modulus.inverse(block[size - 1]);
+    inverses[q] = modulus.inverse(last);
 }
 
 // Slot q with no block, and the inverse that stood there before.

@@ -9,7 +9,9 @@ use borrow.Fn.Kinds.{In}
 use borrow.Fn.PlainCycle.{Measures, is, falls, and}
 use Rattle.vector.specs.Bound.{zeros-none}
 use Rattle.lattice.specs.Memory.{row, level, Level, ValidLevel}
-use Rattle.filling.specs.Column.{ColumnDivided}
+use Rattle.residue.specs.Modulus.{ValidModulus}
+use Rattle.lattice.specs.Sums.{sums-room}
+use Rattle.filling.specs.Column.{column-reduced, reduced-below}
 use Rattle.filling.specs.Filled.{emptied, filled, filled-valid, emptied-filled}
 use Rattle.ascent.specs.Ascended.{HasLevels, Ascended}
 use Rattle.ascent.specs.Undoing.{has-extended, ascended-undone, ascended-none}
@@ -23,6 +25,7 @@ use Rattle.filling.proofs.empty_slot.Reads as empty-slot-reads
 use Rattle.filling.proofs.fill_slot.Reads as fill-slot-reads
 use Rattle.levels.proofs.next.next_level.Reads as next-level-reads
 use Rattle.quotients.proofs.lower_quotients.Reads as lower-quotients-reads
+use Rattle.vector.proofs.reduce_range.Reads as reduce-range-reads
 use Rattle.ascent.proofs.descending.descend.Reads as descend-reads
 use Rattle.ascent.proofs.dropping.leave_out.Reads as leave-out-reads
 use Rattle.ascent.proofs.top.reach_top.Reads as reach-top-reads
@@ -88,6 +91,8 @@ ascend-claims t = (
   drop-column.Post,
   fill-column-below t,
   fill-column.Post,
+  reduce-range-reads.Asked,
+  reduce-range-reads.Learnt,
   insert-column-below t,
   insert-column.Post,
 )
@@ -277,18 +282,32 @@ ascend-same-length-15 : (t : ℕ) → ascend-lts.Need-same-length-15 (ascend-cla
 ascend-same-length-15 t c = search needs
 
 ascend-returns-3 : (t : ℕ) → ascend-lts.Need-returns-3 (ascend-claims t) (ascend-at t) ascend.Post
-ascend-returns-3 t c = c .before .before .before .before .before .before .before .before .before .before .before .fill-column .ensures
+ascend-returns-3 t c = c .before .before .before .before .before .before .before .before .before .before .before .before .fill-column .ensures
+
+ascend-slice-aggregate-reduce-range : (t : ℕ) → ascend-lts.Need-slice-aggregate-reduce-range (ascend-claims t) (ascend-at t) ascend.Post
+ascend-slice-aggregate-reduce-range t c = search needs
+
+ascend-reduce-range-requires : (t : ℕ) → ascend-lts.Need-reduce-range-requires (ascend-claims t) (ascend-at t) ascend.Post
+ascend-reduce-range-requires t c κs =
+    let S = c .before .before .before .before .before .before .before .before .before .before .before .before .before .before .before .before .before .before .before in
+    let m : ValidModulus (S .args .modulus) = S .pre .1 .0 .0 in
+    let positive : 0 < S .args .modulus .p = let large = m .prime .large in omega arith in
+    let divided = c .before .before .before .before .before .before .divide-column in (
+      (m, omega (arith, divided .kept .1 .1 .1 .1 .1 .0)),
+      λ i lt. omega (arith, sums-room (S .args .modulus .p) (divided .last .1 .1 .1 .1 .1 .0) 0 positive (divided .ensures .sums) i),
+    )
 
 ascend-slice-aggregate-insert-column : (t : ℕ) → ascend-lts.Need-slice-aggregate-insert-column (ascend-claims t) (ascend-at t) ascend.Post
 ascend-slice-aggregate-insert-column t c = search needs
 
 ascend-insert-column-requires : (t : ℕ) → ascend-lts.Need-insert-column-requires (ascend-claims t) (ascend-at t) ascend.Post
 ascend-insert-column-requires t c κs =
-    let S = c .before .before .before .before .before .before .before .before .before .before .before .before .before .before .before .before .before .before .before .before .before .before .before .before in
+    let S = c .before .before .before .before .before .before .before .before .before .before .before .before .before .before .before .before .before .before .before .before .before .before .before .before .before .before .before in
     let given = S .pre .1 in
     let have = given .0 in
-    let divided = c .before .before .before .before .before .before .before .before .before .before .before .divide-column in
-    let left = column-left t (c .before .before .before .before .before .before .before .before .before .before .before .before .before .before .before .before .before) in (
+    let divided = c .before .before .before .before .before .before .before .before .before .before .before .before .before .before .divide-column in
+    let reduced = c .before .before .before .before .before .before .before .reduce-range in
+    let left = column-left t (c .before .before .before .before .before .before .before .before .before .before .before .before .before .before .before .before .before .before .before .before) in (
       omega (arith, S .pre .0, left),
       (
         (have .0, have .1, have .2, left, have .4),
@@ -302,10 +321,11 @@ ascend-insert-column-requires t c κs =
                 record {
                   factors = divided .last .1 .1 .1 .1 .1 .1 .0;
                   left = divided .result;
-                  divided = divided .ensures;
-                  some = omega (arith, c .before .before .before .before .before .before .before .before .if2 .left);
+                  divided = column-reduced (have .0 .prime) (divided .ensures) (divided .kept .1 .1 .1 .1 .1 .0) (reduced .ensures);
+                  below = reduced-below (have .0 .prime) (divided .ensures) (divided .kept .1 .1 .1 .1 .1 .0) (reduced .ensures);
+                  some = omega (arith, c .before .before .before .before .before .before .before .before .before .before .before .if2 .left);
                 },
-                divided .kept .1 .1 .1 .1 .1 .0,
+                reduced .kept .0 ∙ divided .kept .1 .1 .1 .1 .1 .0,
               ),
             ),
           ),
@@ -394,16 +414,20 @@ fill-column-slice-read-inverse t c = search needs
 
 fill-column-fill-slot-requires : (t : ℕ) → fill-column-lts.Need-fill-slot-requires (fill-column-claims t) (fill-column-at t) fill-column.Post
 fill-column-fill-slot-requires t c κs =
-    let given = c .before .before .before .before .before .before .before .before .before .before .before .before .pre .1 in
+    let S = c .before .before .before .before .before .before .before .before .before .before .before .before .before in
+    let given = S .pre .1 in
     let column = given .1 .1 .1 .1 in
-    let valid = given .1 .0 in (
-      (given .0 .0, omega arith, valid .room, valid .all-sizes, valid .all-inverses),
+    let valid = given .1 .0 in
+    let m : ValidModulus (S .args .modulus) = given .0 .0 in
+    let positive : 0 < S .args .modulus .p = let large = m .prime .large in omega arith in (
+      (m, omega arith, valid .room, valid .all-sizes, valid .all-inverses),
       (
-        column .1 .0 .1,
-        column .1 .0 .0,
-        column .0 .ends .within,
-        left-leading (column .0) (column .1 .0 .0),
-        column .0 .below _,
+        (
+          column .1 .0 .1,
+          column .0 .ends .within,
+          λ i lt. omega (arith, sums-room (S .args .modulus .p) (S .args .rest .now) 0 positive (column .0 .sums) i),
+        ),
+        (column .1 .0 .0, left-leading (column .0) (column .1 .0 .0)),
       ),
     )
 
@@ -412,17 +436,17 @@ fill-column-add-ascend t c = search needs
 
 fill-column-ascend-requires : (t : ℕ) → fill-column-lts.Need-ascend-requires (fill-column-claims t) (fill-column-at t) fill-column.Post
 fill-column-ascend-requires t c κs =
-    let S = c .before .before .before .before .before .before .before .before .before .before .before .before .before .before .before .before .before .before .before .before .before .before .before .before in
+    let S = c .before .before .before .before .before .before .before .before .before .before .before .before .before .before .before .before .before .before .before .before .before .before .before .before .before .before .before in
     let given = S .pre .1 in
     let have = given .0 in
     let column = given .1 .1 .1 .1 in
-    let fill = c .before .before .before .before .before .before .before .before .before .before .before .fill-slot .ensures in (
+    let fill = c .before .before .before .before .before .before .before .before .before .before .before .before .before .fill-slot .ensures in (
       omega (arith, S .pre .0, have .3),
       (
         (have .0, have .1, have .2, omega (arith, have .3), have .4),
         (
-          subst (ValidLevel (S .args .modulus .p)) (sym fill) (filled-valid (given .1 .0) (row (S .args .left)) (omega arith) (S .args .rest .now) (S .args .left) (column .0 .below)
-              (column .0 .ends) (column .1 .0 .0) refl),
+          subst (ValidLevel (S .args .modulus .p)) (sym fill) (filled-valid (given .1 .0) (row (S .args .left)) (omega arith) (column .1 .1) (S .args .rest .now) (S .args .left) (column .0 .ends)
+              (column .1 .0 .0) refl),
           (
             subst (HasLevels (S .args .modulus .p) (S .args .n) (S .args .m) (S .args .j + 1) (S .args .input .now)) (sym fill)
                 (has-extended (λ prime X H. filling (have .3) (given .1 .0) (column .0) (column .1 .0 .0) (column .1 .1) prime H) (given .1 .1 .0)),
@@ -434,22 +458,22 @@ fill-column-ascend-requires t c κs =
 
 fill-column-empty-slot-requires : (t : ℕ) → fill-column-lts.Need-empty-slot-requires (fill-column-claims t) (fill-column-at t) fill-column.Post
 fill-column-empty-slot-requires t c κs =
-    let S = c .before .before .before .before .before .before .before .before .before .before .before .before .before .before .before .before .before .before .before .before .before .before .before .before .before .before .before .before .before .before .before .before .before .before .before .before .before .before in
+    let S = c .before .before .before .before .before .before .before .before .before .before .before .before .before .before .before .before .before .before .before .before .before .before .before .before .before .before .before .before .before .before .before .before .before .before .before .before .before .before .before .before .before in
     let given = S .pre .1 in
     let column = given .1 .1 .1 .1 in
-    let valid = subst (ValidLevel (S .args .modulus .p)) (sym (c .before .before .before .before .before .before .before .before .before .before .before .before .before .ascend .ensures .1 ∙ c .before .before .before .before .before .before .before .before .before .before .before .before .before .before .before .before .before .before .before .before .before .before .before .before .before .fill-slot .ensures)) (filled-valid (given .1 .0) (row (S .args .left)) (omega arith) (S .args .rest .now) (S .args .left) (column .0 .below)
-    (column .0 .ends) (column .1 .0 .0) refl) in
+    let valid = subst (ValidLevel (S .args .modulus .p)) (sym (c .before .before .before .before .before .before .before .before .before .before .before .before .before .ascend .ensures .1 ∙ c .before .before .before .before .before .before .before .before .before .before .before .before .before .before .before .before .before .before .before .before .before .before .before .before .before .before .before .fill-slot .ensures)) (filled-valid (given .1 .0) (row (S .args .left)) (omega arith) (column .1 .1) (S .args .rest .now) (S .args .left) (column .0 .ends)
+    (column .1 .0 .0) refl) in
     (omega arith, valid .room, valid .all-sizes, valid .all-inverses)
 
 fill-column-add-lower-quotients : (t : ℕ) → fill-column-lts.Need-add-lower-quotients (fill-column-claims t) (fill-column-at t) fill-column.Post
-fill-column-add-lower-quotients t c = let have = c .before .before .before .before .before .before .before .before .before .before .before .before .before .before .before .before .before .before .before .before .before .before .before .before .before .before .before .before .before .before .before .before .before .before .before .before .before .before .before .before .before .before .before .before .before .before .before .before .before .pre .1 .0 in record { fits = omega (arith, have .2, have .3) }
+fill-column-add-lower-quotients t c = let have = c .before .before .before .before .before .before .before .before .before .before .before .before .before .before .before .before .before .before .before .before .before .before .before .before .before .before .before .before .before .before .before .before .before .before .before .before .before .before .before .before .before .before .before .before .before .before .before .before .before .before .before .before .pre .1 .0 in record { fits = omega (arith, have .2, have .3) }
 
 fill-column-mul-lower-quotients : (t : ℕ) → fill-column-lts.Need-mul-lower-quotients (fill-column-claims t) (fill-column-at t) fill-column.Post
-fill-column-mul-lower-quotients t c = let have = c .before .before .before .before .before .before .before .before .before .before .before .before .before .before .before .before .before .before .before .before .before .before .before .before .before .before .before .before .before .before .before .before .before .before .before .before .before .before .before .before .before .before .before .before .before .before .before .before .before .pre .1 .0 in record { fits = omega (arith, have .2, have .3) }
+fill-column-mul-lower-quotients t c = let have = c .before .before .before .before .before .before .before .before .before .before .before .before .before .before .before .before .before .before .before .before .before .before .before .before .before .before .before .before .before .before .before .before .before .before .before .before .before .before .before .before .before .before .before .before .before .before .before .before .before .before .before .before .pre .1 .0 in record { fits = omega (arith, have .2, have .3) }
 
 fill-column-lower-quotients-requires : (t : ℕ) → fill-column-lts.Need-lower-quotients-requires (fill-column-claims t) (fill-column-at t) fill-column.Post
 fill-column-lower-quotients-requires t c κs =
-    let given = c .before .before .before .before .before .before .before .before .before .before .before .before .before .before .before .before .before .before .before .before .before .before .before .before .before .before .before .before .before .before .before .before .before .before .before .before .before .before .before .before .before .before .before .before .before .before .before .before .before .pre .1 in
+    let given = c .before .before .before .before .before .before .before .before .before .before .before .before .before .before .before .before .before .before .before .before .before .before .before .before .before .before .before .before .before .before .before .before .before .before .before .before .before .before .before .before .before .before .before .before .before .before .before .before .before .before .before .before .pre .1 in
     let column = given .1 .1 .1 .1 in
     let A = c .before .before .before .before .before .before .before .before .before .before .before .before .before .before .before .before .before .before .before .before .before .before .before .before .ascend in (
       (given .0 .0, omega arith),
@@ -463,16 +487,16 @@ fill-column-lower-quotients-requires t c κs =
     )
 
 fill-column-same-length : (t : ℕ) → fill-column-lts.Need-same-length (fill-column-claims t) (fill-column-at t) fill-column.Post
-fill-column-same-length t c = c .before .before .before .before .before .before .before .before .before .before .before .before .before .before .before .before .before .empty-slot .kept .0 ∙ c .before .before .before .before .before .before .before .before .before .before .before .before .before .before .before .before .before .before .before .before .before .before .before .before .before .before .before .before .before .before .before .ascend .kept .1 .1 .1 .1 .0 ∙ c .before .before .before .before .before .before .before .before .before .before .before .before .before .before .before .before .before .before .before .before .before .before .before .before .before .before .before .before .before .before .before .before .before .before .before .before .before .before .before .before .before .before .before .fill-slot .kept .0
+fill-column-same-length t c = c .before .before .before .before .before .before .before .before .before .before .before .before .before .before .before .before .before .empty-slot .kept .0 ∙ c .before .before .before .before .before .before .before .before .before .before .before .before .before .before .before .before .before .before .before .before .before .before .before .before .before .before .before .before .before .before .before .ascend .kept .1 .1 .1 .1 .0 ∙ c .before .before .before .before .before .before .before .before .before .before .before .before .before .before .before .before .before .before .before .before .before .before .before .before .before .before .before .before .before .before .before .before .before .before .before .before .before .before .before .before .before .before .before .before .before .fill-slot .kept .0
 
 fill-column-same-length-2 : (t : ℕ) → fill-column-lts.Need-same-length-2 (fill-column-claims t) (fill-column-at t) fill-column.Post
-fill-column-same-length-2 t c = c .before .before .before .before .before .before .before .before .before .before .before .before .before .before .before .before .before .empty-slot .kept .1 .0 ∙ c .before .before .before .before .before .before .before .before .before .before .before .before .before .before .before .before .before .before .before .before .before .before .before .before .before .before .before .before .before .before .before .ascend .kept .1 .1 .1 .1 .1 .0 ∙ c .before .before .before .before .before .before .before .before .before .before .before .before .before .before .before .before .before .before .before .before .before .before .before .before .before .before .before .before .before .before .before .before .before .before .before .before .before .before .before .before .before .before .before .fill-slot .kept .1 .0
+fill-column-same-length-2 t c = c .before .before .before .before .before .before .before .before .before .before .before .before .before .before .before .before .before .empty-slot .kept .1 .0 ∙ c .before .before .before .before .before .before .before .before .before .before .before .before .before .before .before .before .before .before .before .before .before .before .before .before .before .before .before .before .before .before .before .ascend .kept .1 .1 .1 .1 .1 .0 ∙ c .before .before .before .before .before .before .before .before .before .before .before .before .before .before .before .before .before .before .before .before .before .before .before .before .before .before .before .before .before .before .before .before .before .before .before .before .before .before .before .before .before .before .before .before .before .fill-slot .kept .1 .0
 
 fill-column-same-length-3 : (t : ℕ) → fill-column-lts.Need-same-length-3 (fill-column-claims t) (fill-column-at t) fill-column.Post
-fill-column-same-length-3 t c = c .before .before .before .before .before .before .before .before .before .before .before .before .before .before .before .before .before .empty-slot .kept .1 .1 .0 ∙ c .before .before .before .before .before .before .before .before .before .before .before .before .before .before .before .before .before .before .before .before .before .before .before .before .before .before .before .before .before .before .before .ascend .kept .1 .1 .1 .1 .1 .1 .0 ∙ c .before .before .before .before .before .before .before .before .before .before .before .before .before .before .before .before .before .before .before .before .before .before .before .before .before .before .before .before .before .before .before .before .before .before .before .before .before .before .before .before .before .before .before .fill-slot .kept .1 .1 .0
+fill-column-same-length-3 t c = c .before .before .before .before .before .before .before .before .before .before .before .before .before .before .before .before .before .empty-slot .kept .1 .1 .0 ∙ c .before .before .before .before .before .before .before .before .before .before .before .before .before .before .before .before .before .before .before .before .before .before .before .before .before .before .before .before .before .before .before .ascend .kept .1 .1 .1 .1 .1 .1 .0 ∙ c .before .before .before .before .before .before .before .before .before .before .before .before .before .before .before .before .before .before .before .before .before .before .before .before .before .before .before .before .before .before .before .before .before .before .before .before .before .before .before .before .before .before .before .before .before .fill-slot .kept .1 .1 .0
 
 fill-column-same-length-4 : (t : ℕ) → fill-column-lts.Need-same-length-4 (fill-column-claims t) (fill-column-at t) fill-column.Post
-fill-column-same-length-4 t c = search needs
+fill-column-same-length-4 t c = c .before .before .before .before .before .before .before .before .before .before .before .before .before .before .before .before .before .before .before .before .before .before .before .before .before .before .before .before .before .before .before .before .before .before .before .before .before .before .before .before .before .before .before .before .before .fill-slot .kept .1 .1 .1 .1 .0
 
 fill-column-same-length-5 : (t : ℕ) → fill-column-lts.Need-same-length-5 (fill-column-claims t) (fill-column-at t) fill-column.Post
 fill-column-same-length-5 t c = search needs
@@ -480,19 +504,22 @@ fill-column-same-length-5 t c = search needs
 fill-column-same-length-6 : (t : ℕ) → fill-column-lts.Need-same-length-6 (fill-column-claims t) (fill-column-at t) fill-column.Post
 fill-column-same-length-6 t c = search needs
 
+fill-column-same-length-7 : (t : ℕ) → fill-column-lts.Need-same-length-7 (fill-column-claims t) (fill-column-at t) fill-column.Post
+fill-column-same-length-7 t c = search needs
+
 fill-column-returns : (t : ℕ) → fill-column-lts.Need-returns (fill-column-claims t) (fill-column-at t) fill-column.Post
 fill-column-returns t c =
-    let S = c .before .before .before .before .before .before .before .before .before .before .before .before .before .before .before .before .before .before .before .before .before .before .before .before .before .before .before .before .before .before .before .before .before .before .before .before .before .before .before .before .before .before .before .before .before .before .before .before .before .before .before .before .before .before .before .before in
+    let S = c .before .before .before .before .before .before .before .before .before .before .before .before .before .before .before .before .before .before .before .before .before .before .before .before .before .before .before .before .before .before .before .before .before .before .before .before .before .before .before .before .before .before .before .before .before .before .before .before .before .before .before .before .before .before .before .before .before .before .before in
     let given = S .pre .1 in
     let have = given .0 in
     let column = given .1 .1 .1 .1 in
-    let fill = c .before .before .before .before .before .before .before .before .before .before .before .before .before .before .before .before .before .before .before .before .before .before .before .before .before .before .before .before .before .before .before .before .before .before .before .before .before .before .before .before .before .before .before .fill-slot .ensures in
+    let fill = c .before .before .before .before .before .before .before .before .before .before .before .before .before .before .before .before .before .before .before .before .before .before .before .before .before .before .before .before .before .before .before .before .before .before .before .before .before .before .before .before .before .before .before .before .before .fill-slot .ensures in
     let A = c .before .before .before .before .before .before .before .before .before .before .before .before .before .before .before .before .before .before .before .before .before .before .before .before .before .before .before .before .before .before .before .ascend in
     let rest = subst (λ l. Ascended (S .args .modulus .p) (S .args .n) (S .args .m) (S .args .j + 1) (S .args .input .now) l
     (A .last .1 .1 .1 .1 .1 .1 .1 .0) (A .last .1 .1 .1 .1 .1 .1 .1 .1 .0) (A .result)) fill (A .ensures .0) in
     let same = c .before .before .before .before .before .before .before .before .before .before .before .before .before .before .before .before .before .empty-slot .ensures
     ∙ ap (λ l. emptied l (row (S .args .left)) (getD (S .args .inverses .now) (row (S .args .left)) 0)) (A .ensures .1 ∙ fill)
-    ∙ emptied-filled (given .1 .0) (row (S .args .left)) (omega arith) (S .args .rest .now) (S .args .left) (column .1 .1) in
+    ∙ emptied-filled (given .1 .0) (row (S .args .left)) (omega arith) (column .1 .1) (S .args .rest .now) (S .args .left) (column .0 .ends) in
     let low = c .before .before .before .before .before .before .lower-quotients .ensures in (
       ascended-undone (λ prime X H. filling (have .3) (given .1 .0) (column .0) (column .1 .0 .0) (column .1 .1) prime H) rest
           (c .before .before .before .before .before .before .before .before .before .before .if1 .taken) (low .quotients-below)
@@ -500,9 +527,6 @@ fill-column-returns t c =
           (λ prime X H D. undone-filling (have .3) (given .1 .0) (column .0) (column .1 .0 .0) (column .1 .1) prime H (have .1) low D),
       same,
     )
-
-fill-column-same-length-7 : (t : ℕ) → fill-column-lts.Need-same-length-7 (fill-column-claims t) (fill-column-at t) fill-column.Post
-fill-column-same-length-7 t c = search needs
 
 fill-column-same-length-8 : (t : ℕ) → fill-column-lts.Need-same-length-8 (fill-column-claims t) (fill-column-at t) fill-column.Post
 fill-column-same-length-8 t c = search needs
@@ -516,19 +540,25 @@ fill-column-same-length-10 t c = search needs
 fill-column-same-length-11 : (t : ℕ) → fill-column-lts.Need-same-length-11 (fill-column-claims t) (fill-column-at t) fill-column.Post
 fill-column-same-length-11 t c = search needs
 
+fill-column-same-length-12 : (t : ℕ) → fill-column-lts.Need-same-length-12 (fill-column-claims t) (fill-column-at t) fill-column.Post
+fill-column-same-length-12 t c = search needs
+
+fill-column-same-length-13 : (t : ℕ) → fill-column-lts.Need-same-length-13 (fill-column-claims t) (fill-column-at t) fill-column.Post
+fill-column-same-length-13 t c = search needs
+
 fill-column-returns-2 : (t : ℕ) → fill-column-lts.Need-returns-2 (fill-column-claims t) (fill-column-at t) fill-column.Post
 fill-column-returns-2 t c =
-    let S = c .before .before .before .before .before .before .before .before .before .before .before .before .before .before .before .before .before .before .before .before .before .before .before .before .before .before .before .before .before .before .before .before .before .before .before .before .before .before .before .before .before .before .before .before .before .before in
+    let S = c .before .before .before .before .before .before .before .before .before .before .before .before .before .before .before .before .before .before .before .before .before .before .before .before .before .before .before .before .before .before .before .before .before .before .before .before .before .before .before .before .before .before .before .before .before .before .before .before .before in
     let given = S .pre .1 in
     let have = given .0 in
     let column = given .1 .1 .1 .1 in
-    let fill = c .before .before .before .before .before .before .before .before .before .before .before .before .before .before .before .before .before .before .before .before .before .before .before .before .before .before .before .before .before .before .before .before .before .fill-slot .ensures in
+    let fill = c .before .before .before .before .before .before .before .before .before .before .before .before .before .before .before .before .before .before .before .before .before .before .before .before .before .before .before .before .before .before .before .before .before .before .before .fill-slot .ensures in
     let A = c .before .before .before .before .before .before .before .before .before .before .before .before .before .before .before .before .before .before .before .before .before .ascend in
     let rest = subst (λ l. Ascended (S .args .modulus .p) (S .args .n) (S .args .m) (S .args .j + 1) (S .args .input .now) l
     (A .last .1 .1 .1 .1 .1 .1 .1 .0) (A .last .1 .1 .1 .1 .1 .1 .1 .1 .0) (A .result)) fill (A .ensures .0) in
     let same = c .before .before .before .before .before .before .before .empty-slot .ensures
     ∙ ap (λ l. emptied l (row (S .args .left)) (getD (S .args .inverses .now) (row (S .args .left)) 0)) (A .ensures .1 ∙ fill)
-    ∙ emptied-filled (given .1 .0) (row (S .args .left)) (omega arith) (S .args .rest .now) (S .args .left) (column .1 .1) in (
+    ∙ emptied-filled (given .1 .0) (row (S .args .left)) (omega arith) (column .1 .1) (S .args .rest .now) (S .args .left) (column .0 .ends) in (
       ascended-none (λ prime X H. filling (have .3) (given .1 .0) (column .0) (column .1 .0 .0) (column .1 .1) prime H) rest
           (c .if1 .left),
       same,
@@ -552,7 +582,7 @@ insert-column-next-level-requires t c κs =
     let column = given .1 .1 .1 .1 in (
       (given .0 .0, given .1 .0),
       (
-        (omega (arith, column .1), column .0 .divided .below),
+        (omega (arith, column .1), column .0 .below),
         ((refl, refl, refl, refl), (zeros-none 2048, zeros-none 16)),
       ),
     )
@@ -692,6 +722,8 @@ pub +ascend+drop-column+fill-column+insert-column-spec : {M : Type 1} → statem
     (ascend-same-length-14 t)
     (ascend-same-length-15 t)
     (ascend-returns-3 t)
+    (ascend-slice-aggregate-reduce-range t)
+    (ascend-reduce-range-requires t)
     (ascend-slice-aggregate-insert-column t)
     (ascend-insert-column-requires t)
     (ascend-same-length-16 t)
@@ -728,12 +760,14 @@ pub +ascend+drop-column+fill-column+insert-column-spec : {M : Type 1} → statem
     (fill-column-same-length-4 t)
     (fill-column-same-length-5 t)
     (fill-column-same-length-6 t)
-    (fill-column-returns t)
     (fill-column-same-length-7 t)
+    (fill-column-returns t)
     (fill-column-same-length-8 t)
     (fill-column-same-length-9 t)
     (fill-column-same-length-10 t)
     (fill-column-same-length-11 t)
+    (fill-column-same-length-12 t)
+    (fill-column-same-length-13 t)
     (fill-column-returns-2 t))
     (λ t. insert-column-lts.spec (insert-column-claims t) (insert-column-at t) insert-column.Post
     (insert-column-slice-aggregate-next-level t)
