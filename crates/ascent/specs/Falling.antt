@@ -2,17 +2,12 @@
 -- level below.
 use Prim.Native.Nat.{ℕ, suc, _+_, _*_, _<_, _≤_}
 use mathlib.Core.Path.{_≡_, refl, sym, _∙_, ap, subst}
-use mathlib.Core.Logic.{⊎-elim}
 use mathlib.Core.List.{List}
-use native.Mathlib.Nat.{zero-add}
 use native.Mathlib.Numerals.{add-one}
 use native.Mathlib.Omega.{arith}
-use lib.ListN.{length, getD, List·getD-eq-default}
 use Rattle.algebra.specs.Polynomial.{Polynomial, polynomials}
 use Rattle.modular.specs.Prime.{Prime}
 use Rattle.modular.specs.Residue.{residues}
-use Rattle.vector.specs.Bound.{AtMost}
-use Rattle.vector.specs.Stored.{stored, length-stored, stored-inside, below-or-not}
 use Rattle.reduction.specs.Total.{rank-le}
 use Rattle.reduction.specs.Slots.{blocks-sym, unweighted}
 use Rattle.reduction.specs.Span.{InSpan, span-blocks}
@@ -36,26 +31,11 @@ pub record Fallen (p : ℕ) (L L′ : Level) (n : ℕ) (kernel input : List ℕ)
     (quotients′ output′ : List ℕ) : Type 0 where
   pub rest : List ℕ
   pub size : ℕ
-  pub turned : Turned p L′ n kernel 0 input at quotients output place rest output′ size
+  pub cleared : List ℕ
+  pub turned : Turned p L′ n kernel 0 input at quotients output place rest cleared output′ size
   pub emptied : List ℕ
   pub left : ℕ
   pub divided : Divided p L rest emptied quotients′ left
-
--- the quotients, cleared as a whole
-pub cleared-none : (l : List ℕ) {l′ : List ℕ} {k : ℕ} → length l ≡ k → l′ ≡ stored (λ i. 0) l 0 k → AtMost 0 l′
-cleared-none l {l′} {k} room clears i =
-    ⊎-elim
-    (λ lt. omega (
-      arith,
-      ap (λ x. getD l′ x 0) (sym (zero-add i))
-          ∙ ap (λ w. getD w (0 + i) 0) clears
-          ∙ stored-inside (λ j. 0) l 0 k i (omega arith) lt,
-    ))
-    (λ past.
-    let none : getD l′ i 0 ≡ 0 = List·getD-eq-default l′ 0
-    (omega (arith, ap length clears ∙ length-stored (λ j. 0) l 0 k ∙ room)) in
-    omega arith)
-    (below-or-not i k)
 
 module _ {p : ℕ} {n m j : ℕ} (few : n ≤ 8) {input : List ℕ} {L L′ : Level} {rest factors kernel : List ℕ} {left found : ℕ}
     (inside : j < m) (C : ColumnDivided p L input (128 * j) rest factors left) (some : 0 < left)

@@ -2,7 +2,6 @@
 use descent::descend_column;
 use lattice::divide;
 use residue::modulus::Modulus;
-use vector::clear;
 ghost use mathlib.Core.Path.{_≡_};
 ghost use Prim.Native.Nat.{ℕ, _+_, _*_, _<_, _≤_};
 ghost use lib.ListN.{length, getD};
@@ -60,6 +59,5 @@ pub fn descend(
         &mut y,
         modulus,
     );
-    clear(quotients, 0, 1088);
     divide(slots, sizes, inverses, &mut t, 1088, quotients, modulus);
 }

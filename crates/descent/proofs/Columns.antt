@@ -3,7 +3,7 @@ use Prim.Native.Nat.{ℕ, zero, _+_, _-_, _*_, _%_, _<_, _≤_}
 use mathlib.Core.Path.{_≡_, refl, sym, _∙_, ap, ap₂, subst}
 use mathlib.Core.Logic.{_⊎_, inl, inr, ⊎-elim}
 use mathlib.Core.List.{List, [], _∷_}
-use native.Mathlib.Nat.{mod-lt, mod-eq-of-lt, zero-add}
+use native.Mathlib.Nat.{mod-lt, mod-eq-of-lt, zero-add, mul-le-mul-right}
 use native.Mathlib.Omega.{arith}
 use native.Mathlib.Decide.{decLt}
 use lib.ListN.{length, getD}
@@ -24,8 +24,7 @@ use Rattle.reduction.specs.Flat.{Flat, flat}
 use Rattle.lattice.specs.Memory.{ZeroFrom, Ends}
 use Rattle.lattice.specs.Word.{residue, residue-minus, residue-zero}
 use Rattle.lattice.specs.Word.{zero-residue, words, words-inside, words-behind, words-first}
-use Rattle.lattice.specs.Range.{words-same, words-zero}
-use Rattle.lattice.specs.Reading.{flat-same}
+use Rattle.lattice.specs.Range.{words-zero}
 use Rattle.lattice.specs.Found.{found-ends}
 use Rattle.descent.specs.Read.{read-zeros}
 use Rattle.descent.specs.Product.{strided, less, TakesProduct}
@@ -189,53 +188,21 @@ module _ {p : ℕ} {t h : List ℕ} {a : ℕ} {columns : List ℕ} {at : ℕ} {t
         ∙ coefficients-zero (residues p prime) e;
   }
 
--- a block of which n words are reduced, and the others below p already
-module _ (p : ℕ) (t t′ : List ℕ) (n : ℕ) (stores : t′ ≡ stored (λ j. getD t j 0 % p) t 0 n) (inside : n ≤ length t) where
-  pub reduced-length : length t′ ≡ length t
-  reduced-length = ap length stores ∙ length-stored _ t 0 n
-
-  word-reduced : (j : ℕ) → j < n → getD t′ j 0 ≡ getD t j 0 % p
-  word-reduced j lt =
-      ap (λ i. getD t′ i 0) (sym (zero-add j))
-      ∙ ap (λ l. getD l (0 + j) 0) stores
-      ∙ stored-inside (λ i. getD t i 0 % p) t 0 n j (omega arith) lt
-
-  word-kept : (j : ℕ) → n ≤ j → getD t′ j 0 ≡ getD t j 0
-  word-kept j ge = ap (λ l. getD l j 0) stores ∙ stored-outside (λ i. getD t i 0 % p) t 0 n j (inr (omega arith))
-
-  pub reduced-below : 0 < p → ((i : ℕ) → n ≤ i → getD t i 0 < p) → (i : ℕ) → getD t′ i 0 < p
-  reduced-below some others i =
-      ⊎-elim
-      (λ lt. subst (λ w. w < p) (sym (word-reduced i lt)) (mod-lt (getD t i 0) some))
-      (λ ge. subst (λ w. w < p) (sym (word-kept i ge)) (others i ge))
-      (below-or-not i n)
-
-  same-residue : 0 < p → (j : ℕ) → getD t j 0 % p ≡ getD t′ j 0 % p
-  same-residue some j =
-      ⊎-elim
-      (λ lt. sym (ap (λ w. w % p) (word-reduced j lt) ∙ mod-eq-of-lt (mod-lt (getD t j 0) some)))
-      (λ ge. sym (ap (λ w. w % p) (word-kept j ge)))
-      (below-or-not j n)
-
-  pub reduced-words : (prime : Prime p) (j : ℕ) → words p prime t 0 1088 j ≡ words p prime t′ 0 1088 j
-  reduced-words prime j = words-same p prime t t′ 0 0 1088 j (λ lt. same-residue (omega (arith, prime .large)) (0 + j))
-
 -- all steps of `take_column` together
-pub column-taken : {p : ℕ} → Prime p → (t h : List ℕ) (a : ℕ) (y columns : List ℕ) (at : ℕ) (t₁ t′ h′ : List ℕ) (size terms : ℕ)
-    → length t ≡ 1088 → ((i : ℕ) → getD t i 0 < p) → a + 128 ≤ length h
-    → h′ ≡ stored (λ j. modulo p .neg (getD y j 0 % p)) h a 128 → size ≡ length (polynomial p y 0 128)
-    → terms ≡ size - (size - 121) → TakesProduct p 8 t h′ a 1 terms columns at 128 t₁
-    → t′ ≡ stored (λ j. getD t₁ j 0 % p) t₁ 0 (8 * terms + 120) → TakesColumn p t h a y columns at t′ h′ size
-column-taken {p} prime₀ t h a y columns at t₁ t′ h′ size terms length-is below room stores found few T reduces =
-    let inside : 8 * terms + 120 ≤ length t₁ = omega (arith, T .same-length) in record {
-      same-length = reduced-length p t₁ t′ (8 * terms + 120) reduces inside ∙ T .same-length;
-      below = reduced-below p t₁ t′ (8 * terms + 120) reduces inside (omega (arith, prime₀ .large))
-          (λ i far. omega (arith, T .behind i (omega arith), below i));
-      stores = stores;
-      ends = stored-ends prime₀ h h′ a y stores room size found;
-      holds = λ zero prime n ω v u x A B C. record {
-        coordinate = coordinate-held prime₀ h h′ a y stores room zero prime x C;
-        rest = flat-same (reduced-words p t₁ t′ (8 * terms + 120) reduces inside prime) (block-after T (omega arith) (omega arith)
-            prime n ω v u x (coordinate-short prime₀ h h′ a y stores room zero prime x C size terms found few) A B);
-      };
-    }
+pub column-taken : {p : ℕ} → Prime p → (t h : List ℕ) (a : ℕ) (y columns : List ℕ) (at : ℕ) (t′ h′ : List ℕ) (size terms : ℕ)
+    → length t ≡ 1088 → a + 128 ≤ length h → h′ ≡ stored (λ j. modulo p .neg (getD y j 0 % p)) h a 128
+    → size ≡ length (polynomial p y 0 128) → terms ≡ size - (size - 121) → TakesProduct p 8 t h′ a 1 terms columns at 128 t′
+    → TakesColumn p t h a y columns at t′ h′ size
+column-taken {p} prime₀ t h a y columns at t′ h′ size terms length-is room stores found few T = record {
+  same-length = T .same-length;
+  bound = λ b small i.
+      let most : terms ≤ 121 = omega arith in
+      omega (arith, T .bound b small i, mul-le-mul-right (p * p) most);
+  stores = stores;
+  ends = stored-ends prime₀ h h′ a y stores room size found;
+  holds = λ zero prime n ω v u x A B C. record {
+    coordinate = coordinate-held prime₀ h h′ a y stores room zero prime x C;
+    rest = block-after T (omega arith) (omega arith) prime n ω v u x
+        (coordinate-short prime₀ h h′ a y stores room zero prime x C size terms found few) A B;
+  };
+}

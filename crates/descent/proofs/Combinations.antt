@@ -8,8 +8,8 @@ use native.Mathlib.Numerals.{add-one}
 use native.Mathlib.Omega.{arith}
 use native.Mathlib.Decide.{ℕ-discrete}
 use lib.ListN.{length}
-use Rattle.ring.specs.Ring.{Ring, zero-mul}
-use Rattle.ring.specs.Sum.{sum, sum-ext}
+use Rattle.ring.specs.Ring.{Ring, zero-mul, neg-mul}
+use Rattle.ring.specs.Sum.{sum, sum-ext, sum-neg}
 use Rattle.ring.specs.Identity.{quotes, identity}
 use Rattle.algebra.specs.Polynomial.{Polynomial, polynomials}
 use Rattle.algebra.specs.Size.{size}
@@ -90,20 +90,37 @@ module _ {p : ℕ} (prime : Prime p) {n : ℕ} (rows : n ≤ 8) {U : Slots (Poly
   abbrev R : Ring (Polynomial (residues p prime))
   R = polynomials (residues p prime)
 
-  pub less-filled : (x : Polynomial (residues p prime)) (u z : ℕ → Polynomial (residues p prime))
-      → ((q : ℕ) → q < n → 0 < U .size q → u q ≡ z q)
-      → lessAll p prime n x (λ q. factor p prime quotients (terms q) q) u ≡ lessAll p prime n x (Q .span .coefficient) z
-  less-filled x u z same = ap (λ s. R .add x (R .neg s)) (sum-ext R n (λ q. R .mul (factor p prime quotients (terms q) q) (u q))
-      (λ q. R .mul (Q .span .coefficient q) (z q))
-      (λ q h. ap (λ c. R .mul c (u q)) (read-is q h) ∙ term q h (ℕ-discrete (U .size q) 0)))
-    where
-      read-is : (q : ℕ) → q < n → factor p prime quotients (terms q) q ≡ Q .span .coefficient q
-      read-is q h = quotient-read p prime quotients q (omega arith) (Q .span .coefficient q) (Q .holds q h) (terms q) (few q h)
-          (enough q h)
+  module _ (u z : ℕ → Polynomial (residues p prime)) (same : (q : ℕ) → q < n → 0 < U .size q → u q ≡ z q) where
+    read-is : (q : ℕ) → q < n → factor p prime quotients (terms q) q ≡ Q .span .coefficient q
+    read-is q h = quotient-read p prime quotients q (omega arith) (Q .span .coefficient q) (Q .holds q h) (terms q) (few q h)
+        (enough q h)
 
-      term : (q : ℕ) → q < n → Dec (U .size q ≡ 0) → R .mul (Q .span .coefficient q) (u q) ≡ R .mul (Q .span .coefficient q) (z q)
-      term q h (yes e) =
-          ap (λ c. R .mul c (u q)) (Q .span .empty q h e)
-          ∙ zero-mul R (u q)
-          ∙ sym (ap (λ c. R .mul c (z q)) (Q .span .empty q h e) ∙ zero-mul R (z q))
-      term q h (no e) = ap (R .mul (Q .span .coefficient q)) (same q h (omega arith))
+    term : (q : ℕ) → q < n → Dec (U .size q ≡ 0) → R .mul (Q .span .coefficient q) (u q) ≡ R .mul (Q .span .coefficient q) (z q)
+    term q h (yes e) =
+        ap (λ c. R .mul c (u q)) (Q .span .empty q h e)
+        ∙ zero-mul R (u q)
+        ∙ sym (ap (λ c. R .mul c (z q)) (Q .span .empty q h e) ∙ zero-mul R (z q))
+    term q h (no e) = ap (R .mul (Q .span .coefficient q)) (same q h (omega arith))
+
+    sum-filled : sum R n (λ q. R .mul (factor p prime quotients (terms q) q) (u q)) ≡ sum R n
+        (λ q. R .mul (Q .span .coefficient q) (z q))
+    sum-filled = sum-ext R n _ _ (λ q h. ap (λ c. R .mul c (u q)) (read-is q h) ∙ term q h (ℕ-discrete (U .size q) 0))
+
+    pub less-filled : (x : Polynomial (residues p prime))
+        → lessAll p prime n x (λ q. factor p prime quotients (terms q) q) u ≡ lessAll p prime n x (Q .span .coefficient) z
+    less-filled x = ap (λ s. R .add x (R .neg s)) sum-filled
+
+    -- the negated quotients add what the quotients take off
+    pub more-filled : (negated : List ℕ)
+        → ((q : ℕ) → q < n → factor p prime negated (terms q) q ≡ R .neg (factor p prime quotients (terms q) q))
+        → lessAll p prime n (R .zero) (λ q. factor p prime negated (terms q) q) u ≡ sum R n
+        (λ q. R .mul (Q .span .coefficient q) (z q))
+    more-filled negated is =
+        ap (λ s. R .add (R .zero) (R .neg s))
+        (sum-ext R n _ _ (λ q h. ap (λ c. R .mul c (u q)) (is q h) ∙ neg-mul R (factor p prime quotients (terms q) q) (u q))
+        ∙ sum-neg R n (λ q. R .mul (factor p prime quotients (terms q) q) (u q)))
+        ∙ twice (sum R n (λ q. R .mul (factor p prime quotients (terms q) q) (u q)))
+        ∙ sum-filled
+      where
+        twice : (x : Polynomial (residues p prime)) → R .add (R .zero) (R .neg (R .neg x)) ≡ x
+        twice x = identity R (x ∷ []) (λ ρ qx. search quotes depth 16) refl

@@ -19,6 +19,7 @@ use Rattle.lattice.specs.Memory.{Level}
 use Rattle.lattice.specs.Word.{words, words-behind}
 use Rattle.lattice.specs.Holding.{HoldsSlots}
 use Rattle.lattice.specs.Coefficients.{HoldsCoefficients}
+use Rattle.descent.specs.Degrees.{FewDegrees}
 use Rattle.descent.specs.Product.{less}
 use Rattle.descent.specs.Combination.{lessAll, factor, TakesCombination}
 use Rattle.descent.specs.Kernel.{Lessened, TakesKernel}
@@ -27,7 +28,8 @@ use Rattle.descent.proofs.Lanes.{holds-same, one-lane, quotient-size, z
 use Rattle.descent.proofs.Combinations.{less-filled}
 
 module _ {p : ℕ} (L : Level) {n : ℕ} {kernel : List ℕ} {at size : ℕ} {quotients y y₁ y′ : List ℕ} (rows : n ≤ 8) (none : AtMost 0 y)
-    (C : TakesCombination p 1 256 quotients (λ _. 136) (L .slots) (λ q. 256 * q + 128) n y y₁)
+    {degrees : ℕ} (few : FewDegrees p quotients degrees)
+    (C : TakesCombination p 1 256 quotients (λ _. degrees) (L .slots) (λ q. 256 * q + 128) n y y₁)
     (K : TakesKernel p y₁ kernel at size y′) where
   bound-found : AtMost (1344 * (p * p)) y′
   bound-found i =
@@ -52,7 +54,7 @@ module _ {p : ℕ} (L : Level) {n : ℕ} {kernel : List ℕ} {at size : ℕ} {qu
     tails = combined (polynomials (residues p prime)) n (Q .span .coefficient) U n
 
     abbrev taken : Polynomial (residues p prime)
-    taken = lessAll p prime n (polynomials (residues p prime) .zero) (factor p prime quotients 136) tail
+    taken = lessAll p prime n (polynomials (residues p prime) .zero) (factor p prime quotients degrees) tail
 
     taken-held : Holds (residues p prime) (words p prime y₁ 0 256) taken
     taken-held = holds-same (λ e. ap (words p prime y₁ 0 256) (one-lane e)) (C .holds prime 0 (omega arith) (R .zero) tail
@@ -67,9 +69,9 @@ module _ {p : ℕ} (L : Level) {n : ℕ} {kernel : List ℕ} {at size : ℕ} {qu
 
     equal : less p prime taken m u ≡ R .neg (less p prime tails (R .neg m) u)
     equal =
-        ap (λ x. less p prime x m u) (less-filled prime rows Q (λ _. 136) (λ q h. omega arith)
-        (λ q h. quotient-size p prime quotients q (omega arith) (Q .span .coefficient q) (Q .holds q h)) (R .zero) tail (λ q. U .at q n)
-        (λ q h some. holds-unique (residues p prime) (tail-held q) (S .vector q h some .tail)))
+        ap (λ x. less p prime x m u) (less-filled prime rows Q (λ _. degrees) (λ q h. few .most)
+        (λ q h. quotient-size p prime quotients q (omega arith) (Q .span .coefficient q) (Q .holds q h) few) tail (λ q. U .at q n)
+        (λ q h some. holds-unique (residues p prime) (tail-held q) (S .vector q h some .tail)) (R .zero))
         ∙ identity R (tails ∷ m ∷ u ∷ []) (λ ρ qt qm qu. search quotes depth 16) refl
 
     found : Coordinate p prime n U v u y′

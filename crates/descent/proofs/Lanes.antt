@@ -20,6 +20,7 @@ use Rattle.lattice.specs.Memory.{ZeroFrom}
 use Rattle.lattice.specs.Word.{residue, words, words-inside, words-behind, words-first}
 use Rattle.lattice.specs.Range.{words-zero}
 use Rattle.lattice.specs.Quotients.{HoldsQuotient}
+use Rattle.descent.specs.Degrees.{FewDegrees}
 use Rattle.descent.specs.Product.{strided}
 use Rattle.descent.specs.Combination.{factor}
 
@@ -41,8 +42,9 @@ module _ (p : ℕ) (prime : Prime p) where
 
   -- the lane of row q: how much it has room for, and what `strided` reads of it
   module _ (l : List ℕ) (q : ℕ) (lt : q < 8) (x : Polynomial (residues p prime)) (A : HoldsQuotient p prime l q x) where
-    pub quotient-size : size (residues p prime) x ≤ 136
-    quotient-size = holds-size (residues p prime) A 136 (λ e ge. words-behind p prime l 0 1088 (flat 8 q e) (omega arith))
+    pub quotient-size : {k : ℕ} → FewDegrees p l k → size (residues p prime) x ≤ k
+    quotient-size {k} D = holds-size (residues p prime) A k
+        (λ e ge. words-zero p prime l 0 1088 (8 * k) (D .behind) (flat 8 q e) (omega arith))
 
     pub quotient-read : (k : ℕ) → k ≤ 136 → size (residues p prime) x ≤ k → factor p prime l k q ≡ x
     quotient-read k most short = equal-coefficients (residues p prime) _ _ (λ e. go e (decLt e k))

@@ -1,6 +1,8 @@
-pub mod Products
 pub mod Lanes
+pub mod Products
+pub mod Negating
 pub mod Combinations
+pub mod Terms
 pub mod Kernels
 pub mod Columns
 pub mod Coordinates

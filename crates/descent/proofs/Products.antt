@@ -14,13 +14,14 @@ use Rattle.modular.specs.Residue.{Residue, residues}
 use Rattle.vector.specs.Bound.{AtMost, at-most-sum}
 use Rattle.vector.specs.Stored.{stored, length-stored, stored-outside}
 use Rattle.vector.specs.Multiple.{sumAt}
-use Rattle.reduction.specs.Holds.{Holds, monomial, read, holds-step}
+use Rattle.reduction.specs.Holds.{Holds, monomial, read, holds-step, holds-unique}
 use Rattle.reduction.specs.Flat.{flat}
 use Rattle.lattice.specs.Memory.{ZeroFrom}
-use Rattle.lattice.specs.Word.{residue-zero, words}
+use Rattle.lattice.specs.Word.{residue-zero, words, words-behind}
 use Rattle.lattice.specs.Range.{words-upper, words-lower}
 use Rattle.descent.specs.Read.{read-suc, read-zeros}
 use Rattle.descent.specs.Product.{strided, less, TakesProduct}
+use Rattle.descent.proofs.Lanes.{none-held}
 
 -- a product of a number below p and one of at most p
 pub product-most : (p c x : ℕ) → c ≤ p → x < p → c * x ≤ p * p
@@ -39,6 +40,21 @@ module _ {p w : ℕ} {h₀ f : List ℕ} {b v : ℕ} {s : List ℕ} {a m : ℕ} 
     behind = λ i far. refl;
     holds = λ N inside room prime i lane x u A B. subst (Holds (residues p prime) _)
         (identity (polynomials (residues p prime)) (x ∷ u ∷ []) (λ ρ qx qu. search quotes depth 16) refl) A;
+  }
+
+  -- no words hold zero, and no multiple of it is taken off
+  pub product-none : {n : ℕ} → m ≡ 0 → TakesProduct p w h₀ f b v n s a m h₀
+  product-none {n} none = record {
+    same-length = refl;
+    bound = λ c small i. omega (arith, small i);
+    behind = λ i far. refl;
+    holds = λ N inside room prime i lane x u A B.
+        let y = read (residues p prime) n (strided p prime f b v) in
+        let zero : u ≡ polynomials (residues p prime) .zero = holds-unique (residues p prime) B
+        (none-held p prime (λ e. words-behind p prime s a m (flat w i e) (omega arith))) in
+        subst (Holds (residues p prime) _)
+        (identity (polynomials (residues p prime)) (x ∷ y ∷ []) (λ ρ qx qy. search quotes depth 16) refl
+        ∙ ap (λ z. less p prime x y z) (sym zero)) A;
   }
 
   -- a factor 0 takes nothing off

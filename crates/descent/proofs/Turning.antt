@@ -1,5 +1,5 @@
 -- `descend_column`: the coordinate that is found and the column that is taken off are a `Turn` of `reduction`; by L6 the coordinate is short.
-use Prim.Native.Nat.{ℕ, suc, _+_, _-_, _<_, _≤_}
+use Prim.Native.Nat.{ℕ, suc, _+_, _-_, _*_, _<_, _≤_}
 use mathlib.Core.Path.{_≡_, sym, _∙_, ap, subst}
 use mathlib.Core.List.{List}
 use native.Mathlib.Omega.{arith}
@@ -28,9 +28,9 @@ use Rattle.descent.specs.Turn.{HoldsDescent, HoldsTurn, Turned}
 use Rattle.descent.proofs.Columns.{stored-length, stored-below}
 
 module _ {p : ℕ} (L : Level) {n : ℕ} {kernels : List ℕ} {kernel size₀ : ℕ} {columns : List ℕ} {at : ℕ}
-    {quotients coordinates : List ℕ} {place : ℕ} {t : List ℕ}
+    {quotients cleared coordinates : List ℕ} {place : ℕ} {t : List ℕ}
     {t′ coordinates′ : List ℕ} {found : ℕ} {y : List ℕ} (valid : ValidKernel p kernels kernel size₀)
-    (X : FindsCoordinate p L n kernels kernel size₀ quotients y) (Z : CombinesBlocks p L n quotients t)
+    (X : FindsCoordinate p L n kernels kernel size₀ quotients y) (Z : CombinesBlocks p L n quotients cleared t)
     (Y : TakesColumn p t coordinates place y columns at t′ coordinates′ found) where
   module _ (prime : Prime p) (A : HoldsDescent p prime L kernels kernel columns at quotients) (rows : A .system .rows ≡ n) where
     C : Coordinate p prime (A .system .rows) (A .level (suc (A .column))) (A .vector) (A .kernel (A .column)) y
@@ -39,7 +39,7 @@ module _ {p : ℕ} (L : Level) {n : ℕ} {kernels : List ℕ} {kernel size₀ : 
 
     -- t has room for the vector (L6)
     held : Flat (residues p prime) (A .system .rows) 8 unweighted (words p prime t 0 1088) (A .vector)
-    held = subst (λ m. CombinesBlocks p L m quotients t) (sym rows) Z .holds prime (A .level (suc (A .column))) (A .vector)
+    held = subst (λ m. CombinesBlocks p L m quotients cleared t) (sym rows) Z .holds prime (A .level (suc (A .column))) (A .vector)
         (A .holds-slots) (A .coefficients)
         (λ i h. omega (arith, descent-room (A .system) (A .level) (A .kernel) (A .levels) (A .inside) (A .descent) i h, A .small, A .low))
 
@@ -124,10 +124,11 @@ module _ {p : ℕ} (L : Level) {n : ℕ} {kernels : List ℕ} {kernel size₀ : 
     }
 
   pub turn-made : Prime p → place + 128 ≤ length coordinates → ((i : ℕ) → getD coordinates i 0 < p)
-      → Turned p L n kernels kernel columns at quotients coordinates place t′ coordinates′ found
+      → Turned p L n kernels kernel columns at quotients coordinates place t′ cleared coordinates′ found
   turn-made prime₀ room below = record {
     same-length = Y .same-length ∙ Z .length-is;
-    below = Y .below;
+    sums = λ i. omega (arith, Y .bound (1088 * (p * p)) (Z .bound) i);
+    cleared = Z .cleared;
     same-coordinates = stored-length prime₀ coordinates coordinates′ place y 128 (Y .stores) room;
     coordinates-below = stored-below prime₀ coordinates coordinates′ place y 128 (Y .stores) room (λ i out. below i);
     others = λ i out. ap (λ l. getD l i 0) (Y .stores) ∙ stored-outside _ coordinates place 128 i out;

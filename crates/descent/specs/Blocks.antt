@@ -1,12 +1,13 @@
--- The sum of quotient times block over the slots of a level, modulo p: the vector that the quotients are the coefficients of.
+-- The sum of quotient times block over the slots of a level: the vector that the quotients are the coefficients of.
 use Prim.Native.Nat.{ℕ, _-_, _*_, _/_, _<_, _≤_}
 use mathlib.Core.Path.{_≡_}
 use mathlib.Core.List.{List}
-use lib.ListN.{length, getD}
+use lib.ListN.{length}
 use Rattle.algebra.specs.Polynomial.{Polynomial}
 use Rattle.algebra.specs.Size.{size}
 use Rattle.modular.specs.Prime.{Prime}
 use Rattle.modular.specs.Residue.{residues}
+use Rattle.vector.specs.Bound.{AtMost}
 use Rattle.reduction.specs.Slots.{Slots, unweighted}
 use Rattle.reduction.specs.Flat.{Flat}
 use Rattle.lattice.specs.Memory.{Level}
@@ -15,12 +16,17 @@ use Rattle.lattice.specs.Holding.{HoldsSlots}
 use Rattle.lattice.specs.Coefficients.{HoldsCoefficients}
 
 -- L3: so many terms a coefficient of a vector of 136 degrees has at a block of that size, none where the slot is empty
-abbrev pub blockTerms : ℕ → ℕ
-blockTerms size = 136 - (size - 1) / 8 - 136 * (1 - size)
+abbrev pub mostTerms : ℕ → ℕ
+mostTerms size = 136 - (size - 1) / 8 - 136 * (1 - size)
 
-pub record CombinesBlocks (p : ℕ) (L : Level) (n : ℕ) (quotients t : List ℕ) : Type 0 where
+-- and no more than the longest quotient has
+abbrev pub blockTerms : ℕ → ℕ → ℕ
+blockTerms degrees size = degrees - (degrees - mostTerms size)
+
+pub record CombinesBlocks (p : ℕ) (L : Level) (n : ℕ) (quotients quotients′ t : List ℕ) : Type 0 where
   pub length-is : length t ≡ 1088
-  pub below : (i : ℕ) → getD t i 0 < p
+  pub bound : AtMost (1088 * (p * p)) t
+  pub cleared : AtMost 0 quotients′
   pub holds : (prime : Prime p) (U : Slots (Polynomial (residues p prime))) (v : ℕ → Polynomial (residues p prime))
       → HoldsSlots p prime n unweighted L U → HoldsCoefficients p prime n U v quotients
       → ((i : ℕ) → i < n → size (residues p prime) (v i) ≤ 136)

@@ -1,5 +1,5 @@
 -- A coordinate stored, and the coordinate times its column taken off a block: what the words then hold.
-use Prim.Native.Nat.{ℕ, _%_, _<_}
+use Prim.Native.Nat.{ℕ, _+_, _*_, _%_}
 use mathlib.Core.Path.{_≡_}
 use mathlib.Core.List.{List}
 use lib.ListN.{length, getD}
@@ -7,6 +7,7 @@ use Rattle.algebra.specs.Polynomial.{Polynomial, polynomials}
 use Rattle.modular.specs.Prime.{Prime}
 use Rattle.modular.specs.Modulo.{modulo}
 use Rattle.modular.specs.Residue.{residues}
+use Rattle.vector.specs.Bound.{AtMost}
 use Rattle.vector.specs.Stored.{stored}
 use Rattle.reduction.specs.Holds.{Holds}
 use Rattle.reduction.specs.Flat.{Flat}
@@ -25,7 +26,7 @@ module _ (p : ℕ) (prime : Prime p) (n : ℕ) (ω : ℕ → ℕ) where
 -- What it holds is said for a coordinate of at most 121 coefficients, whose negative is in y.
 pub record TakesColumn (p : ℕ) (t h : List ℕ) (a : ℕ) (y columns : List ℕ) (at : ℕ) (t′ h′ : List ℕ) (size : ℕ) : Type 0 where
   pub same-length : length t′ ≡ length t
-  pub below : (i : ℕ) → getD t′ i 0 < p
+  pub bound : (b : ℕ) → AtMost b t → AtMost (b + 121 * (p * p)) t′
   pub stores : h′ ≡ stored (λ j. modulo p .neg (getD y j 0 % p)) h a 128
   pub ends : Ends p h′ a 128 size
   pub holds : ZeroFrom p y 0 256 121 → (prime : Prime p) (n : ℕ) (ω : ℕ → ℕ) (v u : ℕ → Polynomial (residues p prime))

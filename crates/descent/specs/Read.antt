@@ -1,20 +1,21 @@
--- A polynomial read from an array, one coefficient more, or zeros more.
+-- A polynomial read from an array, one coefficient more, or zeros more, or negated.
 use Prim.Native.Nat.{ℕ, suc, _<_, _≤_}
 use mathlib.Core.Path.{_≡_, sym, _∙_, ap, ap₂}
 use native.Mathlib.Omega.{arith}
 use native.Mathlib.Decide.{ℕ-discrete, decLt}
-use Rattle.ring.specs.Ring.{Ring, zero-add}
+use Rattle.ring.specs.Ring.{Ring, zero-add, neg-zero}
 use Rattle.algebra.specs.Field.{Field}
-use Rattle.algebra.specs.Polynomial.{polynomials, coefficients, equal-coefficients, coefficients-add}
+use Rattle.algebra.specs.Polynomial.{polynomials, coefficients, equal-coefficients, coefficients-add, coefficients-neg}
 use Rattle.reduction.specs.Holds.{monomial, read, read-at, read-beyond}
 use Rattle.lattice.specs.Monomial.{coefficients-monomial, coefficients-monomial-other}
 
 module _ {K : Type 0} (F : Field K) where
-  open Ring (F .ring) using (add as _⊕_, zero as 𝟎, add-zero)
+  open Ring (F .ring) using (add as _⊕_, neg as ⊝_, zero as 𝟎, add-zero)
   open Ring (polynomials F) using (add as _+_)
 
   infixl 65 _⊕_
   infixl 65 _+_
+  infix 75 ⊝_
   pub read-suc : (k : ℕ) (f : ℕ → K) → read F (suc k) f ≡ read F k f + monomial F (f k) k
   read-suc k f = equal-coefficients F _ _
       (λ j. go j (ℕ-discrete j k) (decLt j k) ∙ sym (coefficients-add F (read F k f) (monomial F (f k) k) j))
@@ -43,3 +44,12 @@ module _ {K : Type 0} (F : Field K) where
       go j (yes l) h = read-at F n f j (omega arith) ∙ sym (read-at F k f j l)
       go j (no l) (yes h) = read-at F n f j h ∙ zeros j (omega arith) h ∙ sym (read-beyond F k f j (omega arith))
       go j (no l) (no h) = read-beyond F n f j (omega arith) ∙ sym (read-beyond F k f j (omega arith))
+
+  pub read-neg : (n : ℕ) (f g : ℕ → K) → ((j : ℕ) → j < n → g j ≡ ⊝ f j) → read F n g ≡ polynomials F .neg (read F n f)
+  read-neg n f g same = equal-coefficients F _ _ (λ j. go j (decLt j n) ∙ sym (coefficients-neg F (read F n f) j))
+    where
+      go : (j : ℕ) → Dec (j < n) → coefficients F (read F n g) j ≡ ⊝ coefficients F (read F n f) j
+      go j (yes h) = read-at F n g j h ∙ same j h ∙ sym (ap (λ z. ⊝ z) (read-at F n f j h))
+      go j (no h) =
+          read-beyond F n g j (omega arith)
+          ∙ sym (ap (λ z. ⊝ z) (read-beyond F n f j (omega arith)) ∙ neg-zero (F .ring))

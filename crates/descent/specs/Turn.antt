@@ -8,6 +8,7 @@ use Rattle.algebra.specs.Polynomial.{Polynomial}
 use Rattle.algebra.specs.Size.{sized}
 use Rattle.modular.specs.Prime.{Prime}
 use Rattle.modular.specs.Residue.{residues}
+use Rattle.vector.specs.Bound.{AtMost}
 use Rattle.reduction.specs.Total.{rank}
 use Rattle.reduction.specs.Replace.{replace}
 use Rattle.reduction.specs.Slots.{Slots, unweighted}
@@ -17,7 +18,7 @@ use Rattle.reduction.specs.Descent.{Descent, Turn}
 use Rattle.reduction.specs.Holds.{Holds}
 use Rattle.reduction.specs.Flat.{Flat}
 use Rattle.lattice.specs.Memory as memory
-use Rattle.lattice.specs.Memory.{Ends}
+use Rattle.lattice.specs.Memory.{Ends, Sums}
 use Rattle.lattice.specs.Holding.{HoldsSlots}
 use Rattle.lattice.specs.Coefficients.{HoldsCoefficients}
 use Rattle.lattice.specs.Word.{words}
@@ -57,11 +58,13 @@ module _ (p : ℕ) (prime : Prime p) where
     pub holds-coordinate : Holds (residues p prime) (words p prime coordinates place 128) coordinate
     pub holds-vector : Flat (residues p prime) (A .system .rows) 8 unweighted (words p prime t′ 0 1088) vector
 
+-- The vector is left in sums not reduced, and the quotients all 0: as `divide` takes them.
 pub record Turned (p : ℕ) (L : memory.Level) (n : ℕ) (kernels : List ℕ) (kernel : ℕ) (columns : List ℕ) (at : ℕ)
     (quotients coordinates : List ℕ)
-    (place : ℕ) (t′ coordinates′ : List ℕ) (size : ℕ) : Type 0 where
+    (place : ℕ) (t′ quotients′ coordinates′ : List ℕ) (size : ℕ) : Type 0 where
   pub same-length : length t′ ≡ 1088
-  pub below : (i : ℕ) → getD t′ i 0 < p
+  pub sums : Sums p 2112 t′
+  pub cleared : AtMost 0 quotients′
   pub same-coordinates : length coordinates′ ≡ length coordinates
   pub coordinates-below : (i : ℕ) → getD coordinates′ i 0 < p
   pub others : (i : ℕ) → (i < place) ⊎ (place + 128 ≤ i) → getD coordinates′ i 0 ≡ getD coordinates i 0

@@ -1,20 +1,23 @@
 // A vector of a level, made anew from its coefficients: the sum of quotient times block.
-use crate::coordinate::store_negated;
+use crate::coordinate::lesser;
 use crate::product::subtract_product;
+use crate::quotients::negate;
 use residue::modulus::Modulus;
+use vector::clear;
 ghost use mathlib.Core.Path.{_≡_};
 ghost use Prim.Native.Nat.{ℕ, _*_, _<_, _≤_};
 ghost use lib.ListN.{length, getD};
 ghost use Rattle.residue.specs.Modulus.{ValidModulus};
 ghost use Rattle.vector.specs.Bound.{AtMost};
 ghost use Rattle.lattice.specs.Memory.{level, ValidLevel};
+ghost use Rattle.descent.specs.Degrees.{FewDegrees};
 ghost use Rattle.descent.specs.Combination.{TakesCombination};
-ghost use Rattle.descent.specs.Blocks.{blockTerms, CombinesBlocks};
+ghost use Rattle.descent.specs.Blocks.{mostTerms, blockTerms, CombinesBlocks};
 
-// How many terms of the quotient by a block of so many words count.
-fn block_terms(size: usize) -> usize
+// How many terms the quotient by a block of so many words has room for.
+fn most_terms(size: usize) -> usize
     requires { ⌜ size ≤ 128 ⌝ }
-    ensures { λ r. ⌜ r ≡ blockTerms size ⌝ }
+    ensures { λ r. ⌜ r ≡ mostTerms size ⌝ }
 {
     if size == 0 { 0 } else { 136 - (size - 1) / 8 }
 }
@@ -23,6 +26,7 @@ fn block_terms(size: usize) -> usize
 fn subtract_blocks(
     t: &mut [u64],
     quotients: &[u64],
+    degrees: usize,
     slots: &[u64],
     sizes: &[usize],
     inverses: &[u64],
@@ -32,13 +36,14 @@ fn subtract_blocks(
     requires { ⌜ ValidModulus modulus × (rows ≤ 8) × ValidLevel (modulus .p) (level (now slots) (now sizes) (now inverses)) ⌝ }
     requires zero { ⌜ (1088 ≤ length (now t)) × AtMost 0 (now t) ⌝ }
     requires factors { ⌜ (1088 ≤ length (now quotients)) × ((i : ℕ) → getD (now quotients) i 0 < modulus .p) ⌝ }
-    ensures { λ _. ⌜ TakesCombination (modulus .p) 8 1088 (now (quotients .entry)) (λ q. blockTerms (getD (now (sizes .entry)) q 0))
-        (now (slots .entry)) (λ q. 256 * q) rows (now (t .entry)) (now (t .exit)) ⌝ }
+    ensures { λ _. ⌜ TakesCombination (modulus .p) 8 1088 (now (quotients .entry))
+        (λ q. blockTerms degrees (getD (now (sizes .entry)) q 0)) (now (slots .entry)) (λ q. 256 * q) rows (now (t .entry))
+        (now (t .exit)) ⌝ }
 {
     let mut q = 0;
     while q < rows {
         let size = sizes[q];
-        let terms = block_terms(size);
+        let terms = lesser(degrees, most_terms(size));
         subtract_product(
             t,
             8,
@@ -55,9 +60,11 @@ fn subtract_blocks(
     }
 }
 
-// t = the sum of quotient times block over the slots of the rows, modulo p.
+// t, 0 at the start, becomes the sum of quotient times block over the slots of the rows, in sums not reduced. The quotients, of so many
+// degrees, are negated for that, and then cleared.
 pub fn combine_blocks(
-    quotients: &[u64],
+    quotients: &mut [u64],
+    degrees: usize,
     slots: &[u64],
     sizes: &[usize],
     inverses: &[u64],
@@ -67,11 +74,13 @@ pub fn combine_blocks(
 )
     requires { ⌜ ValidModulus modulus × (rows ≤ 8) × ValidLevel (modulus .p) (level (now slots) (now sizes) (now inverses)) ⌝ }
     requires factors { ⌜ (length (now quotients) ≡ 1088) × ((i : ℕ) → getD (now quotients) i 0 < modulus .p) ⌝ }
-    requires area { ⌜ length (now t) ≡ 1088 ⌝ }
+    requires degrees { ⌜ FewDegrees (modulus .p) (now quotients) degrees ⌝ }
+    requires zero { ⌜ (length (now t) ≡ 1088) × AtMost 0 (now t) ⌝ }
     ensures { λ _. ⌜ CombinesBlocks (modulus .p) (level (now (slots .entry)) (now (sizes .entry)) (now (inverses .entry))) rows
-        (now (quotients .entry)) (now (t .exit)) ⌝ }
+        (now (quotients .entry)) (now (quotients .exit)) (now (t .exit)) ⌝ }
 {
-    let mut sums = [0u64; 1088];
-    subtract_blocks(&mut sums, quotients, slots, sizes, inverses, rows, modulus);
-    store_negated(t, 0, &sums, 1088, modulus);
+    let words = 8 * degrees;
+    negate(quotients, words, modulus);
+    subtract_blocks(t, quotients, degrees, slots, sizes, inverses, rows, modulus);
+    clear(quotients, 0, words);
 }

@@ -2,7 +2,6 @@
 use crate::product::subtract_product;
 use residue::modulus::Modulus;
 use vector::find_leading;
-use vector::reduce_range;
 ghost use mathlib.Core.Path.{_≡_};
 ghost use Prim.Native.Nat.{ℕ, _+_, _-_, _*_, _%_, _<_, _≤_};
 ghost use lib.ListN.{length, getD};
@@ -27,14 +26,14 @@ pub fn store_negated(h: &mut [u64], a: usize, y: &[u64], n: usize, modulus: Modu
 }
 
 // The lesser of two numbers.
-fn lesser(n: usize, m: usize) -> usize
+pub fn lesser(n: usize, m: usize) -> usize
     ensures { λ r. ⌜ r ≡ n - (n - m) ⌝ }
 {
     if n < m { n } else { m }
 }
 
 // Stores minus y, the coordinate, in 128 words of h from a on, takes the coordinate times the column, 128 words from `at` on, off
-// the block t, and reduces what that touched. Returns the size of the coordinate.
+// the block t, in sums not reduced. Returns the size of the coordinate.
 pub fn take_column(
     t: &mut [u64],
     h: &mut [u64],
@@ -44,7 +43,7 @@ pub fn take_column(
     at: usize,
     modulus: Modulus,
 ) -> usize
-    requires { ⌜ ValidModulus modulus × (length (now t) ≡ 1088) × ((i : ℕ) → getD (now t) i 0 < modulus .p) ⌝ }
+    requires { ⌜ ValidModulus modulus × (length (now t) ≡ 1088) × AtMost (1088 * (modulus .p * modulus .p)) (now t) ⌝ }
     requires coordinates { ⌜ (a + 128 ≤ length (now h)) × ((i : ℕ) → getD (now h) i 0 < modulus .p) ⌝ }
     requires sums { ⌜ (256 ≤ length (now y)) × AtMost (1344 * (modulus .p * modulus .p)) (now y) ⌝ }
     requires column { ⌜ (at + 128 ≤ length (now columns)) × ((i : ℕ) → getD (now columns) i 0 < modulus .p) ⌝ }
@@ -56,6 +55,5 @@ pub fn take_column(
     // a coordinate has at most 121 coefficients (L6), and t has no room for more
     let terms = lesser(found.size, 121);
     subtract_product(t, 8, h, a, 1, terms, columns, at, 128, modulus);
-    reduce_range(t, 8 * terms + 120, modulus);
     found.size
 }

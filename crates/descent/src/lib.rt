@@ -4,6 +4,7 @@ pub mod combination;
 pub mod coordinate;
 pub mod kernel;
 pub mod product;
+pub mod quotients;
 pub mod search;
 pub mod turn;
 

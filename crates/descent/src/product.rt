@@ -25,6 +25,10 @@ pub fn subtract_product(
     requires small { ⌜ AtMost 281474976710656 (now h) × ((i : ℕ) → getD (now s) i 0 < modulus .p) ⌝ }
     ensures { λ _. ⌜ TakesProduct (modulus .p) w (now (h .entry)) (now (f .entry)) b v n (now (s .entry)) a m (now (h .exit)) ⌝ }
 {
+    // many tails have no words
+    if m == 0 {
+        return;
+    }
     let mut k = 0;
     while k < n {
         let factor = f[b + k * v];

@@ -9,11 +9,11 @@ use Rattle.descent.proofs.combination.subtract_combination.Statement.{s
 use Rattle.descent.proofs.combination.subtract_combination.Tie as tie
 
 abbrev Inv-loop : tie.InvT-loop
-Inv-loop y₀ quotients slots sizes inverses rows modulus q₀ y q =
-    (q ≤ rows) × TakesCombination (modulus .p) 1 256 quotients (λ _. 136) slots (λ r. 256 * r + 128) q y₀ y
+Inv-loop y₀ quotients slots sizes inverses rows terms modulus q₀ y q =
+    (q ≤ rows) × TakesCombination (modulus .p) 1 256 quotients (λ _. terms) slots (λ r. 256 * r + 128) q y₀ y
 
 abbrev μ-loop : tie.MeasureT-loop
-μ-loop y₀ quotients slots sizes inverses rows modulus q₀ y q = rows - q
+μ-loop y₀ quotients slots sizes inverses rows terms modulus q₀ y q = rows - q
 
 loop-holds : tie.Need-loop-holds Inv-loop μ-loop
 loop-holds c = (omega arith, combination-start)
@@ -26,7 +26,7 @@ mul-size c = search needs
 
 shared-slice-read-size : tie.Need-shared-slice-read-size Inv-loop μ-loop
 shared-slice-read-size c =
-    omega (arith, c .before .before .before .before .before .before .before .before .pre .0 .2 .all-sizes)
+    omega (arith, c .before .before .before .before .before .before .before .before .pre .0 .3 .all-sizes)
 
 sub-subtract-product : tie.Need-sub-subtract-product Inv-loop μ-loop
 sub-subtract-product c = search needs
@@ -41,7 +41,7 @@ subtract-product-requires : tie.Need-subtract-product-requires Inv-loop μ-loop
 subtract-product-requires c κs =
     let S = c .before .before .before .before .before .before .before .before .before in
     let L = c .before .before .before .loop in
-    let valid = S .pre .0 .2 in
+    let valid = S .pre .0 .3 in
     let slot = valid .slot (L .q) (omega arith) in (
       (
         S .pre .0 .0,
@@ -69,9 +69,9 @@ loop-again : tie.Need-loop-again Inv-loop μ-loop
 loop-again c =
     let S = c .before .before .before .before .before .before .before .before .before .before .before .before in
     let L = c .before .before .before .before .before .before .loop in
-    let slot = S .pre .0 .2 .slot (L .q) (omega arith) in (
+    let slot = S .pre .0 .3 .slot (L .q) (omega arith) in (
       omega arith,
-      combination-turn (L .inv .1) refl (omega arith) (omega (arith, slot .tail-within)) (S .pre .1 .0 .0) (omega (arith, slot .tail-within))
+      combination-turn (L .inv .1) refl (S .pre .0 .2) (omega (arith, slot .tail-within)) (S .pre .1 .0 .0) (omega (arith, slot .tail-within))
           (slot .tail) (c .before .before .subtract-product .ensures),
     )
 
@@ -83,7 +83,7 @@ returns c =
     let S = c .before .before .before .before .before .before .before in
     let L = c .before .loop in
     let end : L .q ≡ S .args .rows = omega arith in
-    subst (λ q. TakesCombination (S .args .modulus .p) 1 256 (S .args .quotients .now) (λ _. 136) (S .args .slots .now)
+    subst (λ q. TakesCombination (S .args .modulus .p) 1 256 (S .args .quotients .now) (λ _. S .args .terms) (S .args .slots .now)
     (λ r. 256 * r + 128) q (S .args .y .now) (L .y)) end (L .inv .1)
 
 pub subtract-combination-spec : {M : Type 1} → statement M

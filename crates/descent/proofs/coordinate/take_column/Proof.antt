@@ -1,6 +1,6 @@
 -- Each step's words are what the next one needs.
-use Prim.Native.Nat.{_-_, _*_, _≤_, _<_}
-use native.Mathlib.Nat.{mul-le-mul-right}
+use Prim.Native.Nat.{_≤_}
+use native.Mathlib.Nat.{mul-le-mul}
 use native.Mathlib.Omega.{arith}
 use borrow.Author.Needs.{needs}
 use Rattle.residue.specs.Modulus.{ValidModulus}
@@ -27,6 +27,8 @@ subtract-product-requires : tie.Need-subtract-product-requires
 subtract-product-requires c κs =
     let S = c .before .before .before .before .before .before .before .before .before .before .before .before in
     let m : ValidModulus (S .args .modulus) = S .pre .0 .0 in
+    let limit : S .args .modulus .p ≤ 65521 = m .limit in
+    let square = mul-le-mul limit limit in
     let few = c .before .before .lesser .ensures in
     let stores = c .before .before .before .before .before .before .store-negated .ensures in
     let size = stored-length (m .prime) (S .args .h .now) _ (S .args .a) (S .args .y .now) 128 stores (S .pre .1 .0 .0) in (
@@ -37,27 +39,8 @@ subtract-product-requires c κs =
           stored-below (m .prime) (S .args .h .now) _ (S .args .a) (S .args .y .now) 128 stores
               (S .pre .1 .0 .0) (λ i out. S .pre .1 .0 .1 i),
         ),
-        ((λ i. omega (arith, S .pre .0 .2 i)), S .pre .1 .1 .1 .1),
+        ((λ i. omega (arith, square, S .pre .0 .2 i)), S .pre .1 .1 .1 .1),
       ),
-    )
-
-mul-reduce-range : tie.Need-mul-reduce-range
-mul-reduce-range c = search needs
-
-add-reduce-range : tie.Need-add-reduce-range
-add-reduce-range c = search needs
-
-reduce-range-requires : tie.Need-reduce-range-requires
-reduce-range-requires c κs =
-    let S = c .before .before .before .before .before .before .before .before .before .before .before .before .before .before .before .before in
-    let m : ValidModulus (S .args .modulus) = S .pre .0 .0 in
-    let positive : 1 ≤ S .args .modulus .p = omega (arith, m .prime .large) in
-    let square = mul-le-mul-right (S .args .modulus .p) positive in
-    let few : c .before .before .before .before .before .before .lesser .result ≤ 121 = omega (arith, c .before .before .before .before .before .before .lesser .ensures) in
-    let products = mul-le-mul-right (S .args .modulus .p * S .args .modulus .p) few in
-    let T = c .before .before .before .subtract-product .ensures in (
-      (m, omega (arith, few, T .same-length)),
-      λ j lt. omega (arith, products, T .bound (S .args .modulus .p) (λ i. omega (arith, S .pre .0 .2 i)) j),
     )
 
 same-length : tie.Need-same-length
@@ -68,15 +51,11 @@ same-length-2 c = search needs
 
 returns : tie.Need-returns
 returns c =
-    let S = c .before .before .before .before .before .before .before .before .before .before .before .before .before .before .before .before .before .before .before in
+    let S = c .before .before .before .before .before .before .before .before .before .before .before .before .before .before .before in
     let m : ValidModulus (S .args .modulus) = S .pre .0 .0 in
     column-taken (m .prime) (S .args .t .now) (S .args .h .now) (S .args .a) (S .args .y .now) (S .args .columns .now)
-    (S .args .at) _ _ _ _ _ (S .pre .0 .1) (S .pre .0 .2) (S .pre .1 .0 .0)
-    (c .before .before .before .before .before .before .before .before .before .before .before .before .before .store-negated .ensures)
-    (c .before .before .before .before .before .before .before .before .before .before .find-leading .ensures .0)
-    (c .before .before .before .before .before .before .before .before .before .lesser .ensures)
-    (c .before .before .before .before .before .before .subtract-product .ensures)
-    (c .before .before .reduce-range .ensures)
+    (S .args .at) _ _ _ _ (S .pre .0 .1) (S .pre .1 .0 .0) (c .before .before .before .before .before .before .before .before .before .store-negated .ensures)
+    (c .before .before .before .before .before .before .find-leading .ensures .0) (c .before .before .before .before .before .lesser .ensures) (c .before .before .subtract-product .ensures)
 
 pub take-column-spec : {M : Type 1} → statement M
 take-column-spec =
@@ -86,9 +65,6 @@ take-column-spec =
     find-leading-requires
     lesser-requires
     subtract-product-requires
-    mul-reduce-range
-    add-reduce-range
-    reduce-range-requires
     same-length
     same-length-2
     returns)

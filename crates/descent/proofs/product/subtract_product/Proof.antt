@@ -5,7 +5,7 @@ use mathlib.Core.Logic.{⊎-elim}
 use native.Mathlib.Omega.{arith}
 use borrow.Author.Needs.{needs}
 use Rattle.descent.specs.Product.{TakesProduct}
-use Rattle.descent.proofs.Products.{next-multiple, product-start, product-sum, product-turn, product-skip}
+use Rattle.descent.proofs.Products.{next-multiple, product-start, product-none, product-sum, product-turn, product-skip}
 use Rattle.descent.proofs.product.subtract_product.Statement.{statement}
 use Rattle.descent.proofs.product.subtract_product.Tie as tie
 
@@ -16,53 +16,56 @@ Inv-loop h₀ w f b v n s a m modulus k₀ h k =
 abbrev μ-loop : tie.MeasureT-loop
 μ-loop h₀ w f b v n s a m modulus k₀ h k = n - k
 
+returns : tie.Need-returns Inv-loop μ-loop
+returns c = product-none (omega arith)
+
 loop-holds : tie.Need-loop-holds Inv-loop μ-loop
 loop-holds c = (omega arith, product-start)
 
 mul-factor : tie.Need-mul-factor Inv-loop μ-loop
 mul-factor c =
-    let S = c .before .before .before .before .before in
+    let S = c .before .before .before .before .before .before in
     let L = c .before .loop in
     let rows = next-multiple (L .k) (S .args .n) (S .args .v) (omega arith) in
     search needs
 
 add-factor : tie.Need-add-factor Inv-loop μ-loop
 add-factor c =
-    let S = c .before .before .before .before .before in
+    let S = c .before .before .before .before .before .before in
     let L = c .before .loop in
     let rows = next-multiple (L .k) (S .args .n) (S .args .v) (omega arith) in
     search needs
 
 mul-factor-2 : tie.Need-mul-factor-2 Inv-loop μ-loop
 mul-factor-2 c =
-    let S = c .before .before .before .before .before in
+    let S = c .before .before .before .before .before .before in
     let L = c .before .loop in
     let rows = next-multiple (L .k) (S .args .n) (S .args .v) (omega arith) in
     search needs
 
 shared-slice-read-factor : tie.Need-shared-slice-read-factor Inv-loop μ-loop
 shared-slice-read-factor c =
-    let S = c .before .before .before .before .before .before in
+    let S = c .before .before .before .before .before .before .before in
     let L = c .before .before .loop in
     let rows = next-multiple (L .k) (S .args .n) (S .args .v) (omega arith) in
     omega arith
 
 mul-add-scaled : tie.Need-mul-add-scaled Inv-loop μ-loop
 mul-add-scaled c =
-    let S = c .before .before .before .before .before .before .before .before in
+    let S = c .before .before .before .before .before .before .before .before .before in
     let L = c .before .before .before .before .loop in
     let rows = next-multiple (L .k) (S .args .n) (S .args .w) (omega arith) in
     search needs
 
 sub-add-scaled : tie.Need-sub-add-scaled Inv-loop μ-loop
 sub-add-scaled c =
-    let S = c .before .before .before .before .before .before .before .before .before in
+    let S = c .before .before .before .before .before .before .before .before .before .before in
     let L = c .before .before .before .before .before .loop in
     omega (arith, S .pre .1 .0 .1 (S .args .b + L .k * S .args .v))
 
 add-scaled-requires : tie.Need-add-scaled-requires Inv-loop μ-loop
 add-scaled-requires c κs =
-    let S = c .before .before .before .before .before .before .before .before .before in
+    let S = c .before .before .before .before .before .before .before .before .before .before in
     let L = c .before .before .before .before .before .loop in
     let so-far = L .inv .1 in
     let limit : S .args .modulus .p ≤ 65521 = S .pre .0 .0 .limit in
@@ -83,7 +86,7 @@ loop-less c = search needs
 
 loop-again : tie.Need-loop-again Inv-loop μ-loop
 loop-again c =
-    let S = c .before .before .before .before .before .before .before in
+    let S = c .before .before .before .before .before .before .before .before in
     let L = c .before .before .before .loop in (
       omega arith,
       ⊎-elim
@@ -91,15 +94,15 @@ loop-again c =
           (λ way. subst (TakesProduct (S .args .modulus .p) (S .args .w) (S .args .h .now) (S .args .f .now) (S .args .b)
           (S .args .v) (L .k + 1) (S .args .s .now) (S .args .a) (S .args .m)) (sym (way .1))
           (product-skip (L .inv .1) (omega (arith, way .0 .left))))
-          (c .if1 .came),
+          (c .if2 .came),
     )
 
 same-length : tie.Need-same-length Inv-loop μ-loop
 same-length c = search needs
 
-returns : tie.Need-returns Inv-loop μ-loop
-returns c =
-    let S = c .before .before .before .before .before in
+returns-2 : tie.Need-returns-2 Inv-loop μ-loop
+returns-2 c =
+    let S = c .before .before .before .before .before .before in
     let L = c .before .loop in
     let end : L .k ≡ S .args .n = omega arith in
     subst (λ k. TakesProduct (S .args .modulus .p) (S .args .w) (S .args .h .now) (S .args .f .now) (S .args .b) (S .args .v) k
@@ -111,6 +114,7 @@ subtract-product-spec =
     (tie.spec
     Inv-loop
     μ-loop
+    returns
     loop-holds
     mul-factor
     add-factor
@@ -123,4 +127,4 @@ subtract-product-spec =
     loop-less
     loop-again
     same-length
-    returns)
+    returns-2)
