@@ -18,11 +18,13 @@ enum {
     HAND_TAIL = TAIL_WIDTH * 264
 };
 
+// Blocks begin with a cache line, and steps move them by whole rows, which are lines: what is taken at once is never in two.
 struct slot {
     uint32_t length; // index of the pivot and one more, 0 for an empty slot
     uint32_t tail_size;
     uint64_t inverse; // of the coefficient at the pivot, 0 for an empty slot
-    uint64_t block[BLOCK], tail[TAIL];
+    _Alignas(64) uint64_t block[BLOCK];
+    uint64_t tail[TAIL];
 };
 
 struct level {
@@ -33,12 +35,13 @@ struct level {
 // are 0.
 struct hand {
     uint32_t length, tail_size;
-    uint64_t block[HAND_BLOCK], tail[HAND_TAIL];
+    _Alignas(64) uint64_t block[HAND_BLOCK];
+    uint64_t tail[HAND_TAIL];
 };
 
 struct quotients {
     uint32_t size[LANES];
-    uint64_t coefficient[LANES][HAND_BLOCK / LANES];
+    uint64_t coefficient[LANES][HAND_BLOCK / LANES + LANES]; // room for loops in whole rows of 8
 };
 
 static inline uint32_t whole_rows(uint32_t words)
@@ -124,28 +127,32 @@ static uint32_t insert(struct modulus k, struct level *level, struct hand *hand,
     return LANES;
 }
 
-// whether the slots divide the hand
-static inline bool divides(struct modulus k, const struct level *level, struct hand *hand)
+// Division that may end early: it goes on as long as the hand's pivot meets a slot that is not longer. What is taken off goes into
+// the factors, flat and 0 before, each in the lane of its slot. Whether nothing is left; tails play no part.
+static inline bool divide_column(struct modulus k, const struct level *level, struct hand *hand, uint64_t *factors)
 {
     uint64_t lead;
     while ((lead = leading(k, hand)) != 0) {
-        const struct slot *slot = &level->slot[(hand->length - 1) % LANES];
+        uint32_t lane = (hand->length - 1) % LANES;
+        const struct slot *slot = &level->slot[lane];
         if (slot->length == 0 || hand->length < slot->length)
             return false;
-        add_scaled(hand->block + hand->length - slot->length, slot->block, whole_rows(slot->length),
-                   k.p - (uint32_t)reduce(k, lead * slot->inverse));
+        uint32_t at = hand->length - slot->length, a = (uint32_t)reduce(k, lead * slot->inverse);
+        factors[at + lane] = a;
+        add_scaled(hand->block + at, slot->block, whole_rows(slot->length), k.p - a);
         hand->length--;
     }
     return true;
 }
 
 // The quotients of a hand in the span of the slots; tails play no part. A word times an inverse is below 2^61, so that one
-// reduction gives the quotient's coefficient, which is 0 for an empty slot.
+// reduction gives the quotient's coefficient, which is 0 for an empty slot. A filled slot's quotient has words 0 from its size on.
 static void divide(struct modulus k, const struct level *level, struct hand *hand, struct quotients *q)
 {
     for (uint32_t lane = 0; lane < LANES; lane++) {
         q->size[lane] = 0;
-        memset(q->coefficient[lane], 0, whole_rows(hand->length) / LANES * sizeof q->coefficient[0][0]);
+        if (level->slot[lane].length > 0)
+            memset(q->coefficient[lane], 0, sizeof q->coefficient[lane]);
     }
     for (uint32_t length = hand->length; length > 0; length--) {
         uint32_t lane = (length - 1) % LANES;

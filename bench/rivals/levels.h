@@ -1,4 +1,4 @@
-// The levels of docs/mathematics.md, section 2, one for each column, and the numerators that they give.
+// What the forms of the solver share: levels of docs/mathematics.md, section 2, and the numerator that the tails of one give.
 #ifndef LEVELS_H
 #define LEVELS_H
 #include "lattice.h"
@@ -8,12 +8,21 @@ struct coefficients {
     uint64_t word[HAND_TAIL];
 };
 
+// how a column came into the levels of solve.c
+struct entry {
+    enum { LEFT_OUT, FILLED, INSERTED } way;
+    uint32_t lane;           // of the slot that it filled
+    uint32_t before;         // the column of the level into whose copy it was inserted
+    uint64_t factors[BLOCK]; // what its division took off, flat, each in the lane of its slot
+};
+
 struct work {
     struct system s;
     struct modulus k;
     uint64_t column[MOST + 1][BLOCK];               // the columns of A, then b
     struct level level[MOST], right, second, copy;  // right: the last level with b inserted
     uint32_t last;                                  // the column of the last level
+    struct entry entry[MOST];                       // of use to solve.c only
     struct coefficients kernel[MOST];               // of size 0 where there is none
     struct coefficients d, numerator[MOST], factor; // factor: document 01's w is factor · d
     struct hand hand, target;
@@ -61,14 +70,20 @@ static void copy_blocks(struct level *to, const struct level *from)
     }
 }
 
+// the words := the sums, count of each; gives the size of the polynomial
+static inline uint32_t reduce_words(struct modulus k, uint64_t *word, const uint64_t *sum, uint32_t count)
+{
+    for (uint32_t i = 0; i < count; i++)
+        word[i] = reduce(k, sum[i]);
+    while (count > 0 && word[count - 1] == 0)
+        count--;
+    return count;
+}
+
 // f := the first count sums
 static void reduce_sums(struct modulus k, struct coefficients *f, const uint64_t *sum, uint32_t count)
 {
-    for (uint32_t i = 0; i < count; i++)
-        f->word[i] = reduce(k, sum[i]);
-    while (count > 0 && f->word[count - 1] == 0)
-        count--;
-    f->size = count;
+    f->size = reduce_words(k, f->word, sum, count);
 }
 
 static void make_monic(struct modulus k, struct coefficients *f)
@@ -84,30 +99,31 @@ static void clear_block(struct hand *hand)
     memset(hand->block, 0, sizeof hand->block);
 }
 
-static void copy_block(struct hand *to, const struct hand *from)
+// target += f · words, f of that size, the words a flat block of whole rows
+static void add_multiple(struct hand *target, const uint64_t *f, uint32_t size, const uint64_t *words, uint32_t count)
 {
-    to->length = from->length;
-    memcpy(to->block, from->block, whole_rows(from->length) * sizeof from->block[0]);
+    for (uint32_t e = 0; e < size; e++)
+        if (f[e] != 0)
+            add_scaled(target->block + LANES * e, words, count, (uint32_t)f[e]);
+    if (size > 0)
+        target->length = greater(target->length, count + LANES * (size - 1));
 }
 
-// target += f · words, a flat block of whole rows
-static void add_multiple(struct hand *target, const struct coefficients *f, const uint64_t *words, uint32_t count)
+// the target less N_j times column j
+static void subtract_column(struct work *w, uint32_t j)
 {
-    for (uint32_t e = 0; e < f->size; e++)
-        add_scaled(target->block + LANES * e, words, count, (uint32_t)f->word[e]);
-    if (f->size > 0)
-        target->length = greater(target->length, count + LANES * (f->size - 1));
+    const struct coefficients *n = &w->numerator[j];
+    uint64_t negated[HAND_TAIL];
+    for (uint32_t i = 0; i < n->size; i++)
+        negated[i] = negative(w->k, n->word[i]);
+    add_multiple(&w->target, negated, n->size, w->column[j], BLOCK);
 }
 
-// level j := the last level with column j inserted; gives the lane of the slot that is new, or LANES where there is a kernel
-static uint32_t build_level(struct work *w, uint32_t j)
+// level j, a copy of the last level so far, gets the hand and becomes the last; gives the lane of the slot that is new, or LANES
+// where there is a kernel
+static uint32_t insert_hand(struct work *w, uint32_t j)
 {
-    if (j == 0)
-        clear_level(&w->level[0]);
-    else
-        copy_blocks(&w->level[j], &w->level[w->last]);
     w->last = j;
-    take(&w->hand, w->column[j], BLOCK, 0, 1);
     uint32_t lane = insert(w->k, &w->level[j], &w->hand, 1);
     w->kernel[j].size = 0;
     if (lane == LANES)
@@ -149,17 +165,12 @@ static void combine_tails(struct work *w, uint32_t j)
         reduce_sums(w->k, &w->numerator[j], sum, size);
 }
 
-// N_j from the target, and the target less N_j times column j; words of the target from its length on are 0 modulo p
-static void find_numerator(struct work *w, uint32_t j)
+// the quotients of the target, which stays what it is; its words from its length on are 0 modulo p
+static void divide_target(struct work *w, const struct level *level)
 {
-    struct coefficients negated = {.size = 0};
     leading(w->k, &w->target);
-    copy_block(&w->hand, &w->target);
-    divide(w->k, &w->level[j], &w->hand, &w->q);
-    combine_tails(w, j);
-    negated.size = w->numerator[j].size;
-    for (uint32_t i = 0; i < negated.size; i++)
-        negated.word[i] = negative(w->k, w->numerator[j].word[i]);
-    add_multiple(&w->target, &negated, w->column[j], BLOCK);
+    w->hand.length = w->target.length;
+    memcpy(w->hand.block, w->target.block, whole_rows(w->target.length) * sizeof w->target.block[0]);
+    divide(w->k, level, &w->hand, &w->q);
 }
 #endif

@@ -58,7 +58,7 @@ static void solve_second(struct work *w, const struct level *tops, uint32_t stuc
     reduce_sums(w->k, &w->factor, w->hand.tail, w->hand.tail_size);
     make_monic(w->k, &w->factor);
     clear_block(&w->hand);
-    add_multiple(&w->hand, &w->factor, w->target.block, w->target.length);
+    add_multiple(&w->hand, w->factor.word, w->factor.size, w->target.block, w->target.length);
     divide(w->k, &w->second, &w->hand, &w->q);
 }
 

@@ -1,11 +1,22 @@
-// The solver with the faster forms of docs/mathematics.md, section 5: the first columns, as long as the rank grows, share one
-// level whose tails have a lane for each column, so that one division gives all their numerators; a column in the span of those
+// The solver in another form: every column is a level with scalar tails, and the first columns, as long as the rank grows, also
+// share one whose tails have a lane for each column, so that one division gives all their numerators; a column in the span of those
 // before it is passed over.
 #define TAIL_WIDTH 8
 #include "solver.h"
 
 static struct level shared; // its blocks are those of level[columns - 1]
 static uint32_t columns;    // the number of columns that share it
+
+// level j := the last level with column j inserted; gives what insert_hand gives
+static uint32_t build_level(struct work *w, uint32_t j)
+{
+    if (j == 0)
+        clear_level(&w->level[0]);
+    else
+        copy_blocks(&w->level[j], &w->level[w->last]);
+    take(&w->hand, w->column[j], BLOCK, 0, 1);
+    return insert_hand(w, j);
+}
 
 static void build_levels(struct work *w)
 {
@@ -20,6 +31,14 @@ static void build_levels(struct work *w)
         exchange(w->k, &w->hand, &shared.slot[lane], reduce(w->k, w->hand.block[w->hand.length - 1]));
         columns++;
     }
+}
+
+// N_j from the target, and the target less N_j times column j
+static void find_numerator(struct work *w, uint32_t j)
+{
+    divide_target(w, &w->level[j]);
+    combine_tails(w, j);
+    subtract_column(w, j);
 }
 
 // the numerators of all columns of the shared level from one division

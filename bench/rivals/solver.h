@@ -26,7 +26,7 @@ static uint64_t solve(struct work *w, struct writer *o)
         reduce_sums(w->k, &w->d, w->hand.tail, w->hand.tail_size);
         make_monic(w->k, &w->d);
         clear_block(&w->target);
-        add_multiple(&w->target, &w->d, w->column[w->s.m], BLOCK);
+        add_multiple(&w->target, w->d.word, w->d.size, w->column[w->s.m], BLOCK);
         find_numerators(w);
         put_coefficients(o, &w->d);
         for (uint32_t j = 0; j < w->s.m; j++)

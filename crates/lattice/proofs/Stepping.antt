@@ -45,7 +45,8 @@ pub place-inside : {p : ℕ} {L : Level} {block : List ℕ} {k value : ℕ} → 
 place-inside {k = k} S = omega (arith, S .level .slot (row k) (omega arith) .pivot (S .filled), S .filled, S .fits)
 
 -- where the last word is known
-pub early-left : {p : ℕ} {block : List ℕ} {n value : ℕ} → Rest p block n value → 0 < value → Left p block n n value
+pub early-left : {p : ℕ} {block : List ℕ} {n value unseen : ℕ} → Rest p block n value unseen → 0 < value
+    → Left p block n n value
 early-left {p} {block} {n} R some = record {
   ends = record {
     within = R .within;
@@ -55,6 +56,15 @@ early-left {p} {block} {n} R some = record {
   leading = λ h. R .early some .1;
   within = omega arith;
 }
+
+-- zero from the word before on
+zero-before : (p : ℕ) (block : List ℕ) (n : ℕ) → ZeroFrom p block 0 1088 n → getD block (n - 1) 0 % p ≡ 0
+    → ZeroFrom p block 0 1088 (n - 1)
+zero-before p block n behind last j h lt =
+    ⊎-elim
+    (λ less. let here : 0 + j ≡ n - 1 = omega (arith, less, h) in ap (λ i. getD block i 0 % p) here ∙ last)
+    (λ more. behind j more lt)
+    (below-or-not j n)
 
 -- words of slots and factors are numbers of 32 bits, as `add_scaled` asks
 pub word-short : {p x : ℕ} → p ≤ 65521 → x < p → x < 4294967296
@@ -209,14 +219,42 @@ module _ (p : ℕ) (prime : Prime p) {L : Level} {block : List ℕ} {k value : �
         step-none step-fits size k (slot .block .behind) (omega (arith, S .fits)) (S .ends .behind) j more lt)
         (below-or-not j k)
 
-    -- the word before the leading one, where it is not 0 modulo p: it is the next that leads
-    module _ (next : ℕ)
-        (before : (2 ≤ slotSize L (row k))
-        × (next ≡ sumAt block (k - slotSize L (row k)) (L .slots) (256 * row k) (p - a) (slotSize L (row k) - 2) % p)) where
-      pub step-next : next ≡ getD block′ (k - 1 - 1) 0 % p
-      step-next =
-          let place : d + (slotSize L (row k) - 2) ≡ k - 1 - 1 = omega (arith, before .0, S .fits) in
-          before .1
+    -- what is left, where the step has seen the word before the leading one, or has no such place
+    module _ (next : ℕ) (none : slotSize L (row k) < 2 → next ≡ 0)
+        (before : 2 ≤ slotSize L (row k)
+        → next ≡ sumAt block (k - slotSize L (row k)) (L .slots) (256 * row k) (p - a) (slotSize L (row k) - 2) % p)
+        (unseen : ℕ) (all : slotSize L (row k) < 2 → unseen ≡ k - 1) (fewer : 2 ≤ slotSize L (row k) → unseen ≡ k - 1 - 1) where
+      step-next : 2 ≤ slotSize L (row k) → next ≡ getD block′ (k - 1 - 1) 0 % p
+      step-next two =
+          let place : d + (slotSize L (row k) - 2) ≡ k - 1 - 1 = omega (arith, two, S .fits) in
+          before two
           ∙ ap (λ w. w % p) (sym (ap (λ w. getD w (d + (slotSize L (row k) - 2)) 0) stores
-          ∙ stored-inside _ block d taken (slotSize L (row k) - 2) step-room (omega (arith, before .0))))
+          ∙ stored-inside _ block d taken (slotSize L (row k) - 2) step-room (omega (arith, two))))
           ∙ ap (λ i. getD block′ i 0 % p) place
+
+      step-early : 0 < next → (0 < k - 1) × (next ≡ getD block′ (k - 1 - 1) 0 % p)
+      step-early some =
+          ⊎-elim
+          (λ one. absurd (omega (arith, none one)))
+          (λ two. (omega (arith, two, S .fits), step-next two))
+          (below-or-not (slotSize L (row k)) 2)
+
+      step-late : next ≡ 0 → ZeroFrom p block′ 0 1088 unseen
+      step-late gone =
+          ⊎-elim
+          (λ one. subst (ZeroFrom p block′ 0 1088) (sym (all one)) step-behind)
+          (λ two.
+          let none-there = sym (step-next two) ∙ gone in
+          subst (ZeroFrom p block′ 0 1088) (sym (fewer two)) (zero-before p block′ (k - 1) step-behind none-there))
+          (below-or-not (slotSize L (row k)) 2)
+
+      pub step-rest : Sums p 1 block → Rest p block′ (k - 1) next unseen
+      step-rest sums = record {
+        room = omega (arith, S .room, step-length);
+        within = omega (arith, S .ends .within);
+        behind = step-behind;
+        reducible = step-reducible sums;
+        early = step-early;
+        fewer = ⊎-elim (λ one. omega (arith, all one)) (λ two. omega (arith, fewer two)) (below-or-not (slotSize L (row k)) 2);
+        late = step-late;
+      }

@@ -35,13 +35,16 @@ pub record TakesMultiple (p : ℕ) (L : Level) (block : List ℕ) (k value : ℕ
   pub leading : 0 < r .size → r .leading ≡ getD block′ (r .size - 1) 0 % p
   pub fewer : r .size < k
 
--- what is known of the block before its size is: nothing counts from n on, and value is the word before n where it is not 0
-pub record Rest (p : ℕ) (block : List ℕ) (n value : ℕ) : Type 0 where
+-- what is known of the block before its size is: nothing counts from n on, and value is the word before n where it is not 0; where
+-- it is 0, nothing counts from unseen on
+pub record Rest (p : ℕ) (block : List ℕ) (n value unseen : ℕ) : Type 0 where
   pub room : n ≤ length block
   pub within : n ≤ 1088
   pub behind : ZeroFrom p block 0 1088 n
   pub reducible : (j : ℕ) → SmallSum p (getD block j 0)
   pub early : 0 < value → (0 < n) × (value ≡ getD block (n - 1) 0 % p)
+  pub fewer : unseen ≤ n
+  pub late : value ≡ 0 → ZeroFrom p block 0 1088 unseen
 
 pub record Left (p : ℕ) (block : List ℕ) (n size value : ℕ) : Type 0 where
   pub ends : Ends p block 0 1088 size
@@ -54,11 +57,11 @@ pub record Takes (p : ℕ) (L : Level) (block : List ℕ) (k value : ℕ) (block
   pub words : block′ ≡ stored (sumAt block (k - slotSize L (row k)) (L .slots) (256 * row k) (p - r .factor)) block
       (k - slotSize L (row k)) (height (slotSize L (row k)) * 8)
   pub size : r .size ≡ k - 1
-  pub rest : Rest p block′ (r .size) (r .leading)
+  pub rest : Rest p block′ (r .size) (r .leading) (r .unseen)
 
 pub takes-left : {p : ℕ} {L : Level} {block : List ℕ} {k value : ℕ} {block′ : List ℕ} {r : Remains} {size leading : ℕ} → 0 < k
     → Takes p L block k value block′ r → Left p block′ (r .size) size leading
-    → TakesMultiple p L block k value block′ (record { size = size; leading = leading; factor = r .factor })
+    → TakesMultiple p L block k value block′ (record { size = size; leading = leading; unseen = r .unseen; factor = r .factor })
 takes-left some T left = record {
   factor = T .factor;
   words = T .words;

@@ -42,7 +42,7 @@ pub fn divide(
         let left = take_multiple(slots, sizes, inverses, block, found, modulus);
         let place = k - size + (7 - q);
         quotients[place] = modulus.add(quotients[place], left.factor);
-        found = find_rest(block, left.size, left.leading, modulus);
+        found = find_rest(block, left.size, left.leading, left.unseen, modulus);
     }
     0
 }

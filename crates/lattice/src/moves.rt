@@ -47,7 +47,7 @@ pub fn take_from_hand(
         value: hand.leading,
     };
     let left = take_multiple(slots, sizes, inverses, block, found, modulus);
-    let rest = find_rest(block, left.size, left.leading, modulus);
+    let rest = find_rest(block, left.size, left.leading, left.unseen, modulus);
     let minus = modulus.p - left.factor;
     // all words of its degrees, as in `take_multiple`
     let words = (size + 7) / 8 * 8;

@@ -13,10 +13,11 @@ ghost use Rattle.lattice.specs.Memory.{level, Sums};
 ghost use Rattle.lattice.specs.Step.{HasStep, Takes, Rest, Left};
 
 // What a step leaves of the block: a number of words behind which all are 0 modulo p, the last of them modulo p, or 0 where that
-// is not known, and the factor of the multiple.
+// is not known, the number of words that are left to look at where it is 0, and the factor of the multiple.
 pub struct Remains {
     pub size: usize,
     pub leading: u64,
+    pub unseen: usize,
     pub factor: u64,
 }
 
@@ -32,13 +33,27 @@ pub fn word_before(
 ) -> u64
     requires { ⌜ ValidModulus modulus × (d + n ≤ length (now h)) × (a + n ≤ length (now s)) ⌝ }
     requires sum { ⌜ SmallSum (modulus .p) (sumAt (now h) d (now s) a c (n - 2)) ⌝ }
-    ensures { λ r. ⌜ (0 < r → (2 ≤ n) × (r ≡ sumAt (now (h .entry)) d (now (s .entry)) a c (n - 2) % modulus .p)) ⌝ }
+    ensures none { λ r. ⌜ (n < 2 → r ≡ 0) ⌝ }
+    ensures some { λ r. ⌜ (2 ≤ n → r ≡ sumAt (now (h .entry)) d (now (s .entry)) a c (n - 2) % modulus .p) ⌝ }
 {
     if n < 2 {
         return 0;
     }
     let j = n - 2;
     modulus.reduce(h[d + j] + c * s[a + j])
+}
+
+// How many of k words are left to look at behind a step by a slot of n words where `word_before` is 0: not the leading one, and not
+// the one before, where the step has that place.
+pub fn words_unseen(k: usize, n: usize) -> usize
+    requires { ⌜ (0 < n) × (n ≤ k) ⌝ }
+    ensures none { λ r. ⌜ (n < 2 → r ≡ k - 1) ⌝ }
+    ensures some { λ r. ⌜ (2 ≤ n → r ≡ k - 1 - 1) ⌝ }
+{
+    if n < 2 {
+        return k - 1;
+    }
+    k - 2
 }
 
 // Takes the multiple of the slot at the pivot off the block that takes its leading word away.
@@ -66,22 +81,25 @@ pub fn take_multiple(
     // in most cases the next leading word: with it before the loop, the processor works out the next factor during the loop
     let next = word_before(block, k - size, slots, 256 * q, size, minus, modulus);
     add_scaled(block, k - size, slots, 256 * q, words, minus);
+    let unseen = words_unseen(k, size);
     let rest = k - 1;
     Remains {
         size: rest,
         leading: next,
+        unseen,
         factor,
     }
 }
 
-// Size and leading word of what a step leaves: n words, the last of them known where value is not 0.
-pub fn find_rest(block: &[u64], n: usize, value: u64, modulus: Modulus) -> Leading
+// Size and leading word of what a step leaves: n words, the last of them known where value is not 0, else at most `unseen`. By a
+// branch, which the processor foresees where p is large: a size computed from the value would have the next step wait for it.
+pub fn find_rest(block: &[u64], n: usize, value: u64, unseen: usize, modulus: Modulus) -> Leading
     requires { ⌜ ValidModulus modulus ⌝ }
-    requires rest { ⌜ Rest (modulus .p) (now block) n value ⌝ }
+    requires rest { ⌜ Rest (modulus .p) (now block) n value unseen ⌝ }
     ensures { λ r. ⌜ Left (modulus .p) (now (block .entry)) n (r .size) (r .value) ⌝ }
 {
     if value != 0 {
         return Leading { size: n, value };
     }
-    find_leading(block, n, modulus)
+    find_leading(block, unseen, modulus)
 }

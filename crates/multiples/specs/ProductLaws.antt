@@ -19,6 +19,7 @@ use Rattle.vector.specs.Stored.{stored, length-stored, stored-inside, below-or-
 use Rattle.reduction.specs.Holds.{Holds}
 use Rattle.reduction.specs.Flat.{Flat, flat}
 use Rattle.lattice.specs.Word.{words}
+use Rattle.lattice.specs.Memory.{Sums}
 use Rattle.lattice.specs.Range.{words-zero}
 use Rattle.descent.specs.Product.{less, TakesProduct}
 use Rattle.multiples.specs.Product.{BlockMultiplied, Multiplied}
@@ -50,94 +51,91 @@ module _ (N : ℕ) (t t₀ : List ℕ) (clears : t₀ ≡ stored (λ j. 0) t 0 N
       (λ ge. let none : getD t₀ i 0 ≡ 0 = List·getD-eq-default t₀ 0 (omega (arith, cleared-length)) in omega arith)
       (below-or-not i N)
 
--- the sums of a product fit
+-- the sums of a product fit, and `divide` takes them
 pub product-reducible : (p n N : ℕ) (t : List ℕ) → n ≤ 128 → AtMost (0 + n * (p * p)) t → Reducible p t N
 product-reducible p n N t few most =
     at-most-reducible (0 + n * (p * p)) p t N (omega (arith, mul-le-mul-right (p * p) few)) most
 
--- f, its first n words, negated in `minus`; t₀ is clear, t₁ what is left when the product is taken off, t′ that reduced as far as
--- the product reaches
-module _ {p : ℕ} (prime₀ : Prime p) (w : ℕ) (h minus f : List ℕ) (n : ℕ) (s : List ℕ) (m N : ℕ) (t t₀ t₁ t′ : List ℕ)
-    (reach : ℕ) (reach-is : reach ≡ n * w + m - w) (room : n ≤ length h) (fits : n * w + m ≤ N + w) (length-is : length t ≡ N)
-    (stores : minus ≡ stored (λ j. modulo p .neg (getD f j 0 % p)) h 0 n) (clears : t₀ ≡ stored (λ j. 0) t 0 N)
-    (T : TakesProduct p w t₀ minus 0 1 n s 0 m t₁) (reduces : t′ ≡ stored (λ j. getD t₁ j 0 % p) t₁ 0 reach) where
-  whole : length t₀ ≡ N
-  whole = cleared-length N t t₀ clears ∙ length-is
+pub product-sums : {p : ℕ} {f : List ℕ} {n : ℕ} {block : List ℕ} {m : ℕ} {out : List ℕ} → BlockMultiplied p f n block m out
+    → Sums p 2112 out
+product-sums {p} done i = omega (arith, done .bound i)
 
+-- f, its first n words, negated in `minus`; t is clear, t₁ what is left when the product is taken off
+module _ {p : ℕ} (prime₀ : Prime p) (w : ℕ) (h minus f : List ℕ) (n : ℕ) (s : List ℕ) (m N : ℕ) (t t₁ : List ℕ)
+    (room : n ≤ length h) (fits : n * w + m ≤ N + w) (whole : length t ≡ N) (clear : AtMost 0 t)
+    (stores : minus ≡ stored (λ j. modulo p .neg (getD f j 0 % p)) h 0 n) (T : TakesProduct p w t minus 0 1 n s 0 m t₁)
+    (prime : Prime p) (x : Polynomial (residues p prime)) (A : Holds (residues p prime) (words p prime f 0 n) x) where
+  cleared : (j : ℕ) → words p prime t 0 N j ≡ residues p prime .ring .zero
+  cleared j = words-zero p prime t 0 N 0
+      (λ i ge lt. let none : getD t (0 + i) 0 ≡ 0 = omega (arith, clear (0 + i)) in ap (λ z. z % p) none ∙ zero-mod p)
+      j (omega arith)
+
+  nothing : (H : ℕ → Residue p) → ((e : ℕ) → H e ≡ residues p prime .ring .zero) → Holds (residues p prime) H
+      (polynomials (residues p prime) .zero)
+  nothing H z = record { at = λ e. coefficients-zero (residues p prime) e ∙ sym (z e) }
+
+  less-negated : (y z : Polynomial (residues p prime)) → y ≡ polynomials (residues p prime) .neg x
+      → less p prime (polynomials (residues p prime) .zero) y z ≡ polynomials (residues p prime) .mul x z
+  less-negated y z e =
+      ap (λ u. less p prime (polynomials (residues p prime) .zero) u z) e
+      ∙ identity (polynomials (residues p prime)) (x ∷ z ∷ []) (λ ρ qx qz. search quotes depth 16) refl
+
+  pub product-lane : (i : ℕ) → i < w → (z : Polynomial (residues p prime))
+      → Holds (residues p prime) (λ e. words p prime s 0 m (flat w i e)) z
+      → Holds (residues p prime) (λ e. words p prime t₁ 0 N (flat w i e)) (polynomials (residues p prime) .mul x z)
+  product-lane i lane z B =
+      subst (Holds (residues p prime) (λ e. words p prime t₁ 0 N (flat w i e)))
+      (less-negated _ z (negated-read prime₀ h minus f n stores room prime x A))
+      (T .holds N fits (omega (arith, whole)) prime i lane (polynomials (residues p prime) .zero) z
+      (nothing _ (λ e. cleared (flat w i e))) B)
+
+  pub product-flat : (rows : ℕ) (ω : ℕ → ℕ) (v : ℕ → Polynomial (residues p prime))
+      → Flat (residues p prime) rows w ω (words p prime s 0 m) v
+      → Flat (residues p prime) rows w ω (words p prime t₁ 0 N) (λ i. polynomials (residues p prime) .mul x (v i))
+  product-flat rows ω v B = record {
+    lanes = B .lanes;
+    lane = λ i lt. subst (Holds (residues p prime) (λ e. words p prime t₁ 0 N (flat w i e)))
+        (shift-times (residues p prime) (ω i) x (v i)) (product-lane i (omega (arith, B .lanes)) _ (B .lane i lt));
+    beside = λ i e out lane.
+        sym (product-lane i lane (polynomials (residues p prime) .zero) (nothing _ (λ d. B .beside i d out lane)) .at e)
+        ∙ ap (λ y. coefficients (residues p prime) y e) (mul-zero (polynomials (residues p prime)) x)
+        ∙ coefficients-zero (residues p prime) e;
+  }
+
+pub block-multiplied : {p : ℕ} → Prime p → (h minus f : List ℕ) (n : ℕ) (s : List ℕ) (m : ℕ) (t t₁ : List ℕ) → n ≤ 128
+    → n ≤ length h → n * 8 + m ≤ 1096 → length t ≡ 1088 → AtMost 0 t
+    → minus ≡ stored (λ j. modulo p .neg (getD f j 0 % p)) h 0 n → TakesProduct p 8 t minus 0 1 n s 0 m t₁
+    → BlockMultiplied p f n s m t₁
+block-multiplied {p} prime₀ h minus f n s m t t₁ few room fits length-is clear stores T = record {
+  bound = λ i. omega (arith, T .bound 0 clear i, mul-le-mul-right (p * p) few);
+  holds = λ prime rows ω x v A B.
+      product-flat prime₀ 8 h minus f n s m 1088 t t₁ room fits length-is clear stores T prime x A rows ω v B;
+}
+
+-- of one lane, t₁ reduced as far as the product reaches
+module _ {p : ℕ} (prime₀ : Prime p) (h minus f : List ℕ) (n : ℕ) (s : List ℕ) (m : ℕ) (t t₁ t′ : List ℕ) (reach : ℕ)
+    (reach-is : reach ≡ n + m - 1) (room : n ≤ length h) (fits : n + m ≤ 129) (whole : length t ≡ 128) (clear : AtMost 0 t)
+    (stores : minus ≡ stored (λ j. modulo p .neg (getD f j 0 % p)) h 0 n) (T : TakesProduct p 1 t minus 0 1 n s 0 m t₁)
+    (reduces : t′ ≡ stored (λ j. getD t₁ j 0 % p) t₁ 0 reach) where
   inside : reach ≤ length t₁
-  inside = omega (arith, fits, T .same-length, whole)
+  inside = omega (arith, T .same-length)
 
   others : (i : ℕ) → reach ≤ i → getD t₁ i 0 < p
-  others i far = omega (arith, T .behind i (omega arith), cleared-none N t t₀ clears length-is i, prime₀ .large)
+  others i far = omega (arith, T .behind i (omega arith), clear i, prime₀ .large)
 
-  pub product-below : (i : ℕ) → getD t′ i 0 < p
-  product-below = reduced-below prime₀ reach t₁ t′ reduces inside others
+  one-lane : (e : ℕ) → flat 1 0 e ≡ e
+  one-lane e = omega arith
 
-  module _ (prime : Prime p) (x : Polynomial (residues p prime)) (A : Holds (residues p prime) (words p prime f 0 n) x) where
-    cleared : (j : ℕ) → words p prime t₀ 0 N j ≡ residues p prime .ring .zero
-    cleared j = words-zero p prime t₀ 0 N 0
-        (λ i ge lt.
-        let none : getD t₀ (0 + i) 0 ≡ 0 = omega (arith, cleared-none N t t₀ clears length-is (0 + i)) in
-        ap (λ z. z % p) none ∙ zero-mod p)
-        j (omega arith)
-
-    nothing : (H : ℕ → Residue p) → ((e : ℕ) → H e ≡ residues p prime .ring .zero) → Holds (residues p prime) H
-        (polynomials (residues p prime) .zero)
-    nothing H z = record { at = λ e. coefficients-zero (residues p prime) e ∙ sym (z e) }
-
-    less-negated : (y z : Polynomial (residues p prime)) → y ≡ polynomials (residues p prime) .neg x
-        → less p prime (polynomials (residues p prime) .zero) y z ≡ polynomials (residues p prime) .mul x z
-    less-negated y z e =
-        ap (λ u. less p prime (polynomials (residues p prime) .zero) u z) e
-        ∙ identity (polynomials (residues p prime)) (x ∷ z ∷ []) (λ ρ qx qz. search quotes depth 16) refl
-
-    pub product-lane : (i : ℕ) → i < w → (z : Polynomial (residues p prime))
-        → Holds (residues p prime) (λ e. words p prime s 0 m (flat w i e)) z
-        → Holds (residues p prime) (λ e. words p prime t′ 0 N (flat w i e)) (polynomials (residues p prime) .mul x z)
-    product-lane i lane z B =
-        let C = T .holds N fits (omega (arith, whole)) prime i lane (polynomials (residues p prime) .zero) z
-        (nothing _ (λ e. cleared (flat w i e))) B in
-        let same = reduced-words prime₀ reach t₁ t′ reduces inside others prime N in
-        subst (Holds (residues p prime) (λ e. words p prime t′ 0 N (flat w i e)))
-        (less-negated _ z (negated-read prime₀ h minus f n stores room prime x A))
-        (record { at = λ e. C .at e ∙ same (flat w i e) })
-
-    pub product-flat : (rows : ℕ) (ω : ℕ → ℕ) (v : ℕ → Polynomial (residues p prime))
-        → Flat (residues p prime) rows w ω (words p prime s 0 m) v
-        → Flat (residues p prime) rows w ω (words p prime t′ 0 N) (λ i. polynomials (residues p prime) .mul x (v i))
-    product-flat rows ω v B = record {
-      lanes = B .lanes;
-      lane = λ i lt. subst (Holds (residues p prime) (λ e. words p prime t′ 0 N (flat w i e)))
-          (shift-times (residues p prime) (ω i) x (v i)) (product-lane i (omega (arith, B .lanes)) _ (B .lane i lt));
-      beside = λ i e out lane.
-          sym (product-lane i lane (polynomials (residues p prime) .zero) (nothing _ (λ d. B .beside i d out lane)) .at e)
-          ∙ ap (λ y. coefficients (residues p prime) y e) (mul-zero (polynomials (residues p prime)) x)
-          ∙ coefficients-zero (residues p prime) e;
-    }
-
-pub block-multiplied : {p : ℕ} → Prime p → (h minus f : List ℕ) (n : ℕ) (s : List ℕ) (m : ℕ) (t t₀ t₁ t′ : List ℕ)
-    (reach : ℕ) → reach ≡ n * 8 + m - 8 → n ≤ length h → n * 8 + m ≤ 1096 → length t ≡ 1088
-    → minus ≡ stored (λ j. modulo p .neg (getD f j 0 % p)) h 0 n → t₀ ≡ stored (λ j. 0) t 0 1088
-    → TakesProduct p 8 t₀ minus 0 1 n s 0 m t₁ → t′ ≡ stored (λ j. getD t₁ j 0 % p) t₁ 0 reach → BlockMultiplied p f n s m t′
-block-multiplied prime₀ h minus f n s m t t₀ t₁ t′ reach reach-is room fits length-is stores clears T reduces = record {
-  below = product-below prime₀ 8 h minus f n s m 1088 t t₀ t₁ t′ reach reach-is room fits length-is stores clears T reduces;
-  holds = λ prime rows ω x v A B.
-      product-flat prime₀ 8 h minus f n s m 1088 t t₀ t₁ t′ reach reach-is room fits length-is stores clears T reduces
-      prime x A rows ω v B;
-}
-
-pub multiplied : {p : ℕ} → Prime p → (h minus f : List ℕ) (n : ℕ) (s : List ℕ) (m : ℕ) (t t₀ t₁ t′ : List ℕ)
-    (reach : ℕ) → reach ≡ n + m - 1 → n ≤ length h → n + m ≤ 129 → length t ≡ 128
-    → minus ≡ stored (λ j. modulo p .neg (getD f j 0 % p)) h 0 n → t₀ ≡ stored (λ j. 0) t 0 128
-    → TakesProduct p 1 t₀ minus 0 1 n s 0 m t₁ → t′ ≡ stored (λ j. getD t₁ j 0 % p) t₁ 0 reach → Multiplied p f n s m t′
-multiplied {p} prime₀ h minus f n s m t t₀ t₁ t′ reach reach-is room fits length-is stores clears T reduces = record {
-  below = product-below prime₀ 1 h minus f n s m 128 t t₀ t₁ t′ reach (omega arith) room (omega arith) length-is stores clears T
-      reduces;
-  holds = λ prime x y A B.
-      let C = product-lane prime₀ 1 h minus f n s m 128 t t₀ t₁ t′ reach (omega arith) room (omega arith) length-is stores
-      clears T reduces prime x A 0 (omega arith) y (record { at = λ e. B .at e ∙ ap (words p prime s 0 m) (sym (one-lane e)) }) in
-      record { at = λ e. C .at e ∙ ap (words p prime t′ 0 128) (one-lane e) };
-}
-  where
-    one-lane : (e : ℕ) → flat 1 0 e ≡ e
-    one-lane e = omega arith
+  pub multiplied : Multiplied p f n s m t′
+  multiplied = record {
+    below = reduced-below prime₀ reach t₁ t′ reduces inside others;
+    holds = λ prime x y A B.
+        let C = product-lane prime₀ 1 h minus f n s m 128 t t₁ room (omega arith) whole clear stores T prime x A 0 (omega arith) y
+        (record { at = λ e. B .at e ∙ ap (words p prime s 0 m) (sym (one-lane e)) }) in
+        record {
+          at = λ e.
+              C .at e
+              ∙ ap (words p prime t₁ 0 128) (one-lane e)
+              ∙ reduced-words prime₀ reach t₁ t′ reduces inside others prime 128 e;
+        };
+  }

@@ -1,6 +1,6 @@
 -- The quotients by the transposed slots as the rows of the second system's solution: row k is 128 words of lane 7 - (n - 1 - k).
 use Prim.Native.Nat.{ℕ, _+_, _-_, _*_, _/_, _%_, _<_, _≤_}
-use mathlib.Core.Path.{_≡_, sym, _∙_, ap, subst}
+use mathlib.Core.Path.{_≡_, sym, _∙_, ap, ap₂, subst}
 use mathlib.Core.Logic.{⊎-elim}
 use mathlib.Core.List.{List}
 use native.Mathlib.Omega.{arith}
@@ -18,26 +18,33 @@ abbrev pub quotientWord : (l : List ℕ) (n x : ℕ) → ℕ
 quotientWord l n x = when (decLt (x / 128) n) (getD l (8 * (x % 128) + (7 - reversed n (x / 128))) 0)
 
 module _ (l : List ℕ) (n x : ℕ) where
-  pub quotient-beyond : ¬ (x / 128 < n) → quotientWord l n x ≡ 0
+  quotient-beyond : ¬ (x / 128 < n) → quotientWord l n x ≡ 0
   quotient-beyond out = when-no (decLt (x / 128) n) _ out
 
-  pub quotient-value : x / 128 < n → quotientWord l n x ≡ getD l (8 * (x % 128) + (7 - reversed n (x / 128))) 0
+  quotient-value : x / 128 < n → quotientWord l n x ≡ getD l (8 * (x % 128) + (7 - reversed n (x / 128))) 0
   quotient-value inside = when-yes (decLt (x / 128) n) _ inside
+
+-- lane 7 - (n - 1 - k) is row k, and the rows from the n-th on are zero
+module _ (l : List ℕ) (n : ℕ) where
+  pub lane-row : (k e : ℕ) → k < n → e < 128 → getD l (8 * e + (7 - reversed n k)) 0 ≡ quotientWord l n (128 * k + e)
+  lane-row k e h lt =
+      let y : ℕ = 128 * k + e in
+      let slot : y / 128 ≡ k = omega arith in
+      let degree : y % 128 ≡ e = omega arith in
+      sym (quotient-value l n y (omega (arith, slot))
+      ∙ ap₂ (λ a b. getD l (8 * a + (7 - reversed n b)) 0) degree slot)
+
+  pub no-row : (i : ℕ) → 0 ≡ quotientWord l n (128 * n + i)
+  no-row i = sym (quotient-beyond l n (128 * n + i) (λ h. omega arith))
 
 module _ (l : List ℕ) (n : ℕ) (small : n ≤ 8) (o : List ℕ) (room : length o ≡ 1024) where
   -- coefficient e of row k
   pub row-cell : (k e : ℕ) → k < n → e < 128
       → getD (stored (quotientWord l n) o 0 1024) (128 * k + e) 0 ≡ getD l (flat 8 (back n k) e) 0
   row-cell k e h lt =
-      let y : ℕ = 128 * k + e in
-      let slot : y / 128 ≡ k = omega arith in
-      let degree : y % 128 ≡ e = omega arith in
-      stored-first (quotientWord l n) o 1024 y (omega arith) (omega arith)
-      ∙ quotient-value l n y (omega (arith, slot))
-      ∙ ap (λ i. getD l i 0) (place y slot degree)
-    where
-      place : (y : ℕ) → y / 128 ≡ k → y % 128 ≡ e → 8 * (y % 128) + (7 - reversed n (y / 128)) ≡ flat 8 (back n k) e
-      place y slot degree = ap (λ i. 8 * (y % 128) + (7 - reversed n i)) slot ∙ omega arith
+      stored-first (quotientWord l n) o 1024 (128 * k + e) (omega arith) (omega arith)
+      ∙ sym (lane-row l n k e h lt)
+      ∙ ap (λ i. getD l i 0) (omega arith)
 
   pub rows-below : (p : ℕ) → ((i : ℕ) → getD l i 0 < p) → (i : ℕ) → getD (stored (quotientWord l n) o 0 1024) i 0 < p
   rows-below p all i =

@@ -45,7 +45,6 @@ pub record ScalesWithin (p n : ℕ) (L : Level) (w : List ℕ) (count : ℕ) : T
       → Ends p (stored (rightWord (L .slots) (L .sizes) n) o 0 1088) 0 1088 m → count * 8 + m ≤ 1096
 
 pub record RightScaled (p n : ℕ) (L : Level) (w : List ℕ) (count : ℕ) (out : List ℕ) : Type 0 where
-  pub below : (i : ℕ) → getD out i 0 < p
   pub holds : (prime : Prime p) (U : Slots (Polynomial (residues p prime))) (x : Polynomial (residues p prime))
       → ValidLevel p L → HoldsSlots p prime n unweighted L U → Holds (residues p prime) (words p prime w 0 count) x
       → Flat (residues p prime) n 8 (weights (polynomials (residues p prime)) n (greatest (L .sizes) n) U) (words p prime out 0 1088)
@@ -97,7 +96,6 @@ module _ {p n : ℕ} {L T : Level} {w : List ℕ} {count : ℕ} (fits : ScalesWi
 
       pub right-scaled : n ≤ 8 → {out : List ℕ} → BlockMultiplied p w count b m out → RightScaled p n L w count out
       right-scaled small {out} done = record {
-        below = done .below;
         holds = λ prime U x valid holds factor. done .holds prime n (weights (polynomials (residues p prime)) n (greatest (L .sizes) n) U) x
             (rightSide (polynomials (residues p prime)) n (greatest (L .sizes) n) U) factor
             (flat-same (words-cut p prime b 1088 m (right-ends .within) (right-ends .behind))

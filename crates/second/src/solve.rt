@@ -5,6 +5,7 @@ use lattice::division::divide;
 use multiples::product::multiply_block;
 use residue::modulus::Modulus;
 use transposed::layout::lay_second;
+use vector::clear;
 use vector::find_leading;
 ghost use mathlib.Core.Path.{_≡_};
 ghost use Prim.Native.Nat.{_≤_};
@@ -51,6 +52,8 @@ pub fn solve_second(
     let mut i = reciprocals;
     let mut block = right;
     let count = find_denominator(&mut s, &mut z, &mut i, &mut block, found, w, modulus);
+    // the product takes the place of what the insertion left
+    clear(&mut block, 0, 1088);
     multiply_block(w, count, &right, size, &mut block, modulus);
     let mut quotients = [0u64; 1088];
     divide(

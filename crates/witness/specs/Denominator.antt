@@ -16,11 +16,12 @@ use Rattle.reduction.specs.Polynomials.{associate}
 use Rattle.reduction.specs.Holds.{Holds, holds-size}
 use Rattle.reduction.specs.Flat.{Flat}
 use Rattle.lattice.specs.Word.{words}
-use Rattle.lattice.specs.Memory.{ZeroFrom, Ends}
+use Rattle.lattice.specs.Memory.{ZeroFrom, Ends, Sums}
 use Rattle.lattice.specs.Range.{words-zero, ends-most}
 use Rattle.lattice.specs.Reading.{flat-same}
 use Rattle.multiples.specs.Monic.{MadeMonic}
 use Rattle.multiples.specs.Product.{BlockMultiplied}
+use Rattle.multiples.specs.ProductLaws.{product-sums}
 use Rattle.witness.specs.Words.{held-zero-from, held-fewer, words-copied, stored-below}
 
 -- the tail is not zero
@@ -38,7 +39,7 @@ pub record HoldsDenominator (p : ℕ) (prime : Prime p) (n : ℕ) (d t : List �
 
 pub record HasDenominator (p m : ℕ) (input tail d t : List ℕ) (found : ℕ) : Type 0 where
   pub below : (i : ℕ) → getD d i 0 < p
-  pub vector-below : (i : ℕ) → getD t i 0 < p
+  pub vector-sums : Sums p 2112 t
   pub ends : Ends p d 0 128 found
   pub small : found ≤ 121
   pub holds : (prime : Prime p) (n : ℕ) (x : Polynomial (residues p prime)) (some : 0 < size (residues p prime) x)
@@ -75,7 +76,7 @@ module _ {p : ℕ} {tail d : List ℕ} {found : ℕ} (made : MadeMonic p tail d 
       → found ≤ 121 → BlockMultiplied p d found block 128 t → HasDenominator p m input tail d t found
   denominator-made input m l {block} {t} room stores small multiplied = record {
     below = made .below;
-    vector-below = multiplied .below;
+    vector-sums = product-sums multiplied;
     ends = made .ends;
     small = small;
     holds = λ prime n x some b A B.

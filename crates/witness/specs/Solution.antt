@@ -20,7 +20,7 @@ use Rattle.reduction.specs.Solution.{solution-tops}
 use Rattle.reduction.specs.Unfinished.{Unfinished, unfinished}
 use Rattle.reduction.specs.Holds.{Holds}
 use Rattle.lattice.specs.Word.{words}
-use Rattle.lattice.specs.Memory.{Level, ValidLevel}
+use Rattle.lattice.specs.Memory.{Level, ValidLevel, Sums}
 use Rattle.lattice.specs.Range.{words-apart, ends-most}
 use Rattle.areas.specs.Input.{Equations, systemOf}
 use Rattle.areas.specs.Output.{ValidOutput}
@@ -32,7 +32,7 @@ use Rattle.witness.specs.Inserted.{HoldsVanished, HasVanished, slots-hig
 use Rattle.witness.specs.Denominator.{HasTail, HasDenominator, HoldsDenominator}
 
 pub record SolutionFound (p n m : ℕ) (input : List ℕ) (L : Level) (tail t output : List ℕ) : Type 0 where
-  pub below : (i : ℕ) → getD t i 0 < p
+  pub sums : Sums p 2112 t
   pub valid : ValidOutput p output
   pub holds : (prime : Prime p) (X : Equations p prime n m) (U : Slots (Polynomial (residues p prime)))
       → HoldsVanished p prime n m X U input L tail → HoldsUnfinished p prime n m X U t output
@@ -147,7 +147,7 @@ module _ {p n m : ℕ} {input : List ℕ} {L : Level} {tail d t : List ℕ} {fou
   stored-found : {product output : List ℕ} → Prime p → m ≤ 8 → Multiplied p d found w (122 - found) product
       → ValidOutput p output → SolutionFound p n m input L tail t (storedSolution n m d product rows output)
   stored-found {product} {output} prime₀ columns multiplied valid = record {
-    below = has .vector-below;
+    sums = has .vector-sums;
     valid = stored-valid p prime₀ n m lanes columns d product rows output valid
         (has .below) (multiplied .below) (solved .rows-below);
     holds = λ prime X U Q. record {

@@ -3,7 +3,6 @@
 use Prim.Native.Nat.{ℕ, _+_, _<_}
 use mathlib.Core.Bool.{Bool, true, false}
 use mathlib.Core.List.{List}
-use lib.ListN.{getD}
 use Rattle.algebra.specs.Polynomial.{Polynomial, polynomials}
 use Rattle.modular.specs.Prime.{Prime}
 use Rattle.modular.specs.Residue.{residues}
@@ -13,7 +12,7 @@ use Rattle.reduction.specs.Polynomials.{euclidean}
 use Rattle.reduction.specs.Levels as reduction
 use Rattle.reduction.specs.Unfinished.{Unfinished}
 use Rattle.lattice.specs.Word.{words}
-use Rattle.lattice.specs.Memory.{Level}
+use Rattle.lattice.specs.Memory.{Level, Sums}
 use Rattle.lattice.specs.Holding.{HoldsSlots}
 use Rattle.areas.specs.Input.{Equations, systemOf, HoldsSystem}
 use Rattle.areas.specs.Output.{ValidOutput, HoldsAt, HoldsAbsence}
@@ -50,8 +49,9 @@ pub record HasLast (p n m : ℕ) (input : List ℕ) (L : Level) : Type 0 where
   pub equations : Equations p prime n m
   pub last : HoldsLast p prime n m equations input L
 
+-- t is in sums that are not reduced, as many as `divide` takes
 pub record Witnessed (p n m : ℕ) (input : List ℕ) (L : Level) (t output : List ℕ) (solved : Bool) : Type 0 where
-  pub below : (i : ℕ) → getD t i 0 < p
+  pub sums : Sums p 2112 t
   pub valid : ValidOutput p output
   pub holds : (prime : Prime p) (X : Equations p prime n m) (H : HoldsLast p prime n m X input L)
       → HoldsWitness p prime n m solved X (H .slots) t output

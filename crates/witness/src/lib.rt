@@ -7,18 +7,18 @@ use crate::absence::find_absence;
 use crate::insertion::insert_right;
 use crate::solution::find_solution;
 use residue::modulus::Modulus;
-use vector::clear;
 ghost use mathlib.Core.Path.{_≡_};
 ghost use Prim.Native.Nat.{_≤_};
 ghost use lib.ListN.{length};
 ghost use Rattle.residue.specs.Modulus.{ValidModulus};
+ghost use Rattle.vector.specs.Bound.{AtMost};
 ghost use Rattle.lattice.specs.Memory.{level, ValidLevel};
 ghost use Rattle.areas.specs.Input.{ValidInput};
 ghost use Rattle.areas.specs.Output.{ValidOutput};
 ghost use Rattle.witness.specs.Witnessed.{HasLast, Witnessed};
 
-// Of a system of n rows and m columns whose last level is given. Where there is a solution: d, w and Z to the output, d b to t, and
-// true. Where there is none: q to the output, and false.
+// Of a system of n rows and m columns whose last level is given, with t 0 at the start. Where there is a solution: d, w and Z to the
+// output, d b to t, and true. Where there is none: q to the output, and false.
 pub fn find_witness(
     input: &[u64],
     n: usize,
@@ -33,7 +33,7 @@ pub fn find_witness(
     requires { ⌜ ValidModulus modulus × (n ≤ 8) × (m ≤ 8) × ValidInput (modulus .p) (now input) ⌝ }
     requires level { ⌜ ValidLevel (modulus .p) (level (now slots) (now sizes) (now inverses)) ⌝ }
     requires last { ⌜ HasLast (modulus .p) n m (now input) (level (now slots) (now sizes) (now inverses)) ⌝ }
-    requires areas { ⌜ (length (now t) ≡ 1088) × ValidOutput (modulus .p) (now output) ⌝ }
+    requires areas { ⌜ (length (now t) ≡ 1088) × AtMost 0 (now t) × ValidOutput (modulus .p) (now output) ⌝ }
     ensures { λ r. ⌜ Witnessed (modulus .p) n m (now (input .entry))
         (level (now (slots .entry)) (now (sizes .entry)) (now (inverses .entry))) (now (t .exit)) (now (output .exit)) r ⌝ }
 {
@@ -70,6 +70,5 @@ pub fn find_witness(
     }
     let h = 7 - (size - 1) % 8;
     find_absence(slots, sizes, inverses, n, h, output, modulus);
-    clear(t, 0, 1088);
     false
 }

@@ -9,6 +9,7 @@ ghost use mathlib.Core.Path.{_≡_};
 ghost use Prim.Native.Nat.{_≤_};
 ghost use lib.ListN.{length};
 ghost use Rattle.residue.specs.Modulus.{ValidModulus};
+ghost use Rattle.vector.specs.Bound.{AtMost};
 ghost use Rattle.lattice.specs.Memory.{level, ValidLevel, ZeroFrom, Sums};
 ghost use Rattle.areas.specs.Input.{ValidInput};
 ghost use Rattle.areas.specs.Output.{ValidOutput};
@@ -16,7 +17,7 @@ ghost use Rattle.witness.specs.Inserted.{HasVanished};
 ghost use Rattle.witness.specs.Denominator.{HasTail, HasDenominator};
 ghost use Rattle.witness.specs.Solution.{storedSolution, SolutionFound};
 
-// The tail made monic to d, and d times the right side to t. Returns the number of coefficients of d.
+// The tail made monic to d, and d times the right side to t, which is 0 at the start. Returns the number of coefficients of d.
 pub fn find_denominator(
     input: &[u64],
     m: usize,
@@ -28,7 +29,7 @@ pub fn find_denominator(
     requires { ⌜ ValidModulus modulus × (m ≤ 8) × ValidInput (modulus .p) (now input) ⌝ }
     requires tail { ⌜ (256 ≤ length (now tail)) × ZeroFrom (modulus .p) (now tail) 0 256 121 × Sums (modulus .p) 0 (now tail) ⌝ }
     requires some { ⌜ HasTail (modulus .p) (now tail) ⌝ }
-    requires areas { ⌜ (length (now d) ≡ 128) × (length (now t) ≡ 1088) ⌝ }
+    requires areas { ⌜ (length (now d) ≡ 128) × (length (now t) ≡ 1088) × AtMost 0 (now t) ⌝ }
     ensures { λ r. ⌜ HasDenominator (modulus .p) m (now (input .entry)) (now (tail .entry)) (now (d .exit)) (now (t .exit)) r ⌝ }
 {
     let mut right = [0u64; 128];
@@ -50,8 +51,8 @@ pub fn store_solution(output: &mut [u64], n: usize, m: usize, d: &[u64], w: &[u6
     copy(output, 128 * (2 + m), rows, 0, 128 * n);
 }
 
-// Of the slots and the tail after an insertion whose block became zero: d, w and Z to the output, d b to t. By L8, d and the second
-// system's w have together at most 122 coefficients.
+// Of the slots and the tail after an insertion whose block became zero: d, w and Z to the output, d b to t, which is 0 at the start.
+// By L8, d and the second system's w have together at most 122 coefficients.
 pub fn find_solution(
     input: &[u64],
     n: usize,
@@ -68,7 +69,7 @@ pub fn find_solution(
     requires level { ⌜ ValidLevel (modulus .p) (level (now slots) (now sizes) (now inverses)) ⌝ }
     requires tail { ⌜ (256 ≤ length (now tail)) × ZeroFrom (modulus .p) (now tail) 0 256 121 × Sums (modulus .p) 0 (now tail) ⌝ }
     requires vanished { ⌜ HasVanished (modulus .p) n m (now input) (level (now slots) (now sizes) (now inverses)) (now tail) ⌝ }
-    requires areas { ⌜ (length (now t) ≡ 1088) × ValidOutput (modulus .p) (now output) ⌝ }
+    requires areas { ⌜ (length (now t) ≡ 1088) × AtMost 0 (now t) × ValidOutput (modulus .p) (now output) ⌝ }
     ensures { λ _. ⌜ SolutionFound (modulus .p) n m (now (input .entry))
         (level (now (slots .entry)) (now (sizes .entry)) (now (inverses .entry))) (now (tail .entry))
         (now (t .exit)) (now (output .exit)) ⌝ }

@@ -72,29 +72,19 @@ find-absence-requires c κs =
     let S = inserted .before .before .before .before .before .before .before .before .before .before .before in
     let some : 0 < inserted .insert-right .result = omega arith in (
       (S .pre .0 .0, S .pre .0 .1, omega arith, S .pre .1 .0),
-      (last-stuck (inserted .insert-right .ensures) (S .pre .1 .1 .0) some, S .pre .1 .1 .1 .1),
+      (last-stuck (inserted .insert-right .ensures) (S .pre .1 .1 .0) some, S .pre .1 .1 .1 .2),
     )
-
-clear-requires : tie.Need-clear-requires
-clear-requires c κs =
-    let inserted = c .before .before .before .before .before .before .before .before .before .before in
-    let S = inserted .before .before .before .before .before .before .before .before .before .before .before in
-    omega (arith, S .pre .1 .1 .1 .0)
 
 same-length-3 : tie.Need-same-length-3
 same-length-3 c = search needs
 
-same-length-4 : tie.Need-same-length-4
-same-length-4 c = search needs
-
 returns-2 : tie.Need-returns-2
 returns-2 c =
-    let found = c .before .before .before .before .before .before in
+    let found = c .before .before in
     let inserted = found .before .before .before .before .before .before .before in
     let S = inserted .before .before .before .before .before .before .before .before .before .before .before in
     let some : 0 < inserted .insert-right .result = omega arith in
-    absence-witnessed (inserted .insert-right .ensures) (S .args .t .now) (S .pre .0 .0 .prime) (S .pre .1 .1 .1 .0)
-    (c .before .before .clear .ensures) some (found .find-absence .ensures)
+    absence-witnessed (inserted .insert-right .ensures) (S .pre .1 .1 .1 .1) some (found .find-absence .ensures)
 
 pub find-witness-spec : {M : Type 1} → statement M
 find-witness-spec =
@@ -116,7 +106,5 @@ find-witness-spec =
     sub-h
     sub-h-2
     find-absence-requires
-    clear-requires
     same-length-3
-    same-length-4
     returns-2)

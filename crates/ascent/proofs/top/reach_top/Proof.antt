@@ -3,6 +3,7 @@ use mathlib.Core.Path.{refl}
 use native.Mathlib.Omega.{arith}
 use borrow.Author.Needs.{needs}
 use Rattle.residue.specs.Modulus.{ValidModulus}
+use Rattle.vector.specs.Bound.{zeros-none}
 use Rattle.ascent.specs.Top.{has-last, witnessed-solution, witnessed-absence}
 use Rattle.ascent.proofs.top.reach_top.Statement.{statement}
 use Rattle.ascent.proofs.top.reach_top.Tie as tie
@@ -13,7 +14,7 @@ slice-aggregate-find-witness c = search needs
 find-witness-requires : tie.Need-find-witness-requires
 find-witness-requires c κs =
     let given = c .before .before .before .before .before .before .before .before .pre in
-    (given .0, (given .1 .0, (has-last refl (given .1 .1 .0), (refl, given .1 .1 .1 .2))))
+    (given .0, (given .1 .0, (has-last refl (given .1 .1 .0), (refl, zeros-none 1088, given .1 .1 .1 .2))))
 
 slice-aggregate-divide : tie.Need-slice-aggregate-divide
 slice-aggregate-divide c = search needs
@@ -24,7 +25,7 @@ divide-requires c κs =
     let found = c .before .before .before .before .before .before .find-witness in (
       (given .0 .0, given .1 .0),
       (
-        (omega (arith, found .kept .1 .1 .1 .1 .1 .1 .0), omega arith, (λ j ge lt. absurd (omega arith)), λ i. omega (arith, found .ensures .below i)),
+        (omega (arith, found .kept .1 .1 .1 .1 .1 .1 .0), omega arith, (λ j ge lt. absurd (omega arith)), found .ensures .sums),
         (omega (arith, given .1 .1 .1 .0), given .1 .1 .1 .1),
       ),
     )

@@ -1,5 +1,6 @@
 -- The word that is known, or those that `find_leading` finds.
 use Prim.Native.Nat.{_<_}
+use native.Mathlib.Nat.{le-trans}
 use native.Mathlib.Omega.{arith}
 use Rattle.residue.specs.Modulus.{ValidModulus}
 use Rattle.lattice.specs.Found.{found-ends, found-leading, found-within}
@@ -16,7 +17,7 @@ find-leading-requires : tie.Need-find-leading-requires
 find-leading-requires c κs =
     let S = c .before .before in
     let R = S .pre .1 in
-    ((S .pre .0, R .room), λ j lt. R .reducible j)
+    ((S .pre .0, omega (arith, R .fewer, R .room)), λ j lt. R .reducible j)
 
 returns-2 : tie.Need-returns-2
 returns-2 c =
@@ -24,10 +25,12 @@ returns-2 c =
     let m : ValidModulus (S .args .modulus) = S .pre .0 in
     let positive : 0 < S .args .modulus .p = omega (arith, m .prime .large) in
     let R = S .pre .1 in
-    let found = c .find-leading .ensures in record {
-      ends = found-ends _ positive _ 1088 _ (R .within) (R .behind) _ (found .0);
-      leading = found-leading _ positive _ 1088 _ (R .within) (R .behind) _ (found .0) _ (found .1);
-      within = found-within _ positive _ 1088 _ (R .within) (R .behind) _ (found .0);
+    let found = c .find-leading .ensures in
+    let within = le-trans (R .fewer) (R .within) in
+    let behind = R .late (omega arith) in record {
+      ends = found-ends _ positive _ 1088 _ within behind _ (found .0);
+      leading = found-leading _ positive _ 1088 _ within behind _ (found .0) _ (found .1);
+      within = le-trans (found-within _ positive _ 1088 _ within behind _ (found .0)) (R .fewer);
     }
 
 pub find-rest-spec : {M : Type 1} → statement M

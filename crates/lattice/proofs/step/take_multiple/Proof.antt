@@ -85,35 +85,33 @@ add-scaled-requires c κs =
       ),
     )
 
+words-unseen-requires : tie.Need-words-unseen-requires
+words-unseen-requires c κs =
+    let step = c .before .before .before .before .before .before .before .before .before .before .before .before .before .before .pre .1 .0 in
+    (step .filled, step .fits)
+
 sub-rest : tie.Need-sub-rest
-sub-rest c = c .before .before .before .before .before .before .before .before .before .before .before .before .before .before .pre .1 .0 .some
+sub-rest c = c .before .before .before .before .before .before .before .before .before .before .before .before .before .before .before .pre .1 .0 .some
 
 same-length : tie.Need-same-length
-same-length c = c .before .before .add-scaled .kept .0
+same-length c = c .before .before .before .add-scaled .kept .0
 
 returns : tie.Need-returns
 returns c =
-    let B = c .before .before in
+    let B = c .before .before .before in
     let N = B .before .before in
     let A = N .before .before .before in
     let S = A .before .before .before .before .before .before .before in
     let m : ValidModulus (S .args .modulus) = S .pre .0 in
     let step = S .pre .1 .0 in
     let by = A .mul .ensures in
-    let words = B .add-scaled .ensures .0 in record {
+    let words = B .add-scaled .ensures .0 in
+    let next = N .word-before .ensures in
+    let unseen = c .words-unseen .ensures in record {
       factor = by;
       words = words;
       size = refl;
-      rest = record {
-        room = omega (arith, step .room, Stepping.step-length _ (m .prime) step _ by _ words);
-        within = omega (arith, step .ends .within);
-        behind = Stepping.step-behind _ (m .prime) step _ by _ words;
-        reducible = Stepping.step-reducible _ (m .prime) step _ by _ words (S .pre .1 .1);
-        early = λ some. let before = N .word-before .ensures some in (
-          omega (arith, before .0, step .fits),
-          Stepping.step-next _ (m .prime) step _ by _ words _ before,
-        );
-      };
+      rest = Stepping.step-rest _ (m .prime) step _ by _ words _ (next .0) (next .1) _ (unseen .0) (unseen .1) (S .pre .1 .1);
     }
 
 pub take-multiple-spec : {M : Type 1} → statement M
@@ -136,6 +134,7 @@ take-multiple-spec =
     sub-add-scaled
     mul-add-scaled
     add-scaled-requires
+    words-unseen-requires
     sub-rest
     same-length
     returns)

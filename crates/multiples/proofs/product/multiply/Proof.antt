@@ -69,10 +69,12 @@ returns c =
     let negated = cleared .before .before .before in
     let S = negated .before .before .before .before .before in
     let m : ValidModulus (S .args .modulus) = S .pre .0 .0 in
-    multiplied (m .prime) _ _ (S .args .f .now) (S .args .n) (S .args .g .now) (S .args .m) (S .args .out .now) _ _ _ _
-    (c .before .before .before .less .ensures) (S .pre .0 .1) (S .pre .0 .4) (S .pre .0 .5)
-    (negated .store-negated .ensures) (cleared .clear .ensures)
-    (taken .subtract-product .ensures) (c .before .before .reduce-range .ensures)
+    let clears = cleared .clear .ensures in
+    multiplied (m .prime) _ _ (S .args .f .now) (S .args .n) (S .args .g .now) (S .args .m) _ _ _ _
+    (c .before .before .before .less .ensures) (S .pre .0 .1) (S .pre .0 .4)
+    (omega (arith, cleared-length 128 (S .args .out .now) _ clears, S .pre .0 .5))
+    (cleared-none 128 (S .args .out .now) _ clears (S .pre .0 .5))
+    (negated .store-negated .ensures) (taken .subtract-product .ensures) (c .before .before .reduce-range .ensures)
 
 pub multiply-spec : {M : Type 1} → statement M
 multiply-spec =

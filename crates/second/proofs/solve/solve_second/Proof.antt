@@ -3,6 +3,7 @@ use native.Mathlib.Omega.{arith}
 use native.Mathlib.Nat.{le-refl}
 use Rattle.residue.specs.Modulus.{ValidModulus}
 use Rattle.vector.specs.Bound.{zeros-none}
+use Rattle.multiples.specs.ProductLaws.{cleared-none, product-sums}
 use Rattle.transposed.specs.RightFilling.{tails-end}
 use Rattle.second.specs.SecondReady.{level-room, block-reducible, ready-valid, ready-starts}
 use Rattle.second.specs.Denominator.{laid-denominator}
@@ -12,32 +13,19 @@ use Rattle.second.specs.SecondEnds.{second-solved}
 use borrow.Author.Needs.{needs}
 use Rattle.second.proofs.solve.solve_second.Statement.{statement}
 use Rattle.second.proofs.solve.solve_second.Tie as tie
-use Rattle.second.proofs.solve.solve_second.Reads as reads
-use Rattle.second.proofs.solve.solve_second.Lts as lts
-use Rattle.lattice.proofs.divide.Reads as divide-reads
-use Rattle.multiples.proofs.product.multiply_block.Reads as multiply-block-reads
-use Rattle.second.proofs.denominator.find_denominator.Reads as find-denominator-reads
-use Rattle.transposed.proofs.layout.lay_second.Reads as lay-second-reads
-use Rattle.second.proofs.rows.store_rows.Reads as store-rows-reads
-use Rattle.vector.proofs.find_leading.Reads as find-leading-reads
 
--- src/solve.rt:37:43
 slice-aggregate-lay-second : tie.Need-slice-aggregate-lay-second
 slice-aggregate-lay-second c = search needs
 
--- src/solve.rt:37:60
 slice-aggregate-lay-second-2 : tie.Need-slice-aggregate-lay-second-2
 slice-aggregate-lay-second-2 c = search needs
 
--- src/solve.rt:37:74
 slice-aggregate-lay-second-3 : tie.Need-slice-aggregate-lay-second-3
 slice-aggregate-lay-second-3 c = search needs
 
--- src/solve.rt:37:92
 slice-aggregate-lay-second-4 : tie.Need-slice-aggregate-lay-second-4
 slice-aggregate-lay-second-4 c = search needs
 
--- src/solve.rt:37:5
 lay-second-requires : tie.Need-lay-second-requires
 lay-second-requires c κs =
     let S = c .before .before .before .before .before .before .before .before .before in (
@@ -45,34 +33,27 @@ lay-second-requires c κs =
       ((omega arith, omega arith, omega arith, omega arith), (zeros-none 2048, zeros-none 1088)),
     )
 
--- src/solve.rt:38:30
 slice-aggregate-find-leading : tie.Need-slice-aggregate-find-leading
 slice-aggregate-find-leading c = search needs
 
--- src/solve.rt:38:9
 find-leading-requires : tie.Need-find-leading-requires
 find-leading-requires c κs =
     let L = c .before .before .before .before .before in
     let S = L .before .before .before .before .before .before .before .before .before .before in
     ((S .pre .0 .0, omega (arith, L .lay-second .kept)), block-reducible (S .args .modulus .p) (S .pre .0 .0 .prime) (S .pre .0 .1) (S .pre .0 .2) (L .lay-second .ensures))
 
--- src/solve.rt:44:34
 slice-aggregate-find-denominator : tie.Need-slice-aggregate-find-denominator
 slice-aggregate-find-denominator c = search needs
 
--- src/solve.rt:44:42
 slice-aggregate-find-denominator-2 : tie.Need-slice-aggregate-find-denominator-2
 slice-aggregate-find-denominator-2 c = search needs
 
--- src/solve.rt:44:50
 slice-aggregate-find-denominator-3 : tie.Need-slice-aggregate-find-denominator-3
 slice-aggregate-find-denominator-3 c = search needs
 
--- src/solve.rt:44:58
 slice-aggregate-find-denominator-4 : tie.Need-slice-aggregate-find-denominator-4
 slice-aggregate-find-denominator-4 c = search needs
 
--- src/solve.rt:44:9
 find-denominator-requires : tie.Need-find-denominator-requires
 find-denominator-requires c κs =
     let F = c .before .before .before .before .before in
@@ -85,18 +66,25 @@ find-denominator-requires c κs =
     (F .find-leading .ensures .0) (F .find-leading .ensures .1) in
     ((m, S .pre .1 .1 .0), (valid, starts))
 
--- src/solve.rt:45:30
+slice-aggregate-clear : tie.Need-slice-aggregate-clear
+slice-aggregate-clear c = search needs
+
+clear-requires : tie.Need-clear-requires
+clear-requires c κs =
+    let D = c .before .before .before .before .before .before .before in
+    let L = D .before .before .before .before .before .before .before .before .before .before .before .before in
+    omega (arith, D .find-denominator .kept, L .lay-second .kept)
+
 slice-aggregate-multiply-block : tie.Need-slice-aggregate-multiply-block
 slice-aggregate-multiply-block c = search needs
 
--- src/solve.rt:45:44
 slice-aggregate-multiply-block-2 : tie.Need-slice-aggregate-multiply-block-2
 slice-aggregate-multiply-block-2 c = search needs
 
--- src/solve.rt:45:5
 multiply-block-requires : tie.Need-multiply-block-requires
 multiply-block-requires c κs =
-    let D = c .before .before .before .before .before .before .before .before .before in
+    let C = c .before .before .before .before in
+    let D = C .before .before .before .before .before .before .before .before in
     let F = D .before .before .before .before .before .before in
     let L = F .before .before .before .before .before .before in
     let S = L .before .before .before .before .before .before .before .before .before .before in
@@ -111,77 +99,72 @@ multiply-block-requires c κs =
         omega (arith, fits .within, D .find-denominator .kept, S .pre .1 .1 .0),
         omega (arith, within, L .lay-second .kept),
         product-room fits (L .lay-second .ensures) _ (F .find-leading .ensures .0),
-        omega (arith, D .find-denominator .kept, L .lay-second .kept),
+        omega (arith, C .clear .kept, D .find-denominator .kept, L .lay-second .kept),
       ),
-      (fits .w-below, right-below fits (L .lay-second .ensures)),
+      (
+        (fits .w-below, right-below fits (L .lay-second .ensures)),
+        cleared-none 1088 _ _ (C .clear .ensures) (omega (arith, D .find-denominator .kept, L .lay-second .kept)),
+      ),
     )
 
--- src/solve.rt:47:12
 slice-aggregate-divide : tie.Need-slice-aggregate-divide
 slice-aggregate-divide c = search needs
 
--- src/solve.rt:47:25
 slice-aggregate-divide-2 : tie.Need-slice-aggregate-divide-2
 slice-aggregate-divide-2 c = search needs
 
--- src/solve.rt:47:35
 slice-aggregate-divide-3 : tie.Need-slice-aggregate-divide-3
 slice-aggregate-divide-3 c = search needs
 
--- src/solve.rt:47:49
 slice-aggregate-divide-4 : tie.Need-slice-aggregate-divide-4
 slice-aggregate-divide-4 c = search needs
 
--- src/solve.rt:47:67
 slice-aggregate-divide-5 : tie.Need-slice-aggregate-divide-5
 slice-aggregate-divide-5 c = search needs
 
--- src/solve.rt:47:5
 divide-requires : tie.Need-divide-requires
 divide-requires c κs =
     let M = c .before .before .before .before .before .before in
-    let D = M .before .before .before .before .before .before .before .before .before .before in
+    let C = M .before .before .before .before .before in
+    let D = C .before .before .before .before .before .before .before .before in
     let L = D .before .before .before .before .before .before .before .before .before .before .before .before in
-    let S = L .before .before .before .before .before .before .before .before .before .before in
-    let below = M .multiply-block .ensures .below in (
+    let S = L .before .before .before .before .before .before .before .before .before .before in (
       (S .pre .0 .0, laid-valid (S .pre .0 .1) (S .pre .0 .2) (L .lay-second .ensures)),
       (
         (
-          omega (arith, M .multiply-block .kept, D .find-denominator .kept, L .lay-second .kept),
+          omega (arith, M .multiply-block .kept, C .clear .kept, D .find-denominator .kept, L .lay-second .kept),
           le-refl 1088,
           (λ j h lt. absurd (omega arith)),
-          (λ i. omega (arith, below i)),
+          product-sums (M .multiply-block .ensures),
         ),
         (le-refl 1088, zeros-none 1088),
       ),
     )
 
--- src/solve.rt:48:16
 slice-aggregate-store-rows : tie.Need-slice-aggregate-store-rows
 slice-aggregate-store-rows c = search needs
 
--- src/solve.rt:48:5
 store-rows-requires : tie.Need-store-rows-requires
 store-rows-requires c κs =
     let Q = c .before .before .before .before in
-    let S = Q .before .before .before .before .before .before .before .before .before .before .before .before .before .before .before .before .before .before .before .before .before .before .before .before .before .before .before .before .before .before .before .before .before .before .before .before .before .before .before in
+    let C = Q .before .before .before .before .before .before .before .before .before .before .before .before in
+    let L = C .before .before .before .before .before .before .before .before .before .before .before .before .before .before .before .before .before .before .before .before in
+    let S = L .before .before .before .before .before .before .before .before .before .before in
     (omega (arith, Q .divide .kept), S .pre .0 .1, S .pre .1 .1 .1)
 
--- src/solve.rt:18:1
 same-length : tie.Need-same-length
 same-length c = search needs
 
--- src/solve.rt:18:1
 same-length-2 : tie.Need-same-length-2
 same-length-2 c = search needs
 
--- src/solve.rt:18:1
 returns : tie.Need-returns
 returns c =
     let W = c .before .before in
     let Q = W .before .before .before .before .before in
     let M = Q .before .before .before .before .before .before .before in
-    let D = M .before .before .before .before .before .before .before .before .before .before in
+    let C = M .before .before .before .before .before in
+    let D = C .before .before .before .before .before .before .before .before in
     let F = D .before .before .before .before .before .before in
     let L = F .before .before .before .before .before .before in
     let S = L .before .before .before .before .before .before .before .before .before .before in
@@ -209,6 +192,8 @@ solve-second-spec =
     slice-aggregate-find-denominator-3
     slice-aggregate-find-denominator-4
     find-denominator-requires
+    slice-aggregate-clear
+    clear-requires
     slice-aggregate-multiply-block
     slice-aggregate-multiply-block-2
     multiply-block-requires

@@ -31,8 +31,11 @@ multiply-block-requires c κs =
     let few = monic-small (made .make-monic .ensures) (S .pre .1 .0 .1) (S .pre .1 .1 .0) in (
       (m, omega arith, omega (arith, made .make-monic .kept), omega (arith, copied .copy .kept), omega arith, S .pre .1 .1 .1 .1),
       (
-        made .make-monic .ensures .below,
-        right-below (m .prime) (S .args .input .now) (S .args .m) _ (copied .copy .ensures) (S .pre .0 .2 .below) (zeros-none 128),
+        (
+          made .make-monic .ensures .below,
+          right-below (m .prime) (S .args .input .now) (S .args .m) _ (copied .copy .ensures) (S .pre .0 .2 .below) (zeros-none 128),
+        ),
+        S .pre .1 .1 .1 .2,
       ),
     )
 

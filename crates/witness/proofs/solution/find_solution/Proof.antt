@@ -15,7 +15,7 @@ find-denominator-requires c κs =
     let S = c .before .before .before .before .before .before .before .before .before in
     let given = S .pre .0 in
     let tail = vanished-tail (given .1) (S .pre .1 .1 .1 .0) in
-    ((given .0, given .2, given .3), (S .pre .1 .1 .0, (tail, (refl, S .pre .1 .1 .1 .1 .0))))
+    ((given .0, given .2, given .3), (S .pre .1 .1 .0, (tail, (refl, S .pre .1 .1 .1 .1 .0, S .pre .1 .1 .1 .1 .1))))
 
 slice-aggregate-solve-second : tie.Need-slice-aggregate-solve-second
 slice-aggregate-solve-second c = search needs
@@ -75,7 +75,7 @@ store-solution-requires c κs =
     let solved = multiplied .before .before .before .before .before .before in
     let found = solved .before .before .before .before .before .before in
     let S = found .before .before .before .before .before .before .before .before .before .before in (
-      (S .pre .0 .1, S .pre .0 .2, S .pre .1 .1 .1 .1 .1 .room),
+      (S .pre .0 .1, S .pre .0 .2, S .pre .1 .1 .1 .1 .2 .room),
       (
         omega (arith, found .find-denominator .kept),
         omega (arith, multiplied .multiply .kept),
@@ -97,7 +97,7 @@ returns c =
     let S = found .before .before .before .before .before .before .before .before .before .before in
     let given = S .pre .0 in
     solution-found (given .1) (S .pre .1 .0) (found .find-denominator .ensures) (solved .solve-second .ensures) (given .0 .prime)
-    (given .2) (multiplied .multiply .ensures) (S .pre .1 .1 .1 .1 .1) (c .before .before .store-solution .ensures)
+    (given .2) (multiplied .multiply .ensures) (S .pre .1 .1 .1 .1 .2) (c .before .before .store-solution .ensures)
 
 pub find-solution-spec : {M : Type 1} → statement M
 find-solution-spec =
