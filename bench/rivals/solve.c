@@ -1,4 +1,4 @@
-// The solver of docs/mathematics.md, section 2, as ours is. What the last level leaves of a column fills an empty slot of it and all
+// The solver of docs/mathematics.md, sections 2 and 3, as ours is. What the last level leaves of a column fills an empty slot of it and all
 // else stays; only where that slot is filled does the column make a level of its own, with scalar tails. The way down carries the
 // quotients of what is left of d · b from the last level to the first.
 #include "solver.h"

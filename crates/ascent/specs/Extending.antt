@@ -17,7 +17,7 @@ use Rattle.lattice.specs.Holding.{HoldsSlots}
 use Rattle.areas.specs.Input.{Equations, systemOf}
 use Rattle.ascent.specs.Ascended.{HoldsLevels}
 
--- the slots U and a kernel behind level j, and the blocks of U in memory
+-- the next slots and a kernel behind level j, and the blocks of these slots in memory
 pub record Extension (p : ℕ) (prime : Prime p) {n m j : ℕ} {X : Equations p prime n m} {input : List ℕ} {L : Level}
     (H : HoldsLevels p prime n m X j input L) (L′ : Level) : Type 0 where
   pub next : Slots (Polynomial (residues p prime))

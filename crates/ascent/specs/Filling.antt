@@ -14,7 +14,7 @@ use Rattle.algebra.specs.Sized.{size-of-zero}
 use Rattle.algebra.specs.Size.{size, sized}
 use Rattle.modular.specs.Prime.{Prime}
 use Rattle.modular.specs.Residue.{residues}
-use Rattle.reduction.specs.Total.{rank, rank-le}
+use Rattle.reduction.specs.Total.{rank-le}
 use Rattle.reduction.specs.Replace.{replace, replace-here, replace-other, extend}
 use Rattle.reduction.specs.Pivot.{Pivot}
 use Rattle.reduction.specs.Slots.{Slots, Filled, put, unweighted}

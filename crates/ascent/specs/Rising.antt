@@ -4,11 +4,10 @@ use mathlib.Core.Path.{_≡_, refl}
 use mathlib.Core.List.{List}
 use native.Mathlib.Omega.{arith}
 use lib.ListN.{getD}
-use Rattle.algebra.specs.Polynomial.{Polynomial}
 use Rattle.algebra.specs.Size.{size, sized}
 use Rattle.modular.specs.Prime.{Prime}
 use Rattle.modular.specs.Residue.{residues}
-use Rattle.reduction.specs.Slots.{Slots, same-refl, same-blocks, unweighted}
+use Rattle.reduction.specs.Slots.{same-refl, same-blocks}
 use Rattle.reduction.specs.Link.{link-shift, link-same}
 use Rattle.lattice.specs.Memory.{Level}
 use Rattle.lattice.specs.Reading.{ends-pivot}

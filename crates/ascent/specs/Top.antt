@@ -16,7 +16,7 @@ use Rattle.reduction.specs.Unfinished.{Unfinished, unfinished-blocks}
 use Rattle.reduction.specs.Descent.{Descent, descent-start}
 use Rattle.lattice.specs.Memory.{Level}
 use Rattle.lattice.specs.Quotients.{Dividend, Divided}
-use Rattle.lattice.specs.Coefficients.{HoldsCoefficients, divided-coefficients, coefficients-blocks}
+use Rattle.lattice.specs.Coefficients.{divided-coefficients, coefficients-blocks}
 use Rattle.witness.specs.Witnessed.{HoldsLast, HasLast, HoldsUnfinished, HoldsWitness, Witnessed}
 use Rattle.areas.specs.Input.{Equations, systemOf}
 use Rattle.ascent.specs.Ascended.{HoldsLevels, HasLevels, HoldsDescended, HoldsAscended, Ascended}

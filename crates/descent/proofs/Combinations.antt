@@ -24,7 +24,9 @@ use Rattle.lattice.specs.Word.{words}
 use Rattle.lattice.specs.Coefficients.{HoldsCoefficients}
 use Rattle.descent.specs.Product.{less, TakesProduct}
 use Rattle.descent.specs.Combination.{lessAll, factor, TakesCombination}
-use Rattle.descent.proofs.Lanes.{holds-same, words-shorter, quotient-read}
+use Rattle.lattice.specs.Range.{words-shorter}
+use Rattle.lattice.specs.Reading.{holds-same}
+use Rattle.descent.proofs.Lanes.{quotient-read}
 
 module _ {p w N : ℕ} {quotients : List ℕ} {terms : ℕ → ℕ} {slots : List ℕ} {at : ℕ → ℕ} {y₀ : List ℕ} where
   pub combination-start : TakesCombination p w N quotients terms slots at 0 y₀ y₀

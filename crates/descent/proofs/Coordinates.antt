@@ -24,7 +24,8 @@ use Rattle.descent.specs.Product.{less}
 use Rattle.descent.specs.Combination.{lessAll, factor, TakesCombination}
 use Rattle.descent.specs.Kernel.{Lessened, TakesKernel}
 use Rattle.descent.specs.Coordinate.{Coordinate, FindsCoordinate}
-use Rattle.descent.proofs.Lanes.{holds-same, one-lane, quotient-size, zeros-held}
+use Rattle.lattice.specs.Reading.{holds-same}
+use Rattle.descent.proofs.Lanes.{one-lane, quotient-size, zeros-held}
 use Rattle.descent.proofs.Combinations.{less-filled}
 
 module _ {p : ℕ} (L : Level) {n : ℕ} {kernel : List ℕ} {at size : ℕ} {quotients y y₁ y′ : List ℕ} (rows : n ≤ 8) (none : AtMost 0 y)

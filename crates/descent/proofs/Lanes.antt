@@ -1,45 +1,30 @@
 -- What a range of words holds, read as one lane, as a shorter range, or with strides.
 use Prim.Native.Nat.{ℕ, _+_, _-_, _*_, _%_, _<_, _≤_}
 use mathlib.Core.Path.{_≡_, sym, _∙_, ap}
-use mathlib.Core.Logic.{⊎-elim}
 use mathlib.Core.List.{List}
 use native.Mathlib.Nat.{zero-mod}
 use native.Mathlib.Omega.{arith}
 use native.Mathlib.Decide.{decLt}
 use lib.ListN.{getD}
-use Rattle.algebra.specs.Field.{Field}
 use Rattle.algebra.specs.Polynomial.{Polynomial, polynomials, coefficients, equal-coefficients, coefficients-zero}
 use Rattle.algebra.specs.Size.{size, coefficients-beyond}
 use Rattle.modular.specs.Prime.{Prime}
 use Rattle.modular.specs.Residue.{Residue, residues}
 use Rattle.vector.specs.Bound.{AtMost}
-use Rattle.vector.specs.Stored.{below-or-not}
 use Rattle.reduction.specs.Holds.{Holds, holds-size, read-at, read-beyond}
 use Rattle.reduction.specs.Flat.{flat}
-use Rattle.lattice.specs.Memory.{ZeroFrom}
-use Rattle.lattice.specs.Word.{residue, words, words-inside, words-behind, words-first}
+use Rattle.lattice.specs.Word.{residue, words, words-first}
 use Rattle.lattice.specs.Range.{words-zero}
 use Rattle.lattice.specs.Quotients.{HoldsQuotient}
 use Rattle.descent.specs.Degrees.{FewDegrees}
 use Rattle.descent.specs.Product.{strided}
 use Rattle.descent.specs.Combination.{factor}
 
-pub holds-same : {K : Type 0} {F : Field K} {H H′ : ℕ → K} {x : Polynomial F} → ((e : ℕ) → H e ≡ H′ e) → Holds F H x → Holds F H′ x
-holds-same same A = record { at = λ e. A .at e ∙ same e }
-
 -- one lane is the whole range
 pub one-lane : (e : ℕ) → flat 1 0 e ≡ e
 one-lane e = omega arith
 
 module _ (p : ℕ) (prime : Prime p) where
-  pub words-shorter : (l : List ℕ) (b n m : ℕ) → m ≤ n → ZeroFrom p l b n m → (j : ℕ)
-      → words p prime l b n j ≡ words p prime l b m j
-  words-shorter l b n m le z j =
-      ⊎-elim
-      (λ lt. words-inside p prime l b n j (omega arith) ∙ sym (words-inside p prime l b m j lt))
-      (λ ge. words-zero p prime l b n m z j ge ∙ sym (words-behind p prime l b m j ge))
-      (below-or-not j m)
-
   -- the lane of row q: how much it has room for, and what `strided` reads of it
   module _ (l : List ℕ) (q : ℕ) (lt : q < 8) (x : Polynomial (residues p prime)) (A : HoldsQuotient p prime l q x) where
     pub quotient-size : {k : ℕ} → FewDegrees p l k → size (residues p prime) x ≤ k

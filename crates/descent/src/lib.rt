@@ -1,13 +1,13 @@
-// The way down: a vector of the span of the levels is taken apart, one column after another.
+// The way down, for a column that was inserted: by its coefficients in the level above, a vector is taken apart into the column's
+// coordinate and a vector of the span below.
 pub mod blocks;
 pub mod combination;
 pub mod coordinate;
 pub mod kernel;
+pub mod lane;
 pub mod product;
 pub mod quotients;
 pub mod search;
 pub mod turn;
 
-pub use coordinate::take_column;
-pub use search::find_coordinate;
 pub use turn::descend_column;

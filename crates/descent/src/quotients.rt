@@ -1,4 +1,4 @@
-// The quotients as a whole: how many coefficients they have, and their negatives.
+// The quotients as a whole: behind which degree they are 0, and their negatives.
 use residue::modulus::Modulus;
 use vector::find_leading;
 ghost use mathlib.Core.Path.{_≡_};
@@ -9,7 +9,7 @@ ghost use Rattle.residue.specs.Modulus.{ValidModulus};
 ghost use Rattle.vector.specs.Stored.{stored};
 ghost use Rattle.descent.specs.Degrees.{FewDegrees};
 
-// How many coefficients the longest of the quotients has.
+// A number of degrees behind which all quotients are 0.
 pub fn count_degrees(quotients: &[u64], modulus: Modulus) -> usize
     requires { ⌜ ValidModulus modulus × (length (now quotients) ≡ 1088) × ((i : ℕ) → getD (now quotients) i 0 < modulus .p) ⌝ }
     ensures { λ r. ⌜ FewDegrees (modulus .p) (now (quotients .entry)) r ⌝ }

@@ -16,15 +16,15 @@ use Rattle.modular.specs.Residue.{residues}
 use Rattle.vector.specs.Stored.{stored, length-stored, stored-inside, stored-outside, below-or-not}
 use Rattle.vector.specs.Bound.{AtMost, at-most-stored}
 use Rattle.reduction.specs.Slots.{Slots, unweighted}
-use Rattle.reduction.specs.Span.{combined}
+use Rattle.reduction.specs.Span.{combined, InSpan}
 use Rattle.reduction.specs.Division.{quotient, quotient-empty, division-equal}
 use Rattle.reduction.specs.Flat.{Flat}
-use Rattle.lattice.specs.Word.{residue, residue-same, residue-zero, words, words-inside, words-first, words-behind}
+use Rattle.lattice.specs.Word.{residue, words, words-inside, words-behind}
 use Rattle.lattice.specs.Memory.{Level, ZeroFrom, Ends, Sums}
 use Rattle.lattice.specs.Holding.{HoldsSlots}
-use Rattle.lattice.specs.Range.{words-same, words-zero, ends-same}
+use Rattle.lattice.specs.Range.{words-same, words-zero, words-shorter, ends-same}
 use Rattle.lattice.specs.Reading.{flat-same}
-use Rattle.lattice.specs.Quotients.{Divides, Divided}
+use Rattle.lattice.specs.Quotients.{Divides, Dividend, Divided}
 use Rattle.lattice.specs.Coefficients.{HoldsCoefficients}
 
 -- a vector is left of the column, which is in the span but for that
@@ -39,6 +39,10 @@ pub record ColumnDivided (p : ℕ) (L : Level) (input : List ℕ) (at : ℕ) (re
   pub sums : Sums p 0 rest
   pub factors-below : (i : ℕ) → getD factors i 0 < p
   pub ends : Ends p rest 0 128 left
+  -- of a column in the span nothing is left
+  pub whole : (prime : Prime p) (n : ℕ) (U : Slots (Polynomial (residues p prime))) (column : ℕ → Polynomial (residues p prime))
+      → HoldsSlots p prime n unweighted L U → Flat (residues p prime) n 8 unweighted (words p prime input at 128) column
+      → InSpan (polynomials (residues p prime)) n n U column → left ≡ 0
   pub divides : (prime : Prime p) (n : ℕ) (U : Slots (Polynomial (residues p prime))) (column : ℕ → Polynomial (residues p prime))
       → HoldsSlots p prime n unweighted L U → Flat (residues p prime) n 8 unweighted (words p prime input at 128) column
       → HoldsLeft p prime n U column rest factors
@@ -77,11 +81,7 @@ module _ (p : ℕ) (input : List ℕ) (at : ℕ) (zeros : List ℕ) (long : leng
     nothing j ge lt = ap (λ w. w % p) (List·getD-eq-default rest 0 (omega (arith, room))) ∙ zero-mod p
 
     rest-words : (prime : Prime p) (x : ℕ) → words p prime rest 0 1088 x ≡ words p prime rest 0 128 x
-    rest-words prime x =
-        ⊎-elim
-        (λ lt. words-first p prime rest 1088 x (omega arith) ∙ sym (words-first p prime rest 128 x lt))
-        (λ past. words-zero p prime rest 0 1088 128 nothing x past ∙ sym (words-behind p prime rest 0 128 x past))
-        (below-or-not x 128)
+    rest-words prime = words-shorter p prime rest 0 1088 128 (omega arith) nothing
 
     few : left ≤ 128
     few = go (decLe left 128)
@@ -92,9 +92,20 @@ module _ (p : ℕ) (input : List ℕ) (at : ℕ) (zeros : List ℕ) (long : leng
             let nothing : getD rest (0 + (left - 1)) 0 ≡ 0 = List·getD-eq-default rest 0 (omega (arith, room)) in
             absurd (omega (arith, done .ends .last (omega arith), ap (λ w. w % p) nothing, zero-mod p))
 
+    dividend : (prime : Prime p) (n : ℕ) (U : Slots (Polynomial (residues p prime))) (column : ℕ → Polynomial (residues p prime))
+        → HoldsSlots p prime n unweighted L U → Flat (residues p prime) n 8 unweighted (words p prime input at 128) column
+        → Dividend p prime n unweighted L block₀
+    dividend prime n U column slots flat = record {
+      slots = U;
+      vector = column;
+      holds-slots = slots;
+      holds = flat-same (λ x. copied-words prime x ∙ ap (λ l. words p prime l 0 1088 x) (sym copied)) flat;
+    }
+
     left-of : (prime : Prime p) (n : ℕ) (U : Slots (Polynomial (residues p prime))) (column : ℕ → Polynomial (residues p prime))
         → HoldsSlots p prime n unweighted L U → Flat (residues p prime) n 8 unweighted (words p prime input at 128) column
         → HoldsLeft p prime n U column rest factors
+    unfolding dividend
     left-of prime n U column slots flat = record {
       vector = Q .rest;
       holds = flat-same (rest-words prime) (Q .holds-rest);
@@ -115,18 +126,15 @@ module _ (p : ℕ) (input : List ℕ) (at : ℕ) (zeros : List ℕ) (long : leng
         R = polynomials (residues p prime)
 
         Q : Divides p prime n unweighted U column rest factors
-        Q = done .divides prime n unweighted record {
-          slots = U;
-          vector = column;
-          holds-slots = slots;
-          holds = flat-same (λ x. copied-words prime x ∙ ap (λ l. words p prime l 0 1088 x) (sym copied)) flat;
-        }
+        Q = done .divides prime n unweighted (dividend prime n U column slots flat)
 
     pub column-divided : ColumnDivided p L input at rest factors left
+    unfolding dividend
     column-divided = record {
       sums = done .sums;
       factors-below = done .below;
       ends = ends-same p prime₀ rest rest 0 0 1088 128 (rest-words prime₀) left few (done .ends);
+      whole = λ prime n U column slots flat s. done .whole prime n unweighted (dividend prime n U column slots flat) s;
       divides = left-of;
     }
 
@@ -164,6 +172,7 @@ module _ {p : ℕ} (prime₀ : Prime p) {L : Level} {input : List ℕ} {at : ℕ
     sums = λ i. omega (arith, reduced-below i);
     factors-below = C .factors-below;
     ends = ends-same p prime₀ rest rest′ 0 0 128 128 (same-words prime₀) left (C .ends .within) (C .ends);
+    whole = C .whole;
     divides = λ prime n U column slots flat.
         let Q = C .divides prime n U column slots flat in
         record { vector = Q .vector; holds = flat-same (same-words prime) (Q .holds); coefficients = Q .coefficients };

@@ -10,7 +10,8 @@ ghost use Rattle.vector.specs.Bound.{Reducible};
 ghost use Rattle.lattice.specs.Memory.{level};
 ghost use Rattle.filling.specs.Filled.{filled, emptied};
 
-// So many words of the block, reduced, their number, and the inverse of the last of them, to slot q. The block gets what stood there.
+// So many words of the block, reduced, their number, and the inverse of the last of them, to slot q. What is then in the block is left
+// open.
 pub fn fill_slot(
     slots: &mut [u64],
     sizes: &mut [usize],

@@ -57,6 +57,14 @@ module _ (p : ℕ) (prime : Prime p) where
       ⊎-elim (λ lt. words-inside p prime l b n j lt ∙ residue-zero p prime _ (z j h lt)) (words-behind p prime l b n j)
       (below-or-not j n)
 
+  -- the first words, where those behind them are 0 modulo p
+  pub words-shorter : (l : List ℕ) (b n m : ℕ) → m ≤ n → ZeroFrom p l b n m → (j : ℕ) → words p prime l b n j ≡ words p prime l b m j
+  words-shorter l b n m le z j =
+      ⊎-elim
+      (λ lt. words-inside p prime l b n j (omega arith) ∙ sym (words-inside p prime l b m j lt))
+      (λ ge. words-zero l b n m z j ge ∙ sym (words-behind p prime l b m j ge))
+      (below-or-not j m)
+
   pub zero-word : (l : List ℕ) (b n j : ℕ) → j < n → words p prime l b n j ≡ 𝟎 → getD l (b + j) 0 % p ≡ 0
   zero-word l b n j lt e = zero-residue p prime _ (sym (words-inside p prime l b n j lt) ∙ e)
 

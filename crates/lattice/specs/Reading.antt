@@ -15,6 +15,7 @@ use Rattle.reduction.specs.Pivot.{Vanishes, Pivot}
 use Rattle.reduction.specs.Slots.{Slots, Filled}
 use Rattle.reduction.specs.Trace.{State}
 use Rattle.reduction.specs.Insert.{Stuck}
+use Rattle.reduction.specs.Holds.{Holds}
 use Rattle.reduction.specs.Flat.{Flat, flat-pivot, flat-zero}
 use Rattle.reduction.specs.Held.{Held}
 use Rattle.lattice.specs.Word.{words}
@@ -22,7 +23,10 @@ use Rattle.lattice.specs.Memory.{row, height, Ends, Level, slotSize, Val
 use Rattle.lattice.specs.Holding.{HoldsSlots, HoldsState}
 use Rattle.lattice.specs.Range.{words-zero, zero-word}
 
--- arrays of equal residues hold the same vectors
+-- arrays of equal residues hold the same polynomial, and the same vectors
+pub holds-same : {K : Type 0} {F : Field K} {H H′ : ℕ → K} {x : Polynomial F} → ((e : ℕ) → H e ≡ H′ e) → Holds F H x → Holds F H′ x
+holds-same same A = record { at = λ e. A .at e ∙ same e }
+
 module _ {K : Type 0} {F : Field K} {n W : ℕ} {ω : ℕ → ℕ} {H H′ : ℕ → K} {v : ℕ → Polynomial F} (same : (x : ℕ) → H x ≡ H′ x) where
   pub flat-same : Flat F n W ω H v → Flat F n W ω H′ v
   flat-same A = record {

@@ -1,4 +1,4 @@
-// The levels of the solver in memory: each column of a system makes the next one.
+// The levels of the solver in memory: a column that is inserted makes the next one.
 pub mod beginning;
 pub mod column;
 pub mod copying;

@@ -19,11 +19,11 @@ use Rattle.reduction.specs.Holds.{Holds}
 use Rattle.reduction.specs.Flat.{flat}
 use Rattle.lattice.specs.Word.{residue, residue-one, words, words-inside, words-behind, words-first}
 use Rattle.lattice.specs.Range.{words-same}
+use Rattle.lattice.specs.Reading.{holds-same}
 use Rattle.lattice.specs.Quotients.{HoldsQuotient}
 use Rattle.quotients.specs.Multiple.{TakesMultiple}
 use Rattle.quotients.specs.Lowering.{Lowers}
 use Rattle.quotients.proofs.Storing.{stored-all}
-use Rattle.quotients.proofs.Multiples.{holds-same}
 
 -- y is the lane of slot q
 module _ {p : ℕ} (quotients y₀ : List ℕ) {y : List ℕ} (q : ℕ) (below : (i : ℕ) → getD quotients i 0 < p)

@@ -8,27 +8,24 @@ use native.Mathlib.Omega.{arith}
 use native.Mathlib.Decide.{decLt}
 use lib.ListN.{length, getD, take, drop, length-take, List·getD-eq-default}
 use Rattle.ring.specs.Identity.{quotes, identity}
-use Rattle.algebra.specs.Field.{Field}
 use Rattle.algebra.specs.Polynomial.{Polynomial, polynomials, coefficients, equal-coefficients}
 use Rattle.algebra.specs.Size.{size, coefficients-beyond}
 use Rattle.modular.specs.Prime.{Prime}
 use Rattle.modular.specs.Residue.{residues}
 use Rattle.vector.specs.Reduced.{polynomial}
 use Rattle.vector.specs.Size.{size-reduced}
-use Rattle.vector.specs.Stored.{stored, length-stored, below-or-not}
+use Rattle.vector.specs.Stored.{stored, length-stored}
 use Rattle.reduction.specs.Holds.{Holds, read, read-at, read-beyond}
 use Rattle.reduction.specs.Flat.{flat}
 use Rattle.lattice.specs.Memory.{ZeroFrom, Ends}
-use Rattle.lattice.specs.Word.{residue, words, words-inside, words-behind}
-use Rattle.lattice.specs.Range.{words-same, words-zero}
+use Rattle.lattice.specs.Word.{residue, words, words-inside}
+use Rattle.lattice.specs.Range.{words-same, words-zero, words-shorter}
+use Rattle.lattice.specs.Reading.{holds-same}
 use Rattle.lattice.specs.Found.{found-ends}
 use Rattle.lattice.specs.Quotients.{HoldsQuotient}
 use Rattle.descent.specs.Product.{strided, less, TakesProduct}
 use Rattle.quotients.specs.Multiple.{TakesMultiple}
 use Rattle.quotients.proofs.Storing.{stored-all}
-
-pub holds-same : {K : Type 0} {F : Field K} {H H′ : ℕ → K} {x : Polynomial F} → ((e : ℕ) → H e ≡ H′ e) → Holds F H x → Holds F H′ x
-holds-same same A = record { at = λ e. A .at e ∙ same e }
 
 -- what `find_leading` finds is no more than it is given
 pub found-most : (p : ℕ) (l : List ℕ) (n found : ℕ) → found ≡ length (polynomial p l 0 n) → found ≤ n
@@ -41,14 +38,6 @@ zero-behind p l n j ge lt = ap (λ w. w % p) (List·getD-eq-default l 0 (omega a
 module _ (p : ℕ) (prime : Prime p) where
   positive : 0 < p
   positive = omega (arith, prime .large)
-
-  -- the first words, where those behind them are 0
-  words-shorter : (l : List ℕ) (n m : ℕ) → m ≤ n → ZeroFrom p l 0 n m → (j : ℕ) → words p prime l 0 n j ≡ words p prime l 0 m j
-  words-shorter l n m le z j =
-      ⊎-elim
-      (λ lt. words-inside p prime l 0 n j (omega arith) ∙ sym (words-inside p prime l 0 m j lt))
-      (λ ge. words-zero p prime l 0 n m z j ge ∙ sym (words-behind p prime l 0 m j ge))
-      (below-or-not j m)
 
   -- the terms that are multiplied are all of x
   module _ (y : List ℕ) (x : Polynomial (residues p prime)) (A : Holds (residues p prime) (words p prime y 0 128) x)
@@ -118,5 +107,5 @@ module _ {p : ℕ} (prime₀ : Prime p) {quotients y factors q₁ q′ : List �
         (terms-read p prime y x A small found terms found-is few)
         (holds-same (λ e. words-same p prime q₁ q′ 0 0 1088 (flat 8 i e) (λ lt. same-residue (0 + flat 8 i e)))
         (T .holds 1088 (omega arith) (omega arith) prime i lane c f C
-        (holds-same (λ e. words-shorter p prime factors 1088 m (omega arith) factors-behind (flat 8 i e)) D)));
+        (holds-same (λ e. words-shorter p prime factors 0 1088 m (omega arith) factors-behind (flat 8 i e)) D)));
   }

@@ -1,5 +1,4 @@
 // The way down by quotients: the coefficients of a vector in the slots of a level become those in the slots of the level below.
-pub mod lane;
 pub mod lowering;
 pub mod multiple;
 

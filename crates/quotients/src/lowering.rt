@@ -1,6 +1,6 @@
 // One column of the way down by quotients.
-use crate::lane::take_lane;
 use crate::multiple::subtract_multiple;
+use descent::lane::store_lane;
 use residue::modulus::Modulus;
 use vector::copy;
 ghost use mathlib.Core.Path.{_≡_};
@@ -10,7 +10,7 @@ ghost use Rattle.residue.specs.Modulus.{ValidModulus};
 ghost use Rattle.quotients.specs.Lowering.{Lowers};
 
 // Takes a column off that filled the empty slot q. Its coordinate, the quotient of slot q, goes to 128 words from `place` on. The
-// factors are the column's in the other slots; its own, 1, is written into them, so that the quotient of slot q becomes 0.
+// factors are the column's in the other slots; its own, 1, is put among them, so that the quotient of slot q becomes 0.
 pub fn lower_quotients(
     quotients: &mut [u64],
     factors: &mut [u64],
@@ -27,7 +27,7 @@ pub fn lower_quotients(
         (now (quotients .exit)) (now (output .exit)) ⌝ }
 {
     let mut y = [0u64; 128];
-    take_lane(quotients, q, &mut y);
+    store_lane(quotients, 7 - q, &mut y, 0);
     copy(output, place, &y, 0, 128);
     factors[7 - q] = 1;
     subtract_multiple(quotients, &y, factors, modulus);

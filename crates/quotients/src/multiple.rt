@@ -1,21 +1,15 @@
 // A multiple of the factors of a column taken off the quotients, in each lane.
+use descent::coordinate::lesser;
 use descent::product::subtract_product;
 use residue::modulus::Modulus;
 use vector::find_leading;
 use vector::reduce_range;
 ghost use mathlib.Core.Path.{_≡_};
-ghost use Prim.Native.Nat.{ℕ, _-_, _<_, _≤_};
+ghost use Prim.Native.Nat.{ℕ, _<_, _≤_};
 ghost use lib.ListN.{length, getD};
 ghost use Rattle.residue.specs.Modulus.{ValidModulus};
 ghost use Rattle.vector.specs.Reduced.{polynomial};
 ghost use Rattle.quotients.specs.Multiple.{TakesMultiple};
-
-// The lesser of two numbers.
-fn lesser(n: usize, m: usize) -> usize
-    ensures { λ r. ⌜ r ≡ n - (n - m) ⌝ }
-{
-    if n < m { n } else { m }
-}
 
 // The words of the factors up to the last that is not 0, in whole rows of eight.
 fn count_words(factors: &[u64], modulus: Modulus) -> usize

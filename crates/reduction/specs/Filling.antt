@@ -6,9 +6,8 @@ use mathlib.Core.List.{[], _∷_}
 use native.Mathlib.Omega.{arith}
 use native.Mathlib.Decide.{ℕ-discrete}
 use Rattle.ring.specs.Ring.{Ring, mul-zero}
-use Rattle.ring.specs.Sum.{sum-change, sum-single}
+use Rattle.ring.specs.Sum.{sum-single}
 use Rattle.ring.specs.Identity.{quotes, identity}
-use Rattle.ring.specs.Combination.{given, combination}
 use Rattle.algebra.specs.Sized.{Sized}
 use Rattle.reduction.specs.Replace.{replace, replace-here, replace-other, extend, extend-below, extend-at, below-suc}
 use Rattle.reduction.specs.Pivot.{Pivot, pivot-ext}

@@ -19,10 +19,10 @@ use Rattle.reduction.specs.Holds.{Holds, holds-size-exact}
 use Rattle.reduction.specs.Flat.{Flat}
 use Rattle.vector.specs.Reduced.{polynomial}
 use Rattle.vector.specs.Stored.{stored, stored-outside, below-or-not}
-use Rattle.lattice.specs.Word.{words, words-first, words-behind}
-use Rattle.lattice.specs.Memory.{row, height, ZeroFrom, Ends, Level, ValidLevel}
+use Rattle.lattice.specs.Word.{words}
+use Rattle.lattice.specs.Memory.{row, height, Ends, Level, ValidLevel}
 use Rattle.lattice.specs.Holding.{HoldsSlots}
-use Rattle.lattice.specs.Range.{words-zero, zero-word}
+use Rattle.lattice.specs.Range.{words-zero, words-shorter, zero-word}
 use Rattle.lattice.specs.Reading.{flat-same, ends-pivot}
 use Rattle.lattice.specs.Found.{found-ends}
 use Rattle.multiples.specs.Product.{BlockMultiplied}
@@ -49,15 +49,6 @@ pub record RightScaled (p n : ℕ) (L : Level) (w : List ℕ) (count : ℕ) (out
       → ValidLevel p L → HoldsSlots p prime n unweighted L U → Holds (residues p prime) (words p prime w 0 count) x
       → Flat (residues p prime) n 8 (weights (polynomials (residues p prime)) n (greatest (L .sizes) n) U) (words p prime out 0 1088)
       (λ i. polynomials (residues p prime) .mul x (rightSide (polynomials (residues p prime)) n (greatest (L .sizes) n) U i))
-
--- words that are 0 modulo p may be left out
-pub words-cut : (p : ℕ) (prime : Prime p) (l : List ℕ) (N k : ℕ) → k ≤ N → ZeroFrom p l 0 N k
-    → (x : ℕ) → words p prime l 0 N x ≡ words p prime l 0 k x
-words-cut p prime l N k within zero x =
-    ⊎-elim
-    (λ lt. words-first p prime l N x (omega arith) ∙ sym (words-first p prime l k x lt))
-    (λ ge. words-zero p prime l 0 N k zero x ge ∙ sym (words-behind p prime l 0 k x ge))
-    (below-or-not x k)
 
 -- the right side as it is laid out
 module _ {p n : ℕ} {L T : Level} {w : List ℕ} {count : ℕ} (fits : ScalesWithin p n L w count) {b : List ℕ} (laid : Laid n L T b)
@@ -98,7 +89,7 @@ module _ {p n : ℕ} {L T : Level} {w : List ℕ} {count : ℕ} (fits : ScalesWi
       right-scaled small {out} done = record {
         holds = λ prime U x valid holds factor. done .holds prime n (weights (polynomials (residues p prime)) n (greatest (L .sizes) n) U) x
             (rightSide (polynomials (residues p prime)) n (greatest (L .sizes) n) U) factor
-            (flat-same (words-cut p prime b 1088 m (right-ends .within) (right-ends .behind))
+            (flat-same (words-shorter p prime b 0 1088 m (right-ends .within) (right-ends .behind))
             (subst (λ l. Flat (residues p prime) n 8 (weights (polynomials (residues p prime)) n (greatest (L .sizes) n) U) (words p prime l 0 1088)
             (rightSide (polynomials (residues p prime)) n (greatest (L .sizes) n) U)) (sym (laid .right)) (right-held p prime small valid holds (laid .ob) (laid .room-block))));
       }

@@ -20,13 +20,14 @@ use Rattle.vector.specs.Stored.{stored, below-or-not}
 use Rattle.lattice.specs.Word.{residue, words, words-inside, words-behind, words-first}
 use Rattle.lattice.specs.Memory.{Level, ValidLevel}
 use Rattle.lattice.specs.Holding.{HoldsSlots}
+use Rattle.lattice.specs.Range.{words-shorter}
 use Rattle.lattice.specs.Quotients.{HoldsQuotient}
 use Rattle.transposed.specs.Greatest.{greatest}
 use Rattle.second.specs.RightInserted.{tops-lower}
 use Rattle.second.specs.SecondDual.{HoldsDual, divided-dual}
 use Rattle.second.specs.Solved.{HoldsSecond, SecondSolved}
 use Rattle.second.specs.Denominator.{FoundDenominator, DenominatorFound}
-use Rattle.second.specs.Scaled.{RightScaled, words-cut}
+use Rattle.second.specs.Scaled.{RightScaled}
 use Rattle.second.specs.DividedSecond.{DividedSecond}
 use Rattle.second.specs.QuotientRows.{quotientWord, row-cell, rows-below}
 
@@ -61,7 +62,7 @@ module _ {p n : ℕ} (small : n ≤ 8) {L : Level} (valid : ValidLevel p L) {w :
     x = polynomials (residues p prime) .mul (m .unit) (F .inserted .run .now .hand n)
 
     factor : Holds (residues p prime) (words p prime w 0 count) x
-    factor = record { at = λ e. F .holds .at e ∙ words-cut p prime w 128 count (found .ends .within) (found .ends .behind) e }
+    factor = record { at = λ e. F .holds .at e ∙ words-shorter p prime w 0 128 count (found .ends .within) (found .ends .behind) e }
 
     D : HoldsDual p prime n B (greatest (L .sizes) n) U x quotients
     D = divided-dual p prime (tops-lower holds tops) (F .inserted) m (divided .holds prime U holds)

@@ -1,22 +1,11 @@
 // The quotients by the transposed slots as the rows of the second system's solution.
+use descent::lane::store_lane;
 use vector::clear;
 ghost use mathlib.Core.Path.{_≡_};
-ghost use Prim.Native.Nat.{_+_, _*_, _<_, _≤_};
-ghost use lib.ListN.{length, getD};
+ghost use Prim.Native.Nat.{_≤_};
+ghost use lib.ListN.{length};
 ghost use Rattle.vector.specs.Stored.{stored};
 ghost use Rattle.second.specs.QuotientRows.{quotientWord};
-
-// rows[at + e] = quotients[8 * e + lane] for e below 128.
-pub fn store_lane(quotients: &[u64], lane: usize, rows: &mut [u64], at: usize)
-    requires { ⌜ (1088 ≤ length (now quotients)) × (lane < 8) × (at + 128 ≤ length (now rows)) ⌝ }
-    ensures { λ _. ⌜ now (rows .exit) ≡ stored (λ e. getD (now (quotients .entry)) (8 * e + lane) 0) (now (rows .entry)) at 128 ⌝ }
-{
-    let mut e = 0;
-    while e < 128 {
-        rows[at + e] = quotients[8 * e + lane];
-        e += 1;
-    }
-}
 
 // Stores 8 rows of 128 words: the lane of row k is that of slot n - 1 - k, and the rows from the n-th on are zero.
 pub fn store_rows(quotients: &[u64], n: usize, rows: &mut [u64])

@@ -8,11 +8,11 @@ use borrow.Author.Needs.{needs}
 use borrow.Fn.Kinds.{In}
 use borrow.Fn.PlainCycle.{Measures, is, falls, and}
 use Rattle.vector.specs.Bound.{zeros-none}
-use Rattle.lattice.specs.Memory.{row, level, Level, ValidLevel}
+use Rattle.lattice.specs.Memory.{row, level, ValidLevel}
 use Rattle.residue.specs.Modulus.{ValidModulus}
 use Rattle.lattice.specs.Sums.{sums-room}
 use Rattle.filling.specs.Column.{column-reduced, reduced-below}
-use Rattle.filling.specs.Filled.{emptied, filled, filled-valid, emptied-filled}
+use Rattle.filling.specs.Filled.{emptied, filled-valid, emptied-filled}
 use Rattle.ascent.specs.Ascended.{HasLevels, Ascended}
 use Rattle.ascent.specs.Undoing.{has-extended, ascended-undone, ascended-none}
 use Rattle.ascent.specs.Top.{levels-top, ascended-top}

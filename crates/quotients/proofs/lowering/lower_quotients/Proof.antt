@@ -6,11 +6,14 @@ use Rattle.quotients.proofs.Lowerings.{lane-length, lane-below, factors
 use Rattle.quotients.proofs.lowering.lower_quotients.Statement.{statement}
 use Rattle.quotients.proofs.lowering.lower_quotients.Tie as tie
 
-slice-aggregate-take-lane : tie.Need-slice-aggregate-take-lane
-slice-aggregate-take-lane c = search needs
+sub-store-lane : tie.Need-sub-store-lane
+sub-store-lane c = search needs
 
-take-lane-requires : tie.Need-take-lane-requires
-take-lane-requires c κs = search needs
+slice-aggregate-store-lane : tie.Need-slice-aggregate-store-lane
+slice-aggregate-store-lane c = search needs
+
+store-lane-requires : tie.Need-store-lane-requires
+store-lane-requires c κs = search needs
 
 slice-aggregate-copy : tie.Need-slice-aggregate-copy
 slice-aggregate-copy c = search needs
@@ -33,7 +36,7 @@ slice-aggregate-subtract-multiple c = search needs
 subtract-multiple-requires : tie.Need-subtract-multiple-requires
 subtract-multiple-requires c κs =
     let S = c .before .before .before .before .before .before .before .before .before .before .before .before .before .before .before in
-    let taken = c .before .before .before .before .before .before .before .before .before .take-lane .ensures in
+    let taken = c .before .before .before .before .before .before .before .before .before .store-lane .ensures in
     let l = S .args .quotients .now in
     let f = S .args .factors .now in
     let q = S .args .q in
@@ -63,15 +66,16 @@ returns c =
     quotients-lowered (S .pre .0 .0 .prime) (S .args .quotients .now) (S .args .factors .now) (S .args .output .now) _
     (S .args .place) (S .args .q) (S .pre .0 .1) (S .pre .1 .0 .0) (S .pre .1 .0 .1) (S .pre .1 .1 .0 .0) (S .pre .1 .1 .1 .0)
     (S .pre .1 .1 .1 .1) refl
-    (c .before .before .before .before .before .before .before .before .before .before .before .before .take-lane .ensures)
+    (c .before .before .before .before .before .before .before .before .before .before .before .before .store-lane .ensures)
     (c .before .before .before .before .before .before .before .before .copy .ensures) (c .before .before .subtract-multiple .ensures)
 
 pub lower-quotients-spec : {M : Type 1} → statement M
 lower-quotients-spec =
     tie.close
     (tie.spec
-    slice-aggregate-take-lane
-    take-lane-requires
+    sub-store-lane
+    slice-aggregate-store-lane
+    store-lane-requires
     slice-aggregate-copy
     copy-requires
     sub-factors

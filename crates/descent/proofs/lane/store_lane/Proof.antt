@@ -4,38 +4,38 @@ use Prim.Native.Nat.{_+_, _-_, _*_}
 use native.Mathlib.Omega.{arith}
 use lib.ListN.{getD}
 use Rattle.vector.proofs.Storing.{Storing, storing-start, storing-turn, storing-end}
-use Rattle.second.proofs.rows.store_lane.Statement.{statement}
-use Rattle.second.proofs.rows.store_lane.Tie as tie
+use Rattle.descent.proofs.lane.store_lane.Statement.{statement}
+use Rattle.descent.proofs.lane.store_lane.Tie as tie
 
 abbrev Inv-loop : tie.InvT-loop
-Inv-loop quotients lane rows₀ at e₀ rows e = Storing (λ i. getD quotients (8 * i + lane) 0) rows₀ at 128 rows e
+Inv-loop quotients lane y₀ at e₀ y e = Storing (λ i. getD quotients (8 * i + lane) 0) y₀ at 128 y e
 
 abbrev μ-loop : tie.MeasureT-loop
-μ-loop quotients lane rows₀ at e₀ rows e = 128 - e
+μ-loop quotients lane y₀ at e₀ y e = 128 - e
 
 loop-holds : tie.Need-loop-holds Inv-loop μ-loop
 loop-holds c = storing-start _ _ _ _
 
-mul-rows : tie.Need-mul-rows Inv-loop μ-loop
-mul-rows c = omega arith
+mul-y : tie.Need-mul-y Inv-loop μ-loop
+mul-y c = omega arith
 
-add-rows : tie.Need-add-rows Inv-loop μ-loop
-add-rows c = omega arith
+add-y : tie.Need-add-y Inv-loop μ-loop
+add-y c = omega arith
 
-mul-rows-2 : tie.Need-mul-rows-2 Inv-loop μ-loop
-mul-rows-2 c = omega arith
+mul-y-2 : tie.Need-mul-y-2 Inv-loop μ-loop
+mul-y-2 c = omega arith
 
-shared-slice-read-rows : tie.Need-shared-slice-read-rows Inv-loop μ-loop
-shared-slice-read-rows c = omega arith
+shared-slice-read-y : tie.Need-shared-slice-read-y Inv-loop μ-loop
+shared-slice-read-y c = omega arith
 
-add-rows-2 : tie.Need-add-rows-2 Inv-loop μ-loop
-add-rows-2 c = omega arith
+add-y-2 : tie.Need-add-y-2 Inv-loop μ-loop
+add-y-2 c = omega arith
 
-mul-rows-3 : tie.Need-mul-rows-3 Inv-loop μ-loop
-mul-rows-3 c = omega arith
+mul-y-3 : tie.Need-mul-y-3 Inv-loop μ-loop
+mul-y-3 c = omega arith
 
-slice-write-rows : tie.Need-slice-write-rows Inv-loop μ-loop
-slice-write-rows c = omega arith
+slice-write-y : tie.Need-slice-write-y Inv-loop μ-loop
+slice-write-y c = omega arith
 
 add-e : tie.Need-add-e Inv-loop μ-loop
 add-e c = omega arith
@@ -59,13 +59,13 @@ store-lane-spec =
     Inv-loop
     μ-loop
     loop-holds
-    mul-rows
-    add-rows
-    mul-rows-2
-    shared-slice-read-rows
-    add-rows-2
-    mul-rows-3
-    slice-write-rows
+    mul-y
+    add-y
+    mul-y-2
+    shared-slice-read-y
+    add-y-2
+    mul-y-3
+    slice-write-y
     add-e
     loop-less
     loop-again
