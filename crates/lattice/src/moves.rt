@@ -8,8 +8,11 @@ use vector::add_scaled;
 use vector::exchange;
 use vector::find_leading;
 ghost use mathlib.Core.Path.{_≡_};
-ghost use Prim.Native.Nat.{max};
+ghost use Prim.Native.Nat.{ℕ, _+_, _<_, _≤_, max};
+ghost use lib.ListN.{length, getD};
 ghost use Rattle.residue.specs.Modulus.{ValidModulus};
+ghost use Rattle.vector.specs.Multiple.{sumAt};
+ghost use Rattle.vector.specs.Stored.{stored};
 ghost use Rattle.lattice.specs.Memory.{level, memory, Valid};
 ghost use Rattle.lattice.specs.Moves.{Fits, HasRoom, Stepped, Swapped};
 
@@ -17,6 +20,18 @@ pub fn larger(a: usize, b: usize) -> usize
     ensures { λ r. ⌜ r ≡ max a b ⌝ }
 {
     if a < b { b } else { a }
+}
+
+// `add_scaled`, which is called only where there are words: many slots have no tail.
+pub fn add_tail(h: &mut [u64], d: usize, s: &[u64], a: usize, n: usize, c: u64)
+    requires { ⌜ (d + n ≤ length (now h)) × (a + n ≤ length (now s)) × (c < 4294967296) ⌝ }
+    requires small { ⌜ ((j : ℕ) → j < n → getD (now s) (a + j) 0 < 4294967296) ⌝ }
+    requires fits { ⌜ ((j : ℕ) → j < n → sumAt (now h) d (now s) a c j < 18446744073709551616) ⌝ }
+    ensures { λ _. ⌜ now (h .exit) ≡ stored (sumAt (now (h .entry)) d (now (s .entry)) a c) (now (h .entry)) d n ⌝ }
+{
+    if 0 < n {
+        add_scaled(h, d, s, a, n, c);
+    }
 }
 
 // Takes the multiple of the slot at the pivot off the hand, block and tail, that takes its leading word away.
@@ -51,7 +66,7 @@ pub fn take_from_hand(
     let minus = modulus.p - left.factor;
     // all words of its degrees, as in `take_multiple`
     let words = (size + 7) / 8 * 8;
-    add_scaled(tail, shift, slots, 256 * q + 128, words, minus);
+    add_tail(tail, shift, slots, 256 * q + 128, words, minus);
     Hand {
         size: rest.size,
         leading: rest.value,

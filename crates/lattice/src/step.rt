@@ -2,7 +2,7 @@
 use residue::modulus::Modulus;
 use vector::Leading;
 use vector::add_scaled;
-use vector::find_leading;
+use vector::find_leading_near;
 ghost use mathlib.Core.Path.{_≡_};
 ghost use Prim.Native.Nat.{_+_, _-_, _*_, _%_, _<_, _≤_};
 ghost use lib.ListN.{length};
@@ -101,5 +101,5 @@ pub fn find_rest(block: &[u64], n: usize, value: u64, unseen: usize, modulus: Mo
     if value != 0 {
         return Leading { size: n, value };
     }
-    find_leading(block, unseen, modulus)
+    find_leading_near(block, unseen, modulus)
 }

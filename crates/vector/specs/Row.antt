@@ -15,7 +15,7 @@ or-zero x y e = (omega (arith, or-add-and x y, and-le-r x y), omega (arith, or-a
 
 module _ (p : ℕ) (l : List ℕ) where
   -- the last word of k, at i, is 0, or the last n + 1 words, from a on, are
-  pub reduced-take-word : (k i : ℕ) → k ≡ i + 1 → k ≤ length l → getD l i 0 ≡ 0 → reduced p (take k l) ≡ reduced p (take i l)
+  reduced-take-word : (k i : ℕ) → k ≡ i + 1 → k ≤ length l → getD l i 0 ≡ 0 → reduced p (take k l) ≡ reduced p (take i l)
   reduced-take-word k i next inside z = reduced-take-zero p l k i next inside (residue-same p z ∙ zero-mod p)
 
   reduced-take-or : (k a n : ℕ) → k ≡ a + n + 1 → k ≤ length l → orTo l a n ≡ 0 → reduced p (take k l) ≡ reduced p (take a l)

@@ -17,7 +17,7 @@ pub struct Leading {
 }
 
 // Size and leading coefficient of the polynomial that h[0] .. h[n - 1] stand for modulo p. Words that are 0, of which there may be
-// many at the end, are passed over in rows of eight; those that are left take no reduction.
+// many at the end, are passed over in rows of eight.
 pub fn find_leading(h: &[u64], n: usize, modulus: Modulus) -> Leading
     requires { ⌜ ValidModulus modulus × (n ≤ length (now h)) ⌝ }
     requires sums { ⌜ Reducible (modulus .p) (now h) n ⌝ }
@@ -25,17 +25,27 @@ pub fn find_leading(h: &[u64], n: usize, modulus: Modulus) -> Leading
     ensures value { λ r. ⌜ r .value ≡ leading (modulo (modulus .p)) (polynomial (modulus .p) (now (h .entry)) 0 n) ⌝ }
 {
     let mut k = n;
-    // the last word first: where it is not 0, as behind a step, the row need not be read, which was just written
+    // the last word first: where it is not 0, the row need not be read
     while 8 <= k && h[k - 1] == 0 && or_of_row(h, k - 8) == 0 {
         k -= 8;
     }
+    find_leading_near(h, k, modulus)
+}
+
+// The same, word by word: for a leading coefficient that is expected near the end. A word that is 0 is reduced like any other, since
+// the processor cannot foresee which are.
+pub fn find_leading_near(h: &[u64], n: usize, modulus: Modulus) -> Leading
+    requires { ⌜ ValidModulus modulus × (n ≤ length (now h)) ⌝ }
+    requires sums { ⌜ Reducible (modulus .p) (now h) n ⌝ }
+    ensures size { λ r. ⌜ r .size ≡ length (polynomial (modulus .p) (now (h .entry)) 0 n) ⌝ }
+    ensures value { λ r. ⌜ r .value ≡ leading (modulo (modulus .p)) (polynomial (modulus .p) (now (h .entry)) 0 n) ⌝ }
+{
+    let mut k = n;
     while 0 < k {
         let i = k - 1;
-        if h[i] != 0 {
-            let value = modulus.reduce(h[i]);
-            if value != 0 {
-                return Leading { size: k, value };
-            }
+        let value = modulus.reduce(h[i]);
+        if value != 0 {
+            return Leading { size: k, value };
         }
         k = i;
     }

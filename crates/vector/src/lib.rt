@@ -6,6 +6,7 @@ pub mod range;
 
 pub use leading::Leading;
 pub use leading::find_leading;
+pub use leading::find_leading_near;
 pub use multiple::add_scaled;
 pub use range::clear;
 pub use range::copy;

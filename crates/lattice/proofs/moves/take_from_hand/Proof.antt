@@ -70,14 +70,14 @@ mul-words c =
     let S = c .before .before .before .before .before .before .before .before .before .before .before .before .before .before .before in
     Rows.tail-words (S .pre .1 .0 .level) (S .args .hand .size)
 
-mul-add-scaled : tie.Need-mul-add-scaled
-mul-add-scaled c = Rows.block-start _
+mul-add-tail : tie.Need-mul-add-tail
+mul-add-tail c = Rows.block-start _
 
-add-add-scaled : tie.Need-add-add-scaled
-add-add-scaled c = Rows.tail-start _
+add-add-tail : tie.Need-add-add-tail
+add-add-tail c = Rows.tail-start _
 
-add-scaled-requires : tie.Need-add-scaled-requires
-add-scaled-requires c κs =
+add-tail-requires : tie.Need-add-tail-requires
+add-tail-requires c κs =
     let F = c .before .before .before in
     let A = F .before .before .before .before in
     let S = A .before .before .before .before .before .before .before .before .before in
@@ -114,7 +114,7 @@ same-length : tie.Need-same-length
 same-length c = c .before .before .before .before .before .before .before .before .before .before .before .take-multiple .kept .1 .1 .1 .0
 
 same-length-2 : tie.Need-same-length-2
-same-length-2 c = c .before .before .before .add-scaled .kept .0
+same-length-2 c = c .before .before .before .add-tail .kept .0
 
 returns : tie.Need-returns
 returns c =
@@ -124,7 +124,7 @@ returns c =
     let S = A .before .before .before .before .before .before .before .before .before in
     Taking.taking-stepped (S .pre .0 .prime) (S .pre .1 .0) (S .pre .1 .1)
     (takes-left (S .pre .1 .1 .some) (A .take-multiple .ensures) (F .find-rest .ensures))
-    _ refl _ (B .add-scaled .ensures .0) _ (c .larger .ensures)
+    _ refl _ (B .add-tail .ensures) _ (c .larger .ensures)
 
 pub take-from-hand-spec : {M : Type 1} → statement M
 take-from-hand-spec =
@@ -143,9 +143,9 @@ take-from-hand-spec =
     sub-minus
     add-words
     mul-words
-    mul-add-scaled
-    add-add-scaled
-    add-scaled-requires
+    mul-add-tail
+    add-add-tail
+    add-tail-requires
     add-larger
     larger-requires
     same-length

@@ -1,4 +1,4 @@
--- The word that is known, or those that `find_leading` finds.
+-- The word that is known, or those that `find_leading_near` finds.
 use Prim.Native.Nat.{_<_}
 use native.Mathlib.Nat.{le-trans}
 use native.Mathlib.Omega.{arith}
@@ -13,8 +13,8 @@ returns c =
     let S = c .before .before in
     early-left (S .pre .1) (omega arith)
 
-find-leading-requires : tie.Need-find-leading-requires
-find-leading-requires c κs =
+find-leading-near-requires : tie.Need-find-leading-near-requires
+find-leading-near-requires c κs =
     let S = c .before .before in
     let R = S .pre .1 in
     ((S .pre .0, omega (arith, R .fewer, R .room)), λ j lt. R .reducible j)
@@ -25,7 +25,7 @@ returns-2 c =
     let m : ValidModulus (S .args .modulus) = S .pre .0 in
     let positive : 0 < S .args .modulus .p = omega (arith, m .prime .large) in
     let R = S .pre .1 in
-    let found = c .find-leading .ensures in
+    let found = c .find-leading-near .ensures in
     let within = le-trans (R .fewer) (R .within) in
     let behind = R .late (omega arith) in record {
       ends = found-ends _ positive _ 1088 _ within behind _ (found .0);
@@ -34,4 +34,4 @@ returns-2 c =
     }
 
 pub find-rest-spec : {M : Type 1} → statement M
-find-rest-spec = tie.close (tie.spec returns find-leading-requires returns-2)
+find-rest-spec = tie.close (tie.spec returns find-leading-near-requires returns-2)
