@@ -1,7 +1,8 @@
-// How much stack the check and the solver use against their rivals, over all systems of a folder: stack FOLDER. A call runs in a thread
+// How much stack solver, check and report use against their rivals, over all systems of a folder: stack FOLDER. A call runs in a thread
 // whose stack is filled with a pattern; what is no longer the pattern was used. Ours and C's take no other memory.
 #include <dirent.h>
 #include <pthread.h>
+#include <stdbool.h>
 #include <stdio.h>
 #include <stdlib.h>
 #include <string.h>
@@ -14,15 +15,19 @@ check_function check_O2;
 solve_function solve_O3, solve_shared;
 
 enum { OURS, C, SHARED, CONTESTANTS };
+enum { SOLVE, CHECK, REPORT, CALLS };
+
+static const char *const names[CALLS] = {"solve", "check", "report"};
 
 static solve_function *const solvers[CONTESTANTS] = {solve_ours, solve_O3, solve_shared};
 static check_function *const checks[CONTESTANTS] = {yezsdolak_check, check_O2, NULL};
 
 struct call {
-    solve_function *solve; // or, where it is missing, the check
+    solve_function *solve; // or, where it is missing, the check, or, where that is missing too, the report if it is wanted
     check_function *check;
+    bool report;
     size_t system_bytes, certificate_bytes;
-    uint8_t system[4 * LONGEST_SYSTEM], certificate[4 * LONGEST_CERTIFICATE];
+    uint8_t system[4 * LONGEST_SYSTEM], certificate[4 * LONGEST_CERTIFICATE], text[1024];
 };
 
 static void *run(void *argument)
@@ -32,6 +37,8 @@ static void *run(void *argument)
         c->certificate_bytes = 4 * (size_t)(c->solve(c->system, c->system_bytes, c->certificate, sizeof c->certificate) / 64);
     else if (c->check != NULL)
         c->check(c->system, c->system_bytes, c->certificate, c->certificate_bytes);
+    else if (c->report)
+        yezsdolak_report(c->system, c->system_bytes, c->text, sizeof c->text);
     return NULL;
 }
 
@@ -65,18 +72,24 @@ static size_t used_by(struct call *c, uint8_t *space)
     return all > idle ? all - idle : 0;
 }
 
-static void measure(struct call *c, uint8_t *space, size_t most[2][CONTESTANTS])
+static void raise_to(size_t *most, size_t used)
 {
+    *most = used > *most ? used : *most;
+}
+
+static void measure(struct call *c, uint8_t *space, size_t most[CALLS][CONTESTANTS])
+{
+    c->report = false;
     for (int k = CONTESTANTS; k-- > 0;) { // ours comes last: its certificate is what is checked
         c->solve = solvers[k], c->check = NULL;
-        size_t used = solvers[k] != NULL ? used_by(c, space) : 0;
-        most[0][k] = used > most[0][k] ? used : most[0][k];
+        raise_to(&most[SOLVE][k], solvers[k] != NULL ? used_by(c, space) : 0);
     }
     for (int k = 0; k < CONTESTANTS; k++) {
         c->solve = NULL, c->check = checks[k];
-        size_t used = checks[k] != NULL ? used_by(c, space) : 0;
-        most[1][k] = used > most[1][k] ? used : most[1][k];
+        raise_to(&most[CHECK][k], checks[k] != NULL ? used_by(c, space) : 0);
     }
+    c->check = NULL, c->report = true;
+    raise_to(&most[REPORT][OURS], used_by(c, space));
 }
 
 static void print_row(const char *name, const size_t most[CONTESTANTS])
@@ -87,13 +100,16 @@ static void print_row(const char *name, const size_t most[CONTESTANTS])
             printf("%10zu", (most[k] + KIB - 1) / KIB);
         else
             printf("%10s", "-");
-    printf("%11.2f\n", (double)most[OURS] / (double)most[C]);
+    if (most[C] > 0)
+        printf("%11.2f\n", (double)most[OURS] / (double)most[C]);
+    else
+        printf("%11s\n", "-");
 }
 
 int main(int count, char **words)
 {
     static struct call c;
-    size_t most[2][CONTESTANTS] = {{0}};
+    size_t most[CALLS][CONTESTANTS] = {{0}};
     uint8_t *space = mmap(NULL, SPACE, PROT_READ | PROT_WRITE, MAP_PRIVATE | MAP_ANONYMOUS, -1, 0);
     DIR *folder = count == 2 ? opendir(words[1]) : NULL;
     if (folder == NULL || space == MAP_FAILED)
@@ -112,7 +128,10 @@ int main(int count, char **words)
     }
     closedir(folder);
     printf("\nThe stack of a call, KiB\n\n%-10s%10s%10s%10s%11s\n", "call", "ours", "C", "shared", "ours/C");
-    print_row("solve", most[0]);
-    print_row("check", most[1]);
-    return most[0][OURS] <= (size_t)LIMIT * KIB && most[1][OURS] <= (size_t)LIMIT * KIB ? 0 : 1;
+    bool within = true;
+    for (int call = 0; call < CALLS; call++) {
+        print_row(names[call], most[call]);
+        within = within && most[call][OURS] <= (size_t)LIMIT * KIB;
+    }
+    return within ? 0 : 1;
 }

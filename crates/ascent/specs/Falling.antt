@@ -30,9 +30,8 @@ use Rattle.ascent.specs.Rising.{K, rising, rising-next, rising-kernel}
 pub record Fallen (p : ℕ) (L L′ : Level) (n : ℕ) (kernel input : List ℕ) (at : ℕ) (quotients output : List ℕ) (place : ℕ)
     (quotients′ output′ : List ℕ) : Type 0 where
   pub rest : List ℕ
-  pub size : ℕ
   pub cleared : List ℕ
-  pub turned : Turned p L′ n kernel 0 input at quotients output place rest cleared output′ size
+  pub turned : Turned p L′ n kernel 0 input at quotients output place rest cleared output′
   pub emptied : List ℕ
   pub left : ℕ
   pub divided : Divided p L rest emptied quotients′ left

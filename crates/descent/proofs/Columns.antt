@@ -1,7 +1,7 @@
 -- `take_column`: what is stored, and what is left of the block.
 use Prim.Native.Nat.{ℕ, zero, _+_, _-_, _*_, _%_, _<_, _≤_}
 use mathlib.Core.Path.{_≡_, refl, sym, _∙_, ap, ap₂, subst}
-use mathlib.Core.Logic.{_⊎_, inl, inr, ⊎-elim}
+use mathlib.Core.Logic.{_⊎_}
 use mathlib.Core.List.{List, [], _∷_}
 use native.Mathlib.Nat.{mod-lt, mod-eq-of-lt, zero-add, mul-le-mul-right}
 use native.Mathlib.Omega.{arith}
@@ -18,7 +18,7 @@ use Rattle.modular.specs.Modulo.{modulo}
 use Rattle.modular.specs.Residue.{residues}
 use Rattle.residue.specs.Below.{neg-below}
 use Rattle.vector.specs.Reduced.{polynomial}
-use Rattle.vector.specs.Stored.{stored, length-stored, stored-inside, stored-outside, below-or-not}
+use Rattle.vector.specs.Stored.{stored, length-stored, stored-inside, stored-all}
 use Rattle.reduction.specs.Holds.{Holds, read, read-at, read-beyond}
 use Rattle.reduction.specs.Flat.{Flat, flat}
 use Rattle.lattice.specs.Memory.{ZeroFrom, Ends}
@@ -26,10 +26,10 @@ use Rattle.lattice.specs.Word.{residue, residue-minus, residue-zero}
 use Rattle.lattice.specs.Word.{zero-residue, words, words-inside, words-behind, words-first}
 use Rattle.lattice.specs.Range.{words-zero}
 use Rattle.lattice.specs.Found.{found-ends}
-use Rattle.descent.specs.Read.{read-zeros}
-use Rattle.descent.specs.Product.{strided, less, TakesProduct}
+use Rattle.lanes.specs.Read.{read-zeros}
+use Rattle.lanes.specs.Product.{strided, less, TakesProduct}
 use Rattle.descent.specs.Column.{TakesColumn}
-use Rattle.descent.proofs.Lanes.{none-held}
+use Rattle.lanes.specs.Held.{none-held}
 
 module _ {p : ℕ} (prime₀ : Prime p) where
   positive : 0 < p
@@ -57,27 +57,14 @@ module _ {p : ℕ} (prime₀ : Prime p) where
     stored-length = ap length stores ∙ length-stored _ h a n
 
     pub stored-below : ((i : ℕ) → (i < a) ⊎ (a + n ≤ i) → getD h i 0 < p) → (i : ℕ) → getD h′ i 0 < p
-    stored-below below i =
-        ⊎-elim
-        (λ lo. kept (inl lo))
-        (λ ge. ⊎-elim
-        (λ hi.
-        let place : a + (i - a) ≡ i = omega arith in
-        subst (λ x. x < p) (sym (ap (λ z. getD h′ z 0) (sym place) ∙ stored-word (i - a) (omega arith)))
-        (neg-below p (prime₀ .large) (getD y (i - a) 0 % p)))
-        (λ hi. kept (inr hi))
-        (below-or-not i (a + n)))
-        (below-or-not i a)
-      where
-        kept : (i < a) ⊎ (a + n ≤ i) → getD h′ i 0 < p
-        kept out = subst (λ x. x < p) (sym (ap (λ l. getD l i 0) stores ∙ stored-outside _ h a n i out)) (below i out)
+    stored-below = stored-all (λ i w. w < p) _ h h′ a n stores room (λ j lt. neg-below p (prime₀ .large) (getD y j 0 % p))
 
   module _ (h h′ : List ℕ) (a : ℕ) (y : List ℕ) (stores : h′ ≡ stored (λ j. modulo p .neg (getD y j 0 % p)) h a 128)
       (room : a + 128 ≤ length h) where
     coordinate-word : (j : ℕ) → j < 128 → getD h′ (a + j) 0 ≡ modulo p .neg (getD y j 0 % p)
     coordinate-word = stored-word h h′ a y 128 stores room
 
-    pub stored-ends : (size : ℕ) → size ≡ length (polynomial p y 0 128) → Ends p h′ a 128 size
+    stored-ends : (size : ℕ) → size ≡ length (polynomial p y 0 128) → Ends p h′ a 128 size
     stored-ends size found =
         let E = found-ends p positive y 128 128 (omega arith) (λ j ge lt. absurd (omega arith)) size found in record {
           within = E .within;
@@ -192,14 +179,13 @@ module _ {p : ℕ} {t h : List ℕ} {a : ℕ} {columns : List ℕ} {at : ℕ} {t
 pub column-taken : {p : ℕ} → Prime p → (t h : List ℕ) (a : ℕ) (y columns : List ℕ) (at : ℕ) (t′ h′ : List ℕ) (size terms : ℕ)
     → length t ≡ 1088 → a + 128 ≤ length h → h′ ≡ stored (λ j. modulo p .neg (getD y j 0 % p)) h a 128
     → size ≡ length (polynomial p y 0 128) → terms ≡ size - (size - 121) → TakesProduct p 8 t h′ a 1 terms columns at 128 t′
-    → TakesColumn p t h a y columns at t′ h′ size
+    → TakesColumn p t h a y columns at t′ h′
 column-taken {p} prime₀ t h a y columns at t′ h′ size terms length-is room stores found few T = record {
   same-length = T .same-length;
   bound = λ b small i.
       let most : terms ≤ 121 = omega arith in
       omega (arith, T .bound b small i, mul-le-mul-right (p * p) most);
   stores = stores;
-  ends = stored-ends prime₀ h h′ a y stores room size found;
   holds = λ zero prime n ω v u x A B C. record {
     coordinate = coordinate-held prime₀ h h′ a y stores room zero prime x C;
     rest = block-after T (omega arith) (omega arith) prime n ω v u x

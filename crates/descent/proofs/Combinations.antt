@@ -22,7 +22,7 @@ use Rattle.reduction.specs.Flat.{flat}
 use Rattle.lattice.specs.Memory.{ZeroFrom}
 use Rattle.lattice.specs.Word.{words}
 use Rattle.lattice.specs.Coefficients.{HoldsCoefficients}
-use Rattle.descent.specs.Product.{less, TakesProduct}
+use Rattle.lanes.specs.Product.{less, TakesProduct}
 use Rattle.descent.specs.Combination.{lessAll, factor, TakesCombination}
 use Rattle.lattice.specs.Range.{words-shorter}
 use Rattle.lattice.specs.Reading.{holds-same}

@@ -29,7 +29,8 @@ use Rattle.lattice.specs.Coefficients.{HoldsCoefficients}
 use Rattle.descent.specs.Degrees.{FewDegrees}
 use Rattle.descent.specs.Combination.{TakesCombination}
 use Rattle.descent.specs.Blocks.{mostTerms, blockTerms, CombinesBlocks}
-use Rattle.descent.proofs.Lanes.{quotient-size, none-held, zeros-held}
+use Rattle.lanes.specs.Held.{none-held, zeros-held}
+use Rattle.descent.proofs.Lanes.{quotient-size}
 use Rattle.descent.proofs.Negating.{factor-negated, cleared-all}
 use Rattle.descent.proofs.Combinations.{more-filled}
 

@@ -24,9 +24,9 @@ use Rattle.lattice.specs.Word.{residue, residue-mod, residue-mul, residue-inver
 use Rattle.lattice.specs.Word.{words, words-first, words-inside}
 use Rattle.lattice.specs.Range.{words-upper, words-lower, zero-word}
 use Rattle.residue.specs.Sum.{SmallSum, sum-fits}
-use Rattle.descent.specs.Product.{less}
+use Rattle.lanes.specs.Product.{less}
 use Rattle.descent.specs.Kernel.{ValidKernel, Lessened, TakesKernel}
-use Rattle.descent.proofs.Products.{product-most}
+use Rattle.lanes.proofs.Products.{product-most}
 
 pub record Reducing (p : ℕ) (y₀ kernel : List ℕ) (at k : ℕ) (y : List ℕ) : Type 0 where
   pub most : k ≤ 256

@@ -1,4 +1,4 @@
--- What a range of words holds, read as one lane, as a shorter range, or with strides.
+-- What a lane of the quotients holds: how much it has room for, and what is read of it with strides.
 use Prim.Native.Nat.{ℕ, _+_, _-_, _*_, _%_, _<_, _≤_}
 use mathlib.Core.Path.{_≡_, sym, _∙_, ap}
 use mathlib.Core.List.{List}
@@ -17,12 +17,8 @@ use Rattle.lattice.specs.Word.{residue, words, words-first}
 use Rattle.lattice.specs.Range.{words-zero}
 use Rattle.lattice.specs.Quotients.{HoldsQuotient}
 use Rattle.descent.specs.Degrees.{FewDegrees}
-use Rattle.descent.specs.Product.{strided}
+use Rattle.lanes.specs.Product.{strided}
 use Rattle.descent.specs.Combination.{factor}
-
--- one lane is the whole range
-pub one-lane : (e : ℕ) → flat 1 0 e ≡ e
-one-lane e = omega arith
 
 module _ (p : ℕ) (prime : Prime p) where
   -- the lane of row q: how much it has room for, and what `strided` reads of it
@@ -44,18 +40,3 @@ module _ (p : ℕ) (prime : Prime p) where
         go e (no h) =
             read-beyond (residues p prime) k (strided p prime l (7 - q) 8) e (omega arith)
             ∙ sym (coefficients-beyond (residues p prime) x e (omega arith))
-
-  pub none-held : {H : ℕ → Residue p} → ((e : ℕ) → H e ≡ residues p prime .ring .zero) → Holds (residues p prime) H
-      (polynomials (residues p prime) .zero)
-  none-held z = record { at = λ e. coefficients-zero (residues p prime) e ∙ sym (z e) }
-
-  -- words that are all 0 hold zero
-  pub zeros-held : (l : List ℕ) → AtMost 0 l → (N : ℕ) (f : ℕ → ℕ)
-      → Holds (residues p prime) (λ e. words p prime l 0 N (f e)) (polynomials (residues p prime) .zero)
-  zeros-held l none N f = none-held (λ e. words-zero p prime l 0 N 0 (λ j ge lt. zero-word j) (f e) (omega arith))
-    where
-      nothing : (j : ℕ) → getD l (0 + j) 0 ≡ 0
-      nothing j = omega (arith, none (0 + j))
-
-      zero-word : (j : ℕ) → getD l (0 + j) 0 % p ≡ 0
-      zero-word j = ap (λ w. w % p) (nothing j) ∙ zero-mod p

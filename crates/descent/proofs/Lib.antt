@@ -1,5 +1,4 @@
 pub mod Lanes
-pub mod Products
 pub mod Negating
 pub mod Combinations
 pub mod Terms

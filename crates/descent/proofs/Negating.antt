@@ -13,12 +13,12 @@ use Rattle.modular.specs.Residue.{residues}
 use Rattle.residue.specs.Below.{neg-below}
 use Rattle.vector.specs.Bound.{AtMost}
 use Rattle.vector.specs.Reduced.{polynomial}
-use Rattle.vector.specs.Stored.{stored, length-stored, stored-inside, stored-outside, below-or-not}
+use Rattle.vector.specs.Stored.{stored, length-stored, stored-inside, stored-outside, below-or-not, stored-all-first}
 use Rattle.lattice.specs.Memory.{Ends}
 use Rattle.lattice.specs.Word.{residue, residue-minus}
 use Rattle.lattice.specs.Found.{found-ends}
-use Rattle.descent.specs.Read.{read-neg}
-use Rattle.descent.specs.Product.{strided}
+use Rattle.lanes.specs.Read.{read-neg}
+use Rattle.lanes.specs.Product.{strided}
 use Rattle.descent.specs.Combination.{factor}
 use Rattle.descent.specs.Degrees.{FewDegrees}
 
@@ -58,11 +58,8 @@ module _ {p : ℕ} {l : List ℕ} {k : ℕ} (D : FewDegrees p l k) (length-is : 
     negated-length = ap length stores ∙ length-stored _ l 0 (8 * k) ∙ length-is
 
     pub negated-below : Prime p → (i : ℕ) → getD m i 0 < p
-    negated-below prime i =
-        ⊎-elim
-        (λ lt. subst (λ x. x < p) (sym (word-negated i lt)) (neg-below p (prime .large) (getD l i 0)))
-        (λ ge. subst (λ x. x < p) (sym (word-kept i ge)) (below i))
-        (below-or-not i (8 * k))
+    negated-below prime = stored-all-first (λ i w. w < p) _ l m (8 * k) stores (omega (arith, D .most))
+        (λ j lt. neg-below p (prime .large) (getD l j 0)) (λ i ge. below i)
 
     pub factor-negated : (prime : Prime p) (q n : ℕ) → q < 8 → n ≤ k
         → factor p prime m n q ≡ polynomials (residues p prime) .neg (factor p prime l n q)
@@ -73,16 +70,5 @@ module _ {p : ℕ} {l : List ℕ} {k : ℕ} (D : FewDegrees p l k) (length-is : 
         ∙ residue-minus p prime (getD l (7 - q + j * 8) 0))
 
     pub cleared-all : {m′ : List ℕ} → m′ ≡ stored (λ j. 0) m 0 (8 * k) → AtMost 0 m′
-    cleared-all {m′} clears i =
-        ⊎-elim
-        (λ lt. omega (
-          arith,
-          ap (λ z. getD m′ z 0) (sym (zero-add i))
-              ∙ ap (λ x. getD x (0 + i) 0) clears
-              ∙ stored-inside (λ j. 0) m 0 (8 * k) i (omega (arith, negated-length, D .most)) lt,
-        ))
-        (λ ge. omega (
-          arith,
-          ap (λ x. getD x i 0) clears ∙ stored-outside (λ j. 0) m 0 (8 * k) i (inr (omega arith)) ∙ word-kept i ge ∙ word-none i ge,
-        ))
-        (below-or-not i (8 * k))
+    cleared-all clears = stored-all-first (λ i w. w ≤ 0) (λ j. 0) m _ (8 * k) clears (omega (arith, negated-length, D .most))
+        (λ j lt. omega arith) (λ i ge. omega (arith, word-kept i ge, word-none i ge))

@@ -19,7 +19,7 @@ use Rattle.reduction.specs.Flat.{Flat}
 use Rattle.lattice.specs.Memory.{Level, ZeroFrom}
 use Rattle.lattice.specs.Word.{words}
 use Rattle.lattice.specs.Range.{words-zero, zero-word}
-use Rattle.descent.specs.Product.{less}
+use Rattle.lanes.specs.Product.{less}
 use Rattle.descent.specs.Kernel.{ValidKernel}
 use Rattle.descent.specs.Coordinate.{Coordinate, FindsCoordinate}
 use Rattle.descent.specs.Blocks.{CombinesBlocks}
@@ -29,9 +29,9 @@ use Rattle.descent.proofs.Columns.{stored-length, stored-below}
 
 module _ {p : ℕ} (L : Level) {n : ℕ} {kernels : List ℕ} {kernel size₀ : ℕ} {columns : List ℕ} {at : ℕ}
     {quotients cleared coordinates : List ℕ} {place : ℕ} {t : List ℕ}
-    {t′ coordinates′ : List ℕ} {found : ℕ} {y : List ℕ} (valid : ValidKernel p kernels kernel size₀)
+    {t′ coordinates′ : List ℕ} {y : List ℕ} (valid : ValidKernel p kernels kernel size₀)
     (X : FindsCoordinate p L n kernels kernel size₀ quotients y) (Z : CombinesBlocks p L n quotients cleared t)
-    (Y : TakesColumn p t coordinates place y columns at t′ coordinates′ found) where
+    (Y : TakesColumn p t coordinates place y columns at t′ coordinates′) where
   module _ (prime : Prime p) (A : HoldsDescent p prime L kernels kernel columns at quotients) (rows : A .system .rows ≡ n) where
     C : Coordinate p prime (A .system .rows) (A .level (suc (A .column))) (A .vector) (A .kernel (A .column)) y
     C = subst (λ m. FindsCoordinate p L m kernels kernel size₀ quotients y) (sym rows) X .finds prime unweighted
@@ -124,7 +124,7 @@ module _ {p : ℕ} (L : Level) {n : ℕ} {kernels : List ℕ} {kernel size₀ : 
     }
 
   pub turn-made : Prime p → place + 128 ≤ length coordinates → ((i : ℕ) → getD coordinates i 0 < p)
-      → Turned p L n kernels kernel columns at quotients coordinates place t′ cleared coordinates′ found
+      → Turned p L n kernels kernel columns at quotients coordinates place t′ cleared coordinates′
   turn-made prime₀ room below = record {
     same-length = Y .same-length ∙ Z .length-is;
     sums = λ i. omega (arith, Y .bound (1088 * (p * p)) (Z .bound) i);
@@ -132,6 +132,5 @@ module _ {p : ℕ} (L : Level) {n : ℕ} {kernels : List ℕ} {kernel size₀ : 
     same-coordinates = stored-length prime₀ coordinates coordinates′ place y 128 (Y .stores) room;
     coordinates-below = stored-below prime₀ coordinates coordinates′ place y 128 (Y .stores) room (λ i out. below i);
     others = λ i out. ap (λ l. getD l i 0) (Y .stores) ∙ stored-outside _ coordinates place 128 i out;
-    ends = Y .ends;
     holds = turned;
   }

@@ -11,9 +11,9 @@ use Rattle.vector.specs.Bound.{AtMost}
 use Rattle.vector.specs.Stored.{stored}
 use Rattle.reduction.specs.Holds.{Holds}
 use Rattle.reduction.specs.Flat.{Flat}
-use Rattle.lattice.specs.Memory.{ZeroFrom, Ends}
+use Rattle.lattice.specs.Memory.{ZeroFrom}
 use Rattle.lattice.specs.Word.{words}
-use Rattle.descent.specs.Product.{less}
+use Rattle.lanes.specs.Product.{less}
 
 module _ (p : ℕ) (prime : Prime p) (n : ℕ) (ω : ℕ → ℕ) where
   -- the coordinate x is stored in h from a on, and v - x·u is in t
@@ -24,11 +24,10 @@ module _ (p : ℕ) (prime : Prime p) (n : ℕ) (ω : ℕ → ℕ) where
     pub rest : Flat (residues p prime) n 8 ω (words p prime t 0 1088) (λ i. less p prime (v i) x (u i))
 
 -- What it holds is said for a coordinate of at most 121 coefficients, whose negative is in y.
-pub record TakesColumn (p : ℕ) (t h : List ℕ) (a : ℕ) (y columns : List ℕ) (at : ℕ) (t′ h′ : List ℕ) (size : ℕ) : Type 0 where
+pub record TakesColumn (p : ℕ) (t h : List ℕ) (a : ℕ) (y columns : List ℕ) (at : ℕ) (t′ h′ : List ℕ) : Type 0 where
   pub same-length : length t′ ≡ length t
   pub bound : (b : ℕ) → AtMost b t → AtMost (b + 121 * (p * p)) t′
   pub stores : h′ ≡ stored (λ j. modulo p .neg (getD y j 0 % p)) h a 128
-  pub ends : Ends p h′ a 128 size
   pub holds : ZeroFrom p y 0 256 121 → (prime : Prime p) (n : ℕ) (ω : ℕ → ℕ) (v u : ℕ → Polynomial (residues p prime))
       (x : Polynomial (residues p prime)) → Flat (residues p prime) n 8 ω (words p prime t 0 1088) v
       → Flat (residues p prime) n 8 ω (words p prime columns at 128) u

@@ -11,7 +11,7 @@ use Rattle.vector.specs.Bound.{AtMost}
 use Rattle.reduction.specs.Holds.{Holds, read}
 use Rattle.reduction.specs.Flat.{flat}
 use Rattle.lattice.specs.Word.{words}
-use Rattle.descent.specs.Product.{strided}
+use Rattle.lanes.specs.Product.{strided}
 
 -- x less the sum of the products of c and u
 abbrev pub lessAll : (p : ℕ) (prime : Prime p) → ℕ → Polynomial (residues p prime) → (ℕ → Polynomial (residues p prime))

@@ -14,7 +14,7 @@ use Rattle.lattice.specs.Memory.{Level, ZeroFrom}
 use Rattle.lattice.specs.Word.{words}
 use Rattle.lattice.specs.Holding.{HoldsSlots}
 use Rattle.lattice.specs.Coefficients.{HoldsCoefficients}
-use Rattle.descent.specs.Product.{less}
+use Rattle.lanes.specs.Product.{less}
 
 -- v, with a tail, in the span of the slots U; u is the kernel
 pub record Coordinate (p : ℕ) (prime : Prime p) (n : ℕ) (U : Slots (Polynomial (residues p prime)))

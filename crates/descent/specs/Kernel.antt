@@ -10,7 +10,7 @@ use Rattle.vector.specs.Bound.{AtMost}
 use Rattle.reduction.specs.Holds.{Holds}
 use Rattle.lattice.specs.Memory.{ZeroFrom, Ends}
 use Rattle.lattice.specs.Word.{words}
-use Rattle.descent.specs.Product.{less}
+use Rattle.lanes.specs.Product.{less}
 
 -- the kernel in 128 words from `at` on, of which `size` count
 pub record ValidKernel (p : ℕ) (kernel : List ℕ) (at size : ℕ) : Type 0 where

@@ -1,6 +1,3 @@
--- a product taken off words in lanes
-pub mod Read
-pub mod Product
 -- how far the quotients go
 pub mod Degrees
 -- the coordinate of a column: tails combined, reduced modulo the kernel

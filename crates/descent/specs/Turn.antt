@@ -18,7 +18,7 @@ use Rattle.reduction.specs.Descent.{Descent, Turn}
 use Rattle.reduction.specs.Holds.{Holds}
 use Rattle.reduction.specs.Flat.{Flat}
 use Rattle.lattice.specs.Memory as memory
-use Rattle.lattice.specs.Memory.{Ends, Sums}
+use Rattle.lattice.specs.Memory.{Sums}
 use Rattle.lattice.specs.Holding.{HoldsSlots}
 use Rattle.lattice.specs.Coefficients.{HoldsCoefficients}
 use Rattle.lattice.specs.Word.{words}
@@ -61,13 +61,12 @@ module _ (p : ℕ) (prime : Prime p) where
 -- The vector is left in sums not reduced, and the quotients all 0: as `divide` takes them.
 pub record Turned (p : ℕ) (L : memory.Level) (n : ℕ) (kernels : List ℕ) (kernel : ℕ) (columns : List ℕ) (at : ℕ)
     (quotients coordinates : List ℕ)
-    (place : ℕ) (t′ quotients′ coordinates′ : List ℕ) (size : ℕ) : Type 0 where
+    (place : ℕ) (t′ quotients′ coordinates′ : List ℕ) : Type 0 where
   pub same-length : length t′ ≡ 1088
   pub sums : Sums p 2112 t′
   pub cleared : AtMost 0 quotients′
   pub same-coordinates : length coordinates′ ≡ length coordinates
   pub coordinates-below : (i : ℕ) → getD coordinates′ i 0 < p
   pub others : (i : ℕ) → (i < place) ⊎ (place + 128 ≤ i) → getD coordinates′ i 0 ≡ getD coordinates i 0
-  pub ends : Ends p coordinates′ place 128 size
   pub holds : (prime : Prime p) (A : HoldsDescent p prime L kernels kernel columns at quotients) → A .system .rows ≡ n
       → HoldsTurn p prime A coordinates′ place t′

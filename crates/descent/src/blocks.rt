@@ -1,7 +1,7 @@
 // A vector of a level, made anew from its coefficients: the sum of quotient times block.
-use crate::coordinate::lesser;
-use crate::product::subtract_product;
-use crate::quotients::negate;
+use lanes::lesser::lesser;
+use lanes::negated::negate;
+use lanes::product::subtract_product;
 use residue::modulus::Modulus;
 use vector::clear;
 ghost use mathlib.Core.Path.{_≡_};

@@ -1,5 +1,5 @@
 // The combination of the tails of a level, with the quotients for coefficients.
-use crate::product::subtract_product;
+use lanes::product::subtract_product;
 use residue::modulus::Modulus;
 ghost use Prim.Native.Nat.{ℕ, _+_, _*_, _<_, _≤_};
 ghost use lib.ListN.{length, getD};

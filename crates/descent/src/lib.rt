@@ -4,8 +4,6 @@ pub mod blocks;
 pub mod combination;
 pub mod coordinate;
 pub mod kernel;
-pub mod lane;
-pub mod product;
 pub mod quotients;
 pub mod search;
 pub mod turn;

@@ -15,7 +15,7 @@ ghost use Rattle.descent.specs.Turn.{Turned};
 
 // From a vector in the span of the level j + 1, whose slots and kernel are given, by its coefficients, and column j at `at`: the
 // coordinate of the column goes to 128 words from `place` on, and t, 0 at the start, becomes the vector less the coordinate times the
-// column, in sums not reduced. Returns the size of the coordinate. The quotients are left all 0, so that t can be divided at once. y is
+// column, in sums not reduced. The quotients are left all 0, so that t can be divided at once. y is
 // an area to work in, 0 at the start.
 pub fn descend_column(
     quotients: &mut [u64],
@@ -33,16 +33,16 @@ pub fn descend_column(
     t: &mut [u64],
     y: &mut [u64],
     modulus: Modulus,
-) -> usize
+)
     requires { ⌜ ValidModulus modulus × (rows ≤ 8) × ValidLevel (modulus .p) (level (now slots) (now sizes) (now inverses)) ⌝ }
     requires kernel { ⌜ ValidKernel (modulus .p) (now kernels) kernel size ⌝ }
     requires column { ⌜ (at + 128 ≤ length (now columns)) × ((i : ℕ) → getD (now columns) i 0 < modulus .p) ⌝ }
     requires factors { ⌜ (length (now quotients) ≡ 1088) × ((i : ℕ) → getD (now quotients) i 0 < modulus .p) ⌝ }
     requires coordinates { ⌜ (place + 128 ≤ length (now coordinates)) × ((i : ℕ) → getD (now coordinates) i 0 < modulus .p) ⌝ }
     requires areas { ⌜ (length (now t) ≡ 1088) × AtMost 0 (now t) × (length (now y) ≡ 256) × AtMost 0 (now y) ⌝ }
-    ensures { λ r. ⌜ Turned (modulus .p) (level (now (slots .entry)) (now (sizes .entry)) (now (inverses .entry))) rows
+    ensures { λ _. ⌜ Turned (modulus .p) (level (now (slots .entry)) (now (sizes .entry)) (now (inverses .entry))) rows
         (now (kernels .entry)) kernel (now (columns .entry)) at (now (quotients .entry)) (now (coordinates .entry)) place
-        (now (t .exit)) (now (quotients .exit)) (now (coordinates .exit)) r ⌝ }
+        (now (t .exit)) (now (quotients .exit)) (now (coordinates .exit)) ⌝ }
 {
     let degrees = count_degrees(quotients, modulus);
     find_coordinate(
@@ -59,5 +59,5 @@ pub fn descend_column(
         modulus,
     );
     combine_blocks(quotients, degrees, slots, sizes, inverses, rows, t, modulus);
-    take_column(t, coordinates, place, y, columns, at, modulus)
+    take_column(t, coordinates, place, y, columns, at, modulus);
 }

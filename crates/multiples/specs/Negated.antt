@@ -16,7 +16,7 @@ use Rattle.vector.specs.Bound.{AtMost, at-most-stored}
 use Rattle.vector.specs.Stored.{stored, length-stored, stored-inside}
 use Rattle.reduction.specs.Holds.{Holds, read, read-at, read-beyond}
 use Rattle.lattice.specs.Word.{residue, residue-minus, words, words-behind, words-first}
-use Rattle.descent.specs.Product.{strided}
+use Rattle.lanes.specs.Product.{strided}
 
 module _ {p : ℕ} (prime₀ : Prime p) (h h′ f : List ℕ) (n : ℕ)
     (stores : h′ ≡ stored (λ j. modulo p .neg (getD f j 0 % p)) h 0 n) where

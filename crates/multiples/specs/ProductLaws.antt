@@ -21,7 +21,8 @@ use Rattle.reduction.specs.Flat.{Flat, flat}
 use Rattle.lattice.specs.Word.{words}
 use Rattle.lattice.specs.Memory.{Sums}
 use Rattle.lattice.specs.Range.{words-zero}
-use Rattle.descent.specs.Product.{less, TakesProduct}
+use Rattle.lanes.specs.Held.{one-lane}
+use Rattle.lanes.specs.Product.{less, TakesProduct}
 use Rattle.multiples.specs.Product.{BlockMultiplied, Multiplied}
 use Rattle.multiples.specs.Negated.{negated-read}
 use Rattle.multiples.specs.Reduced.{reduced-below, reduced-words}
@@ -122,9 +123,6 @@ module _ {p : ℕ} (prime₀ : Prime p) (h minus f : List ℕ) (n : ℕ) (s : Li
 
   others : (i : ℕ) → reach ≤ i → getD t₁ i 0 < p
   others i far = omega (arith, T .behind i (omega arith), clear i, prime₀ .large)
-
-  one-lane : (e : ℕ) → flat 1 0 e ≡ e
-  one-lane e = omega arith
 
   pub multiplied : Multiplied p f n s m t′
   multiplied = record {

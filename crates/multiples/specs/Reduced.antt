@@ -1,13 +1,12 @@
 -- The first n words of an area reduced, the others below p already: all below p, and the same residues.
 use Prim.Native.Nat.{ℕ, _+_, _%_, _<_, _≤_}
-use mathlib.Core.Path.{_≡_, sym, _∙_, ap, subst}
-use mathlib.Core.Logic.{inr, ⊎-elim}
+use mathlib.Core.Path.{_≡_, refl, sym, _∙_, ap, subst}
 use mathlib.Core.List.{List}
-use native.Mathlib.Nat.{mod-lt, mod-eq-of-lt, zero-add}
+use native.Mathlib.Nat.{mod-lt, mod-eq-of-lt}
 use native.Mathlib.Omega.{arith}
 use lib.ListN.{length, getD}
 use Rattle.modular.specs.Prime.{Prime}
-use Rattle.vector.specs.Stored.{stored, stored-inside, stored-outside, below-or-not}
+use Rattle.vector.specs.Stored.{stored, stored-all-first}
 use Rattle.lattice.specs.Word.{words}
 use Rattle.lattice.specs.Range.{words-same}
 
@@ -17,17 +16,8 @@ module _ {p : ℕ} (prime₀ : Prime p) (n : ℕ) (t t′ : List ℕ) (stores : 
   positive = omega (arith, prime₀ .large)
 
   word-reduced : (j : ℕ) → getD t′ j 0 ≡ getD t j 0 % p
-  word-reduced j =
-      ⊎-elim
-      (λ lt.
-      ap (λ i. getD t′ i 0) (sym (zero-add j))
-      ∙ ap (λ l. getD l (0 + j) 0) stores
-      ∙ stored-inside (λ i. getD t i 0 % p) t 0 n j (omega arith) lt)
-      (λ ge.
-      ap (λ l. getD l j 0) stores
-      ∙ stored-outside (λ i. getD t i 0 % p) t 0 n j (inr (omega arith))
-      ∙ sym (mod-eq-of-lt (others j ge)))
-      (below-or-not j n)
+  word-reduced = stored-all-first (λ j w. w ≡ getD t j 0 % p) (λ j. getD t j 0 % p) t t′ n stores inside
+      (λ j lt. refl) (λ i ge. sym (mod-eq-of-lt (others i ge)))
 
   pub reduced-below : (i : ℕ) → getD t′ i 0 < p
   reduced-below i = subst (λ w. w < p) (sym (word-reduced i)) (mod-lt (getD t i 0) positive)

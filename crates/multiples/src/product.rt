@@ -1,6 +1,6 @@
 // A polynomial times a flat block, and times a polynomial.
-use descent::coordinate::store_negated;
-use descent::product::subtract_product;
+use lanes::negated::store_negated;
+use lanes::product::subtract_product;
 use residue::modulus::Modulus;
 use vector::clear;
 use vector::reduce_range;

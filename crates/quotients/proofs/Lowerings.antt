@@ -13,7 +13,7 @@ use Rattle.algebra.specs.Polynomial.{Polynomial, polynomials, coefficients, coe
 use Rattle.algebra.specs.Size.{size, coefficients-beyond}
 use Rattle.modular.specs.Prime.{Prime}
 use Rattle.modular.specs.Residue.{residues}
-use Rattle.vector.specs.Stored.{stored, length-stored, stored-inside, stored-outside}
+use Rattle.vector.specs.Stored.{stored, length-stored, stored-inside, stored-outside, stored-all}
 use Rattle.reduction.specs.Replace.{replace, replace-elim}
 use Rattle.reduction.specs.Holds.{Holds}
 use Rattle.reduction.specs.Flat.{flat}
@@ -23,7 +23,6 @@ use Rattle.lattice.specs.Reading.{holds-same}
 use Rattle.lattice.specs.Quotients.{HoldsQuotient}
 use Rattle.quotients.specs.Multiple.{TakesMultiple}
 use Rattle.quotients.specs.Lowering.{Lowers}
-use Rattle.quotients.proofs.Storing.{stored-all}
 
 -- y is the lane of slot q
 module _ {p : ℕ} (quotients y₀ : List ℕ) {y : List ℕ} (q : ℕ) (below : (i : ℕ) → getD quotients i 0 < p)
@@ -99,7 +98,6 @@ pub quotients-lowered : {p : ℕ} → Prime p → (quotients factors output y₀
     → TakesMultiple p quotients y (set factors (7 - q) 1) quotients′ → Lowers p q quotients factors output place quotients′ output′
 quotients-lowered {p} prime₀ quotients factors output y₀ {y} {quotients′} {output′} place q lane room below factors-room
     output-room output-below lane-room taken copied T = record {
-      all-quotients = T .same-length ∙ room;
       quotients-below = T .below;
       same-output = ap length copied ∙ length-stored _ output place 128;
       output-below = stored-all (λ i w. w < p) _ output output′ place 128 copied output-room

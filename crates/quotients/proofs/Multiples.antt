@@ -14,7 +14,7 @@ use Rattle.modular.specs.Prime.{Prime}
 use Rattle.modular.specs.Residue.{residues}
 use Rattle.vector.specs.Reduced.{polynomial}
 use Rattle.vector.specs.Size.{size-reduced}
-use Rattle.vector.specs.Stored.{stored, length-stored}
+use Rattle.vector.specs.Stored.{stored, length-stored, stored-all}
 use Rattle.reduction.specs.Holds.{Holds, read, read-at, read-beyond}
 use Rattle.reduction.specs.Flat.{flat}
 use Rattle.lattice.specs.Memory.{ZeroFrom, Ends}
@@ -23,9 +23,8 @@ use Rattle.lattice.specs.Range.{words-same, words-zero, words-shorter}
 use Rattle.lattice.specs.Reading.{holds-same}
 use Rattle.lattice.specs.Found.{found-ends}
 use Rattle.lattice.specs.Quotients.{HoldsQuotient}
-use Rattle.descent.specs.Product.{strided, less, TakesProduct}
+use Rattle.lanes.specs.Product.{strided, less, TakesProduct}
 use Rattle.quotients.specs.Multiple.{TakesMultiple}
-use Rattle.quotients.proofs.Storing.{stored-all}
 
 -- what `find_leading` finds is no more than it is given
 pub found-most : (p : ℕ) (l : List ℕ) (n found : ℕ) → found ≡ length (polynomial p l 0 n) → found ≤ n

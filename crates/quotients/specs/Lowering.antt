@@ -12,7 +12,7 @@ use Rattle.reduction.specs.Replace.{replace}
 use Rattle.reduction.specs.Holds.{Holds}
 use Rattle.lattice.specs.Word.{words}
 use Rattle.lattice.specs.Quotients.{HoldsQuotient}
-use Rattle.descent.specs.Product.{less}
+use Rattle.lanes.specs.Product.{less}
 
 -- the coordinate is the quotient of slot q, and the column has the factors f and, in slot q, 1
 pub record HoldsLowered (p : ℕ) (prime : Prime p) (n q : ℕ) (c f : ℕ → Polynomial (residues p prime))
@@ -24,7 +24,6 @@ pub record HoldsLowered (p : ℕ) (prime : Prime p) (n q : ℕ) (c f : ℕ → P
 -- What they hold is said for a coordinate of at most 121 coefficients, and for factors that have 0, or another constant, for slot q,
 -- which was empty.
 pub record Lowers (p q : ℕ) (quotients factors output : List ℕ) (place : ℕ) (quotients′ output′ : List ℕ) : Type 0 where
-  pub all-quotients : length quotients′ ≡ 1088
   pub quotients-below : (i : ℕ) → getD quotients′ i 0 < p
   pub same-output : length output′ ≡ length output
   pub output-below : (i : ℕ) → getD output′ i 0 < p

@@ -10,7 +10,7 @@ use Rattle.modular.specs.Residue.{residues}
 use Rattle.reduction.specs.Holds.{Holds}
 use Rattle.lattice.specs.Word.{words}
 use Rattle.lattice.specs.Quotients.{HoldsQuotient}
-use Rattle.descent.specs.Product.{less}
+use Rattle.lanes.specs.Product.{less}
 
 -- What it holds is said for a polynomial x in y of at most 121 coefficients.
 pub record TakesMultiple (p : ℕ) (quotients y factors quotients′ : List ℕ) : Type 0 where

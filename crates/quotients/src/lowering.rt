@@ -1,6 +1,6 @@
 // One column of the way down by quotients.
 use crate::multiple::subtract_multiple;
-use descent::lane::store_lane;
+use lanes::lane::store_lane;
 use residue::modulus::Modulus;
 use vector::copy;
 ghost use mathlib.Core.Path.{_≡_};

@@ -1,6 +1,6 @@
 // A multiple of the factors of a column taken off the quotients, in each lane.
-use descent::coordinate::lesser;
-use descent::product::subtract_product;
+use lanes::lesser::lesser;
+use lanes::product::subtract_product;
 use residue::modulus::Modulus;
 use vector::find_leading;
 use vector::reduce_range;

@@ -27,7 +27,7 @@ use Rattle.reduction.specs.Transpose.{Tops, transposed, rightSide, weights}
 use Rattle.reduction.specs.Second.{not-stuck}
 use Rattle.vector.specs.Bound.{AtMost}
 use Rattle.vector.specs.Reduced.{polynomial}
-use Rattle.vector.specs.Stored.{stored, stored-inside, stored-outside, length-stored, below-or-not}
+use Rattle.vector.specs.Stored.{stored, stored-inside, stored-outside, length-stored, below-or-not, stored-all-first}
 use Rattle.lattice.specs.declared.hand.Hand.{Hand}
 use Rattle.lattice.specs.Word.{words, words-first, residue-one}
 use Rattle.lattice.specs.Memory.{height, ZeroFrom, Ends, Level, slotSize, tailSize, ValidLevel, Sums, Memory, memory, places, Valid}
@@ -86,11 +86,8 @@ module _ (p : ℕ) (prime : Prime p) {n : ℕ} (small : n ≤ 8) {L : Level} (va
       (when-below p positive _ _ (valid .below _))))
 
   pub block-small : AtMost p (stored (rightWord (L .slots) (L .sizes) n) ob 0 1088)
-  block-small i = ⊎-elim
-      (λ lt. subst (λ w. w ≤ p) (sym (ap (λ j. getD b′ j 0) (sym (zero-add i))
-      ∙ stored-inside (rightWord (L .slots) (L .sizes) n) ob 0 1088 i (omega arith) lt)) (omega (arith, word-below i)))
-      (λ ge. subst (λ w. w ≤ p) (sym (stored-outside (rightWord (L .slots) (L .sizes) n) ob 0 1088 i (inr (omega arith)))) (omega (arith, none-block i)))
-      (below-or-not i 1088)
+  block-small = stored-all-first (λ i w. w ≤ p) (rightWord (L .slots) (L .sizes) n) ob _ 1088 refl room-block
+      (λ j lt. omega (arith, word-below j)) (λ i ge. omega (arith, none-block i))
 
   one : getD (set ot 0 1) 0 0 ≡ 1
   one = getD-set-same ot 0 1 0 (omega arith)

@@ -1,7 +1,6 @@
 -- The right side of the second system times its denominator: that it has room, and what it is.
 use Prim.Native.Nat.{ℕ, _+_, _-_, _*_, _<_, _≤_}
 use mathlib.Core.Path.{_≡_, sym, _∙_, subst}
-use mathlib.Core.Logic.{inr, ⊎-elim}
 use mathlib.Core.List.{List}
 use native.Mathlib.Omega.{arith}
 use native.Mathlib.Decide.{ℕ-discrete}
@@ -18,7 +17,7 @@ use Rattle.reduction.specs.Polynomials.{associate}
 use Rattle.reduction.specs.Holds.{Holds, holds-size-exact}
 use Rattle.reduction.specs.Flat.{Flat}
 use Rattle.vector.specs.Reduced.{polynomial}
-use Rattle.vector.specs.Stored.{stored, stored-outside, below-or-not}
+use Rattle.vector.specs.Stored.{stored, stored-all-first}
 use Rattle.lattice.specs.Word.{words}
 use Rattle.lattice.specs.Memory.{row, height, Ends, Level, ValidLevel}
 use Rattle.lattice.specs.Holding.{HoldsSlots}
@@ -30,7 +29,6 @@ use Rattle.transposed.specs.Greatest.{greatest, greatest-small}
 use Rattle.transposed.specs.Words.{rightWord}
 use Rattle.transposed.specs.Transposed.{right-held}
 use Rattle.transposed.specs.ValidTransposed.{when-below}
-use Rattle.transposed.specs.First.{stored-first}
 use Rattle.second.specs.RightInserted.{tops-lower}
 use Rattle.transposed.specs.Laid.{Laid}
 use Rattle.second.specs.Solved.{HasTops}
@@ -60,20 +58,9 @@ module _ {p n : ℕ} {L T : Level} {w : List ℕ} {count : ℕ} (fits : ScalesWi
     word-below x = when-below p positive _ _ (when-below p positive _ _ (when-below p positive _ _
         (when-below p positive _ _ (fits .below _))))
 
-    stored-below : (i : ℕ) → getD (stored (rightWord (L .slots) (L .sizes) n) (laid .ob) 0 1088) i 0 < p
-    stored-below i = ⊎-elim
-        (λ lt. subst (λ v. v < p) (sym (stored-first (rightWord (L .slots) (L .sizes) n) (laid .ob) 1088 i (laid .room-block) lt))
-        (word-below i))
-        (λ ge. omega (
-          arith,
-          positive,
-          stored-outside (rightWord (L .slots) (L .sizes) n) (laid .ob) 0 1088 i (inr (omega arith)),
-          laid .none-block i,
-        ))
-        (below-or-not i 1088)
-
     pub right-below : (i : ℕ) → getD b i 0 < p
-    right-below i = subst (λ l. getD l i 0 < p) (sym (laid .right)) (stored-below i)
+    right-below = stored-all-first (λ i w. w < p) (rightWord (L .slots) (L .sizes) n) (laid .ob) b 1088 (laid .right) (laid .room-block)
+        (λ j lt. word-below j) (λ i ge. omega (arith, positive, laid .none-block i))
 
     module _ (m : ℕ) (found : m ≡ length (polynomial p b 0 1088)) where
       right-ends : Ends p b 0 1088 m

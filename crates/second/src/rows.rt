@@ -1,5 +1,5 @@
 // The quotients by the transposed slots as the rows of the second system's solution.
-use descent::lane::store_lane;
+use lanes::lane::store_lane;
 use vector::clear;
 ghost use mathlib.Core.Path.{_≡_};
 ghost use Prim.Native.Nat.{_≤_};

@@ -1,10 +1,10 @@
 -- A range of a list written anew: what the loops of this crate do to the words that they are lent. The contracts cite
 -- `stored`; `stored-inside`, `stored-outside` and `length-stored` say all of the list that a caller may ask.
-use mathlib.Core.Path.{_≡_, refl, _∙_}
+use mathlib.Core.Path.{_≡_, refl, sym, _∙_, ap, subst}
 use mathlib.Core.Logic.{_⊎_, inl, inr, ⊎-elim}
 use mathlib.Core.List.{List}
 use Prim.Native.Nat.{ℕ, zero, suc, _+_, _-_, _≤_, _<_}
-use native.Mathlib.Nat.{add-zero, add-suc, add-assoc, eq-zero-or-pos, eq-or-lt-of-le, le-of-suc-le-suc, not-suc-le-zero}
+use native.Mathlib.Nat.{zero-add, add-zero, add-suc, add-assoc, eq-zero-or-pos, eq-or-lt-of-le, le-of-suc-le-suc, not-suc-le-zero}
 use native.Mathlib.Numerals.{add-one}
 use native.Mathlib.Omega.{arith}
 use lib.ListN.{length, getD, set, length-set}
@@ -52,6 +52,31 @@ module _ (f : ℕ → ℕ) (l : List ℕ) (d : ℕ) where
   -- what is not stored yet is what stood there at the start
   pub stored-next : (j : ℕ) (w : List ℕ) (i : ℕ) → w ≡ stored f l d j → d + j ≤ i → getD w i 0 ≡ getD l i 0
   stored-next j w i e later = rw e (stored-outside j i (inr later))
+
+-- what holds of the words stored, and of the others, holds of all
+pub stored-all : (P : ℕ → ℕ → Type 0) (f : ℕ → ℕ) (l l′ : List ℕ) (d n : ℕ) → l′ ≡ stored f l d n → d + n ≤ length l
+    → ((j : ℕ) → j < n → P (d + j) (f j)) → ((i : ℕ) → (i < d) ⊎ (d + n ≤ i) → P i (getD l i 0)) → (i : ℕ) → P i (getD l′ i 0)
+stored-all P f l l′ d n stores room inside outside i =
+    ⊎-elim
+    (λ lo. kept (inl lo))
+    (λ from. ⊎-elim
+    (λ lt.
+    let place : d + (i - d) ≡ i = omega arith in
+    let word = ap (λ w. getD w (d + (i - d)) 0) stores ∙ stored-inside f l d n (i - d) room lt in
+    subst (λ x. P x (getD l′ x 0)) place (subst (P (d + (i - d))) (sym word) (inside (i - d) lt)))
+    (λ ge. kept (inr (omega arith)))
+    (below-or-not (i - d) n))
+    (below-or-not i d)
+  where
+    kept : (i < d) ⊎ (d + n ≤ i) → P i (getD l′ i 0)
+    kept out = subst (P i) (sym (ap (λ w. getD w i 0) stores ∙ stored-outside f l d n i out)) (outside i out)
+
+-- the same of a range stored from the beginning
+pub stored-all-first : (P : ℕ → ℕ → Type 0) (f : ℕ → ℕ) (l l′ : List ℕ) (n : ℕ) → l′ ≡ stored f l 0 n → n ≤ length l
+    → ((j : ℕ) → j < n → P j (f j)) → ((i : ℕ) → n ≤ i → P i (getD l i 0)) → (i : ℕ) → P i (getD l′ i 0)
+stored-all-first P f l l′ n stores room inside behind = stored-all P f l l′ 0 n stores (omega arith)
+    (λ j lt. subst (λ i. P i (f j)) (sym (zero-add j)) (inside j lt))
+    (λ i out. behind i (⊎-elim (λ lo. absurd (omega arith)) (λ hi. omega arith) out))
 
 -- a range stored right behind a range is one longer range
 pub stored-behind : (f g : ℕ → ℕ) (l : List ℕ) (d j m : ℕ) → ((i : ℕ) → i < m → g i ≡ f (j + i))

@@ -66,7 +66,6 @@ returns c =
     let done = c .before .before .before .divide in
     record {
       rest = down .last .1 .1 .1 .1 .1 .1 .1 .1 .1 .1 .1 .1 .0;
-      size = down .result;
       cleared = down .last .0;
       turned = down .ensures;
       emptied = done .last .1 .1 .1 .0;

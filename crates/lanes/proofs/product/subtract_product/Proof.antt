@@ -4,10 +4,10 @@ use mathlib.Core.Path.{_≡_, sym, _∙_, subst}
 use mathlib.Core.Logic.{⊎-elim}
 use native.Mathlib.Omega.{arith}
 use borrow.Author.Needs.{needs}
-use Rattle.descent.specs.Product.{TakesProduct}
-use Rattle.descent.proofs.Products.{next-multiple, product-start, product-none, product-sum, product-turn, product-skip}
-use Rattle.descent.proofs.product.subtract_product.Statement.{statement}
-use Rattle.descent.proofs.product.subtract_product.Tie as tie
+use Rattle.lanes.specs.Product.{TakesProduct}
+use Rattle.lanes.proofs.Products.{next-multiple, product-start, product-none, product-sum, product-turn, product-skip}
+use Rattle.lanes.proofs.product.subtract_product.Statement.{statement}
+use Rattle.lanes.proofs.product.subtract_product.Tie as tie
 
 abbrev Inv-loop : tie.InvT-loop
 Inv-loop h₀ w f b v n s a m modulus k₀ h k =

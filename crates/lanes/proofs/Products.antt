@@ -19,9 +19,9 @@ use Rattle.reduction.specs.Flat.{flat}
 use Rattle.lattice.specs.Memory.{ZeroFrom}
 use Rattle.lattice.specs.Word.{residue-zero, words, words-behind}
 use Rattle.lattice.specs.Range.{words-upper, words-lower}
-use Rattle.descent.specs.Read.{read-suc, read-zeros}
-use Rattle.descent.specs.Product.{strided, less, TakesProduct}
-use Rattle.descent.proofs.Lanes.{none-held}
+use Rattle.lanes.specs.Read.{read-suc, read-zeros}
+use Rattle.lanes.specs.Product.{strided, less, TakesProduct}
+use Rattle.lanes.specs.Held.{none-held}
 
 -- a product of a number below p and one of at most p
 pub product-most : (p c x : ℕ) → c ≤ p → x < p → c * x ≤ p * p

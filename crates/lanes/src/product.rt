@@ -5,7 +5,7 @@ ghost use Prim.Native.Nat.{ℕ, _+_, _*_, _<_, _≤_};
 ghost use lib.ListN.{length, getD};
 ghost use Rattle.residue.specs.Modulus.{ValidModulus};
 ghost use Rattle.vector.specs.Bound.{AtMost};
-ghost use Rattle.descent.specs.Product.{TakesProduct};
+ghost use Rattle.lanes.specs.Product.{TakesProduct};
 
 // h -= f s in each of w lanes: f has the n coefficients f[b], f[b + v], .., and s has m words from a on.
 pub fn subtract_product(

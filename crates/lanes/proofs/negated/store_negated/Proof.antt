@@ -8,8 +8,8 @@ use lib.ListN.{length, getD}
 use Rattle.modular.specs.Modulo.{modulo}
 use Rattle.residue.specs.Modulus.{ValidModulus}
 use Rattle.vector.specs.Stored.{stored, length-stored, stored-none, stored-more}
-use Rattle.descent.proofs.coordinate.store_negated.Statement.{statement}
-use Rattle.descent.proofs.coordinate.store_negated.Tie as tie
+use Rattle.lanes.proofs.negated.store_negated.Statement.{statement}
+use Rattle.lanes.proofs.negated.store_negated.Tie as tie
 
 abbrev Inv-loop : tie.InvT-loop
 Inv-loop h₀ a y n modulus j₀ h j =

@@ -7,8 +7,8 @@ use borrow.Author.Needs.{needs}
 use lib.ListN.{length, getD, set}
 use Rattle.modular.specs.Modulo.{modulo}
 use Rattle.vector.specs.Stored.{stored, length-stored, stored-none, stored-more, stored-next}
-use Rattle.descent.proofs.quotients.negate.Statement.{statement}
-use Rattle.descent.proofs.quotients.negate.Tie as tie
+use Rattle.lanes.proofs.negated.negate.Statement.{statement}
+use Rattle.lanes.proofs.negated.negate.Tie as tie
 
 abbrev Inv-loop : tie.InvT-loop
 Inv-loop h₀ n modulus j₀ h j =

@@ -4,8 +4,8 @@ use Prim.Native.Nat.{_+_, _-_, _*_}
 use native.Mathlib.Omega.{arith}
 use lib.ListN.{getD}
 use Rattle.vector.proofs.Storing.{Storing, storing-start, storing-turn, storing-end}
-use Rattle.descent.proofs.lane.store_lane.Statement.{statement}
-use Rattle.descent.proofs.lane.store_lane.Tie as tie
+use Rattle.lanes.proofs.lane.store_lane.Statement.{statement}
+use Rattle.lanes.proofs.lane.store_lane.Tie as tie
 
 abbrev Inv-loop : tie.InvT-loop
 Inv-loop quotients lane y₀ at e₀ y e = Storing (λ i. getD quotients (8 * i + lane) 0) y₀ at 128 y e

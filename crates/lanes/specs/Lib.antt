@@ -1,0 +1,3 @@
+pub mod Held
+pub mod Read
+pub mod Product
