@@ -1,14 +1,15 @@
 -- What was found, for the two who tell of it: the part that is shown, or the refusal.
-use mathlib.Core.Path.{_≡_, refl, sym, ap, _∙_}
+use mathlib.Core.Path.{_≡_, refl, sym, ap, ap₂, _∙_}
 use mathlib.Core.List.{List, []}
-use Prim.Native.Nat.{ℕ, _+_, _-_, _≤_}
+use Prim.Native.Nat.{ℕ, _+_, _-_, _*_, _≤_}
 use native.Mathlib.Omega.{arith}
 use lib.ListN.{length, take, drop}
 use Rattle.words.specs.Limits.{Limits}
 use Rattle.words.specs.Outcome.{Outcome}
 use Rattle.words.specs.Outcome.Outcome.{accepted, refused}
 use Rattle.words.specs.OutcomeLaws.{mapped-accepted, mapped-refused}
-use Rattle.lookup.specs.Lookup.{Side, Part, on, polynomialLookup, wordsShown, companion, bounds, boundsShown}
+use Rattle.lookup.specs.Lookup.{Side, Part, on, polynomialLookup, wordsShown, placeShown, companion, bounds, boundsShown}
+use Rattle.lookup.specs.Lookup.{Address, wordAddress}
 use Rattle.lookup.specs.LookupLaws.{Shows, lookup-shown}
 
 module _ (told : Outcome Part) where
@@ -21,6 +22,15 @@ module _ (told : Outcome Part) where
 
     pub refused-empty : [] ≡ wordsShown told
     refused-empty = rw (mapped-refused bounds told (sym found)) refl
+
+    pub refused-place : placeShown told ≡ 0
+    refused-place = rw (mapped-refused bounds told (sym found)) refl
+
+-- the address of a part of the words at an address
+pub part-address : {lent at : Address} {bytes : ℕ} (place : ℕ) → at ≡ lent → bytes ≡ at .1 + 4 * place
+    → (at .0, bytes) ≡ wordAddress lent place
+part-address place same is =
+    ap₂ (λ block offset. (block, offset)) (ap (λ a. a .0) same) (omega (arith, ap (λ a. a .1) same, is))
 
 -- in the words v, which are those of the side
 module _ (limits : Limits) (ss cs : List ℕ) (side : Side) (k from to : ℕ)
@@ -48,6 +58,9 @@ module _ (limits : Limits) (ss cs : List ℕ) (side : Side) (k from to : ℕ)
       ∙ ap (λ (i : ℕ). take (length (told-part .0 .words)) (drop i (on side ss cs))) (sym starts)
       ∙ sym (shows .cut)
       ∙ ap wordsShown (sym (told-part .1))
+
+  pub found-place : placeShown (polynomialLookup limits ss cs side k) ≡ from
+  found-place = ap placeShown (told-part .1) ∙ starts
 
   pub found-cut : (from ≤ to)
       × (to ≤ length v)

@@ -1,6 +1,7 @@
 -- The lookup (document 01, end of "Turned back"): it "reads sheet and card likewise, then tries 12 and none of 31 to 36, then shows
 -- one polynomial of either".
-use Prim.Native.Nat.{ℕ, _+_}
+use Prim.Native.Nat.{ℕ, _+_, _*_}
+use mathlib.Core.Path.{_≡_}
 use mathlib.Core.List.{List, []}
 use lib.ListN.{length, getD}
 use lib.Dec.{leb}
@@ -50,6 +51,23 @@ polynomialLookup limits ss cs side k =
 abbrev pub wordsShown : Outcome Part → List ℕ
 wordsShown (accepted part) = part .words
 wordsShown (refused number place) = []
+
+-- the place of its first word among those of its side; an empty part stands at their beginning
+abbrev pub placeShown : Outcome Part → ℕ
+placeShown (accepted part) = part .from
+placeShown (refused number place) = 0
+
+-- an address of memory: a block, and the bytes before it there. A word takes four.
+abbrev pub Address : Type 0
+Address = ℕ × ℕ
+
+abbrev pub wordAddress : Address → ℕ → Address
+wordAddress lent k = (lent .0, lent .1 + 4 * k)
+
+-- "the result is that part of the lent words": of a slice, its words and its address. Equal words elsewhere are not that part.
+pub record Borrows (told : Outcome Part) (lent address : Address) (words : List ℕ) : Type 0 where
+  pub same-words : words ≡ wordsShown told
+  pub same-place : address ≡ wordAddress lent (placeShown told)
 
 -- "a companion call on the same words gives number and place"
 abbrev pub companion : Outcome Part → Outcome (Unit {0})

@@ -11,7 +11,7 @@ use reader::system::SystemRead;
 use reader::system::read_system;
 ghost use mathlib.Core.Path.{_≡_};
 ghost use Rattle.limits.specs.Value.{limitsOf};
-ghost use Rattle.lookup.specs.Lookup.{on, polynomialLookup, wordsShown, companion, boundsShown};
+ghost use Rattle.lookup.specs.Lookup.{on, polynomialLookup, Borrows, companion, boundsShown};
 ghost use Rattle.lookup.specs.Answer.{sideOf, foundOutcome, partOutcome};
 
 // Where the polynomial is to be looked up.
@@ -32,7 +32,8 @@ pub enum Found {
 
 // The words of the side that is asked for.
 fn words_on<'a>(side: Side, system: &'a [u32], certificate: &'a [u32]) -> &'a [u32]
-    ensures { λ r. ⌜ now r ≡ on (sideOf side) (now (system .entry)) (now (certificate .entry)) ⌝ }
+    ensures { λ r. ⌜ (now r ≡ on (sideOf side) (now (system .entry)) (now (certificate .entry)))
+        × (r .ptr ≡ on (sideOf side) (system .entry .ptr) (certificate .entry .ptr)) ⌝ }
 {
     match side {
         Side::System => system,
@@ -41,7 +42,7 @@ fn words_on<'a>(side: Side, system: &'a [u32], certificate: &'a [u32]) -> &'a [u
 }
 
 // Where polynomial `number` of the side that is asked for stands, from its start word to its last coefficient. Both sides are read
-// first. The contract gives the place by numbers; that of a slice gives its words, and two polynomials may have equal words.
+// first.
 pub fn lookup_part<'a>(
     system: &'a [u32],
     certificate: &'a [u32],
@@ -76,8 +77,9 @@ pub fn lookup<'a>(
     number: usize,
     limits: Limits,
 ) -> &'a [u32]
-    ensures { λ r. ⌜ now r ≡
-        wordsShown (polynomialLookup (limitsOf limits) (now (system .entry)) (now (certificate .entry)) (sideOf side) number) ⌝ }
+    ensures { λ r. ⌜ Borrows
+        (polynomialLookup (limitsOf limits) (now (system .entry)) (now (certificate .entry)) (sideOf side) number)
+        (on (sideOf side) (system .entry .ptr) (certificate .entry .ptr)) (r .ptr) (now r) ⌝ }
 {
     let words = words_on(side, system, certificate);
     let part = lookup_part(system, certificate, side, number, limits);

@@ -2,13 +2,14 @@
 use mathlib.Core.Path.{_≡_, sym, ap, _∙_}
 use mathlib.Core.List.{List}
 use Prim.Native.Nat.{ℕ, _-_, _≤_}
+use native.Mathlib.Omega.{arith}
 use lib.ListN.{length, take, drop}
 use Rattle.words.specs.Outcome.{Outcome}
 use Rattle.limits.specs.Value.{limitsOf}
-use Rattle.lookup.specs.Lookup.{Part, polynomialLookup, wordsShown, boundsShown}
+use Rattle.lookup.specs.Lookup.{Part, polynomialLookup, wordsShown, placeShown, boundsShown}
 use Rattle.lookup.specs.Answer.{sideOf, partOutcome}
 use Rattle.lookup.specs.declared.part.Part.{Part as PartValue}
-use Rattle.lookup.proofs.Findings.{found-cut, refused-empty}
+use Rattle.lookup.proofs.Findings.{found-cut, found-place, part-address, refused-empty, refused-place}
 use borrow.Author.Needs.{needs}
 use Rattle.lookup.proofs.lookup.Statement.{statement}
 use Rattle.lookup.proofs.lookup.Tie as tie
@@ -42,7 +43,13 @@ module _ (p : tie.After-part) where
   cut =
       let a = entry f .args in
       found-cut (limitsOf (a .limits)) (a .system .now) (a .certificate .now) (sideOf (a .side)) (a .number) from to
-      (found f _ (p .part .given .1)) words (f .before .words-on .ensures)
+      (found f _ (p .part .given .1)) words (f .before .words-on .ensures .0)
+
+  begins : placeShown (told f) ≡ from
+  begins =
+      let a = entry f .args in
+      found-place (limitsOf (a .limits)) (a .system .now) (a .certificate .now) (sideOf (a .side)) (a .number) from to
+      (found f _ (p .part .given .1)) words (f .before .words-on .ensures .0)
 
 words-on-requires : tie.Need-words-on-requires
 words-on-requires c κs = search needs
@@ -72,13 +79,19 @@ slice-aggregate-result : tie.Need-slice-aggregate-result
 slice-aggregate-result c = search needs
 
 returns : tie.Need-returns
-returns c = cut (c .before .before) .2
+returns c =
+    let p = c .before .before in
+    record { same-words = cut p .2; same-place = part-address _ (f p .before .words-on .ensures .1) (omega (arith, begins p)) }
 
 returns-2 : tie.Need-returns-2
 returns-2 c =
     let e = c .before .enum-told .given in
     let f = c .before .before .before in
-    refused-empty (told f) _ _ (found f _ (e .1))
+    let none = found f _ (e .1) in
+    record {
+      same-words = refused-empty (told f) _ _ none;
+      same-place = part-address _ (f .before .words-on .ensures .1) (omega (arith, refused-place (told f) _ _ none));
+    }
 
 pub lookup-spec : {M : Type 1} → statement M
 lookup-spec =

@@ -37,7 +37,7 @@ part-of-requires c κs =
     let certificate = ap certificateOutcome (sym (f .1)) ∙ y .read-certificate .ensures in
     find-holding (limitsOf (a .limits)) (a .system .now) (a .certificate .now) (sideOf (a .side)) (a .number)
     (shapeOf (e .0 .0)) system (formOf (f .0 .0)) certificate (omega (arith, S .good)) (omega (arith, S .good))
-    (w .words-on .result .now) (w .words-on .ensures)
+    (w .words-on .result .now) (w .words-on .ensures .0)
 
 enum-known-read-2 : tie.Need-enum-known-read-2
 enum-known-read-2 c = search needs
@@ -58,7 +58,7 @@ returns c =
     let certificate = ap certificateOutcome (sym (f .1)) ∙ y .read-certificate .ensures in
     find-part (limitsOf (a .limits)) (a .system .now) (a .certificate .now) (sideOf (a .side)) (a .number)
     (shapeOf (e .0 .0)) system (formOf (f .0 .0)) certificate (omega (arith, S .good)) (omega (arith, S .good))
-    (w .words-on .result .now) (w .words-on .ensures)
+    (w .words-on .result .now) (w .words-on .ensures .0)
     (c .part-of .result) (c .part-of .ensures)
 
 returns-2 : tie.Need-returns-2
