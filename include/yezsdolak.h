@@ -22,10 +22,9 @@ enum {
     YEZSDOLAK_SYSTEM_BYTES = 4904,      // no system's file is longer
     YEZSDOLAK_CERTIFICATE_BYTES = 8792, // no certificate's file is longer: to be lent to yezsdolak_solve
     YEZSDOLAK_REPORT_BYTES = 1024,      // no report is longer: to be lent to yezsdolak_report
-    YEZSDOLAK_NOT_CERTIFICATE = 63,     // the last row of the table below
 };
 
-// A refusal is 64 × place + number; a number is 1 to 63. Places count words from 0, unless the table says otherwise.
+// A refusal is 64 × place + number; a number is 1 to 36. Places count words from 0, unless the table says otherwise.
 //
 // The system's file, by yezsdolak_solve and yezsdolak_check:
 //    1  the first word is not the head of a system; place 0
@@ -37,7 +36,8 @@ enum {
 //    7  the coefficient is not below p
 //    8  the last coefficient of the polynomial is 0
 //    9  the end word does not say how many words there are; or words follow it, place the first of them
-//   10  the file is not whole words, or has more than 4,904 bytes; place 0; comes before all others
+//   10  the file is not whole words, or has more than 4,904 bytes; place 0; comes before all others. By yezsdolak_check also where
+//       the certificate's file is not whole words, however long it is
 // What is lent, by yezsdolak_solve:
 //   11  fewer than YEZSDOLAK_CERTIFICATE_BYTES; place 0
 // Number 12 is that of the lookup of one polynomial, which is not among these calls.
@@ -56,8 +56,6 @@ enum {
 //   34  d is not the denominator that w and Z certify; place 0
 //   35  q·A is not zero; place is the first such column
 //   36  q·b is zero; place 0
-// The certificate's file, after 10 and before all others:
-//   63  it is not whole words; place 0
 static inline unsigned yezsdolak_number(uint64_t result)
 {
     return (unsigned)(result % 64);

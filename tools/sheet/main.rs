@@ -10,8 +10,9 @@ mod text;
 mod values;
 mod words;
 
+use refusal::Side;
 use std::fs::{canonicalize, read, write, File};
-use std::io::{stdout, ErrorKind, IsTerminal, Read, Write};
+use std::io::{copy, sink, stdout, ErrorKind, IsTerminal, Read, Write};
 use std::process::ExitCode;
 use values::{System, LONGEST_CERTIFICATE, LONGEST_SYSTEM};
 
@@ -100,24 +101,35 @@ fn bytes_at_most(file: &str, most: usize) -> Answer {
     opened.map(|_| bytes).map_err(|error| format!("{file}: {error}\n"))
 }
 
-fn system_of(sheet: &str) -> Result<System, String> {
-    let bytes = bytes_at_most(sheet, 4 * LONGEST_SYSTEM)?;
-    reading::system(&bytes).map_err(|refusal| refusal.report(sheet))
+fn sheet_bytes(sheet: &str) -> Answer {
+    bytes_at_most(sheet, 4 * LONGEST_SYSTEM)
+}
+
+fn system_of(sheet: &str, bytes: &[u8]) -> Result<System, String> {
+    reading::system(bytes).map_err(|refusal| refusal.report(sheet))
 }
 
 fn show_system(sheet: &str) -> Answer {
-    Ok(show::system(&system_of(sheet)?).into())
+    Ok(show::system(&system_of(sheet, &sheet_bytes(sheet)?)?).into())
 }
 
-/// Document 01 has no number for a certificate's file that is not whole words, or too long to be looked at. One word more than the
-/// longest is, as in `cardcheck`, so that a word behind the end of the longest gets its number.
+/// The bytes of a certificate's file that decide: one word more than the longest has, so that a word behind its end gets its number.
+fn card_bytes(card: &str) -> Answer {
+    let fault = |error| format!("{card}: {error}\n");
+    let mut file = File::open(card).map_err(fault)?;
+    let mut bytes = Vec::new();
+    (&file).take(4 * (LONGEST_CERTIFICATE as u64 + 1)).read_to_end(&mut bytes).map_err(fault)?;
+    let rest = copy(&mut file, &mut sink()).map_err(fault)?;
+    reading::file(Side::Certificate, bytes.len() + rest as usize).map_err(|refusal| refusal.report(card))?;
+    Ok(bytes)
+}
+
+/// Number 10, of either file, comes before what is wrong with their words.
 fn show_certificate(sheet: &str, card: &str) -> Answer {
-    let system = system_of(sheet)?;
-    let most = 4 * (LONGEST_CERTIFICATE + 1);
-    let bytes = bytes_at_most(card, most)?;
-    if bytes.len() > most || bytes.len() % 4 != 0 {
-        return Err(format!("{card}: not a card file, which has four bytes for each word and at most {}\n", most - 4));
-    }
+    let written = sheet_bytes(sheet)?;
+    reading::file(Side::System, written.len()).map_err(|refusal| refusal.report(sheet))?;
+    let bytes = card_bytes(card)?;
+    let system = system_of(sheet, &written)?;
     let certificate = reading::certificate(&bytes, &system).map_err(|refusal| refusal.report(card))?;
     Ok(show::certificate(&certificate, system.modulus).into())
 }

@@ -74,12 +74,18 @@ impl Walk {
     }
 }
 
+/// Number 10, of a file of so many bytes: they are not whole words, or more than a system has.
+pub fn file(side: Side, bytes: usize) -> Result<(), Refusal> {
+    if bytes % 4 != 0 || side == Side::System && bytes > 4 * LONGEST_SYSTEM {
+        return Err(Refusal { side, reason: Reason::Bytes { found: bytes }, place: 0 });
+    }
+    Ok(())
+}
+
 /// The system of a file's bytes. Number 10 comes before all others.
 pub fn system(bytes: &[u8]) -> Result<System, Refusal> {
+    file(Side::System, bytes.len())?;
     let mut walk = Walk { side: Side::System, words: words_of(bytes), count: 0 };
-    if bytes.len() % 4 != 0 || bytes.len() > 4 * LONGEST_SYSTEM {
-        return walk.refuse(Reason::Bytes { found: bytes.len() });
-    }
     let (modulus, rows, columns) = system_head(&mut walk)?;
     let matrix = (0..rows).map(|_| walk.vector(modulus, columns)).collect::<Result<_, _>>()?;
     let right = walk.vector(modulus, rows)?;

@@ -49,7 +49,7 @@ impl Side {
 }
 
 impl Refusal {
-    /// The number in document 01's table. On a certificate, numbers are larger by 20.
+    /// The number in document 01's table. On a certificate, those of words are larger by 20.
     pub fn number(&self) -> u32 {
         let number = match self.reason {
             Reason::Head { .. } => 1,
@@ -61,7 +61,7 @@ impl Refusal {
             Reason::Range { .. } => 7,
             Reason::Leading => 8,
             Reason::Count { .. } | Reason::Behind => 9,
-            Reason::Bytes { .. } => 10,
+            Reason::Bytes { .. } => return 10,
         };
         if self.side == Side::System {
             number
@@ -99,7 +99,7 @@ impl Refusal {
             Reason::Leading => format!("{word} is the last coefficient of a polynomial, and must not be 0"),
             Reason::Count { found, words } => format!("{word} is the end of {words} words, and says {found}"),
             Reason::Behind => format!("{word} stands behind the end word"),
-            Reason::Bytes { found } => bytes_sentence(found),
+            Reason::Bytes { found } => self.bytes(found),
         }
     }
 
@@ -113,6 +113,15 @@ impl Refusal {
         }
     }
 
+    fn bytes(&self, found: usize) -> String {
+        let (name, most) = (self.side.name(), 4 * LONGEST_SYSTEM);
+        if self.side == Side::System && found > most {
+            format!("the file of a {name} has at most {most} bytes, and this one has more")
+        } else {
+            format!("the file of a {name} has four bytes for each word, and this one has {found} in all")
+        }
+    }
+
     fn due(&self, kind: Kind) -> String {
         match kind {
             Kind::SystemHead | Kind::CertificateHead => format!("the head of a {}", self.side.name()),
@@ -123,11 +132,3 @@ impl Refusal {
     }
 }
 
-fn bytes_sentence(found: usize) -> String {
-    let most = 4 * LONGEST_SYSTEM;
-    if found > most {
-        format!("the file of a sheet has at most {most} bytes, and this one has more")
-    } else {
-        format!("the file of a sheet has four bytes for each word, and this one has {found} in all")
-    }
-}

@@ -18,8 +18,7 @@ use Rattle.words.specs.BytesLaws.{length-bytesOf, wordsOf-bytesOf, file-read-of
 use Rattle.words.specs.Certificate.{Certificate, certificateWords}
 use Rattle.truth.specs.Verdict.{verdict}
 use Rattle.truth.specs.Accepted.{accepted-of-words}
-use Rattle.verifier.specs.File.{firstOf, fileVerdict}
-use Rattle.verifier.specs.File.FileOutcome.{told}
+use Rattle.verifier.specs.File.{fileVerdict}
 use Rattle.solver.specs.Solving.{withRoom, fileToSolve, certificateBytes, Gives, SolvesOr, SolvesFile}
 use Rattle.solver.specs.SolvingLaws.{gives-words, solved-gives}
 
@@ -36,7 +35,7 @@ bytes-are c = refl
 module _ (limits : Limits) (fit : LimitsFit limits) (file entry exit : List ℕ) where
   -- the system's file is not at fault, the certificate's is whole words, and the check accepts their words
   gives-accepted : {s : System} {count : ℕ} → readSystemFile limits file ≡ accepted s
-      → Gives limits certificateBytes s entry exit count → fileVerdict limits file (take count exit) ≡ told (accepted tt)
+      → Gives limits certificateBytes s entry exit count → fileVerdict limits file (take count exit) ≡ accepted tt
   unfolding readSystemFile fileVerdict
   gives-accepted {s} {count} e G =
       let ten = refuse-passed (broken file || tooLong limits file) 10 0 (readSystem limits (wordsOf file)) e in
@@ -44,10 +43,9 @@ module _ (limits : Limits) (fit : LimitsFit limits) (file entry exit : List ℕ)
       let ws = certificateWords (G .certificate) in
       let bytes : take count exit ≡ bytesOf ws = gives-words G ∙ bytes-are (G .certificate) in
       let told-of = verdict limits (wordsOf file) (wordsOf (take count exit)) in
-      ap (λ b. firstOf b (broken (take count exit)) told-of) (ten .0)
-      ∙ ap (λ b. firstOf false b told-of)
-      (ap broken bytes ∙ words-whole ws)
-      ∙ ap told (accepted-of-words limits fit (wordsOf file) (wordsOf (take count exit)) (record {
+      ap (λ b. refuse (b || broken (take count exit)) 10 0 told-of) (ten .0)
+      ∙ ap (λ b. refuse b 10 0 told-of) (ap broken bytes ∙ words-whole ws)
+      ∙ accepted-of-words limits fit (wordsOf file) (wordsOf (take count exit)) (record {
         system = s;
         certificate = G .certificate;
         system-words = read .0;
@@ -55,10 +53,10 @@ module _ (limits : Limits) (fit : LimitsFit limits) (file entry exit : List ℕ)
         certificate-words = ap wordsOf bytes ∙ wordsOf-bytesOf ws;
         certificate-within = G .within;
         right = G .right;
-      }))
+      })
 
   pub solved-file-accepted : (answer : Outcome ℕ) → SolvesFile limits file entry exit answer → (count : ℕ) → answer ≡ accepted count
-      → fileVerdict limits file (take count exit) ≡ told (accepted tt)
+      → fileVerdict limits file (take count exit) ≡ accepted tt
   solved-file-accepted answer h count a =
       let given = solved-gives limits certificateBytes (4 * longestCertificate limits) (length entry) (readSystemFile limits file)
       entry exit answer h count a in
@@ -76,7 +74,7 @@ module _ (limits : Limits) (fit : LimitsFit limits) (s : System) (within : Syste
       ∙ ap (λ t. refuse t 11 0 (accepted s)) (le-ltb (length entry) (4 * longestCertificate limits) room)
 
   pub every-file-solved : SolvesFile limits (bytesOf (systemWords s)) entry exit answer
-      → (count : ℕ) × (answer ≡ accepted count) × (fileVerdict limits (bytesOf (systemWords s)) (take count exit) ≡ told (accepted tt))
+      → (count : ℕ) × (answer ≡ accepted count) × (fileVerdict limits (bytesOf (systemWords s)) (take count exit) ≡ accepted tt)
   unfolding SolvesOr
   every-file-solved h =
       let given = subst (λ o. SolvesOr limits certificateBytes o entry exit answer) to-solve h in

@@ -6,7 +6,7 @@ use cases::output::refused;
 use cases::output::text;
 use file::read_file;
 use limits::Office;
-use verifier::file::FileVerdict;
+use verifier::Verdict;
 use verifier::file::check_files;
 
 // Two words more than the longest card has. A file that fills it is cut to one word more, on which the verdict is that on all, and as
@@ -20,12 +20,10 @@ fn say(what: &[u8], name: &[u8]) {
     text(b"\n");
 }
 
-// The verdict; `card` is the name of the second file.
-fn show(verdict: FileVerdict, card: &[u8]) {
+fn show(verdict: Verdict) {
     match verdict {
-        FileVerdict::Accepted => text(b"accepted\n"),
-        FileVerdict::Refused(refusal, place) => refused(refusal, place),
-        FileVerdict::NotCertificate => say(b"not a card file: ", card),
+        Verdict::Accepted => text(b"accepted\n"),
+        Verdict::Refused(refusal, place) => refused(refusal, place),
     }
 }
 
@@ -44,7 +42,7 @@ fn run(sheet: &[u8], card: &[u8]) {
     }
     let n = first.count;
     let m = second.count;
-    show(check_files(&system[0..n], &certificate[0..m]), card);
+    show(check_files(&system[0..n], &certificate[0..m]));
 }
 
 fn main() {

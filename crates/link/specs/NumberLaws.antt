@@ -1,5 +1,6 @@
--- The numbers of refusals are those of document 01's table: 1 to 9 of a system's words, 10 of its file, 11 of what is lent, 21 to 29
--- of a certificate's words, 31 to 36 of what it says. By nature laws of words, truth, solver and verifier.
+-- The numbers of refusals are those of document 01's table: 1 to 9 of a system's words, 10 of a file, 11 of what is lent, 21 to 29
+-- of a certificate's words, 31 to 36 of what it says. They stand here, and not with the definitions they speak of, because only
+-- packing asks how large a number is.
 use Prim.Native.Nat.{ℕ, zero, suc, _+_, _-_, _*_, _/_, _%_, _≤_}
 use mathlib.Core.Path.{_≡_, refl, sym, _∙_}
 use mathlib.Core.Bool.{Bool, true, false, not, _&&_, _||_}
@@ -28,8 +29,7 @@ use Rattle.words.specs.Certificate.Certificate.{solution, absence}
 use Rattle.truth.specs.Solution.{rowOf, columnOf, sideOf}
 use Rattle.truth.specs.Right.{certified}
 use Rattle.truth.specs.Verdict.{zero?, same?, monic?, refuseFirst, solutionVerdict, absenceVerdict, certificateVerdict, verdict}
-use Rattle.verifier.specs.File.{firstOf, fileVerdict}
-use Rattle.verifier.specs.File.FileOutcome.{told}
+use Rattle.verifier.specs.File.{filesBroken, fileVerdict}
 use Rattle.solver.specs.Solving.{fileToSolve, certificateBytes, SolvesOr, SolvesFile}
 
 abbrev pub Between : (low high number : ℕ) → Type 0
@@ -246,15 +246,8 @@ module _ (limits : Limits) where
       (refusals-wider 21 29 (omega arith) (omega arith) (certificate-numbers (shape s) cs)) (λ c.
       refusals-wider 31 36 (omega arith) (omega arith) (says-numbers s c)))
 
-  by-tests : (x y : Bool) (o : Outcome (Unit {0})) → Refusals 1 36 o → (number place : ℕ)
-      → firstOf x y o ≡ told (refused number place) → Between 1 36 number
-  by-tests true y o k number place e = let same : number ≡ 10 = cc in (omega arith, omega arith)
-  by-tests false true o k number place e = absurd (let z : _≡_ {A = ℕ} 0 1 = cc in omega arith)
-  by-tests false false o k number place e = k .numbers number place cc
-
-  pub check-numbers : (system certificate : List ℕ) (number place : ℕ)
-      → fileVerdict limits system certificate ≡ told (refused number place) → Between 1 36 number
+  pub check-numbers : (system certificate : List ℕ) → Refusals 1 36 (fileVerdict limits system certificate)
   unfolding fileVerdict
-  check-numbers system certificate number place e =
-      by-tests (broken system || tooLong limits system) (broken certificate) _ (verdict-numbers (wordsOf system) (wordsOf certificate))
-      number place e
+  check-numbers system certificate =
+      refusals-row (filesBroken limits system certificate) 10 0 _ (omega arith) (omega arith)
+      (verdict-numbers (wordsOf system) (wordsOf certificate))

@@ -7,19 +7,16 @@ use Rattle.words.specs.Limits.{Limits}
 use Rattle.words.specs.Outcome.{Outcome}
 use Rattle.words.specs.Outcome.Outcome.{accepted, refused}
 use Rattle.solver.specs.Solving.{SolvesFile}
-use Rattle.verifier.specs.File.{FileOutcome}
-use Rattle.verifier.specs.File.FileOutcome.{told, notCertificate}
 
 -- a count stands where a refusal has its place, with number 0
 abbrev pub packed : Outcome ℕ → ℕ
 packed (accepted count) = 64 * count
 packed (refused number place) = 64 * place + number
 
--- 0 is accepted; document 01 has no number for a file that is no certificate's: 63, at 0
-abbrev pub packedVerdict : FileOutcome → ℕ
-packedVerdict (told (accepted _)) = 0
-packedVerdict (told (refused number place)) = 64 * place + number
-packedVerdict notCertificate = 63
+-- 0 is accepted
+abbrev pub packedVerdict : Outcome (Unit {0}) → ℕ
+packedVerdict (accepted _) = 0
+packedVerdict (refused number place) = 64 * place + number
 
 -- some answer of the solver, packed: which certificate it is, is free as in `SolvesFile`
 pub record SolvesPacked (limits : Limits) (file entry exit : List ℕ) (r : ℕ) : Type 0 where

@@ -1,8 +1,8 @@
--- A packed answer can be taken apart: what the calls give has numbers 1 to 36, or 63, so `r % 64` is the number and `r / 64` the
+-- A packed answer can be taken apart: what the calls give has numbers 1 to 36, so `r % 64` is the number and `r / 64` the
 -- place or the count, and different answers are different numbers.
 use Prim.Native.Nat.{ℕ, _+_, _*_, _/_, _%_, _≤_}
 use mathlib.Core.Path.{_≡_, refl, sym, ap, ap₂, _∙_, subst}
-use mathlib.Core.Bool.{Bool, true, false, not}
+use mathlib.Core.Bool.{not}
 use mathlib.Core.List.{List}
 use native.Mathlib.Omega.{arith}
 use lib.Dec.{eqb}
@@ -11,10 +11,9 @@ use Rattle.words.specs.Limits.{Limits}
 use Rattle.words.specs.Outcome.{Outcome, refuse}
 use Rattle.words.specs.Outcome.Outcome.{accepted, refused}
 use Rattle.solver.specs.Solving.{SolvesFile}
-use Rattle.verifier.specs.File.{FileOutcome, fileVerdict}
-use Rattle.verifier.specs.File.FileOutcome.{told, notCertificate}
+use Rattle.verifier.specs.File.{fileVerdict}
 use Rattle.link.specs.Packed.{packed, packedVerdict, SolvesPacked}
-use Rattle.link.specs.NumberLaws.{Between, Refusals, refusals-wider, solver-numbers, check-numbers}
+use Rattle.link.specs.NumberLaws.{Refusals, refusals-wider, solver-numbers, check-numbers}
 
 -- ---- taking apart, as include/yezsdolak.h does: the number is what is left by 64, the place or count what is above it
 
@@ -25,12 +24,8 @@ refusedUnless0 number place a = refuse (not (eqb number 0)) number place (accept
 abbrev pub unpacked : ℕ → Outcome ℕ
 unpacked r = refusedUnless0 (r % 64) (r / 64) (r / 64)
 
-abbrev pub unless63 : Bool → Outcome (Unit {0}) → FileOutcome
-unless63 true words = notCertificate
-unless63 false words = told words
-
-abbrev pub unpackedVerdict : ℕ → FileOutcome
-unpackedVerdict r = unless63 (eqb (r % 64) 63) (refusedUnless0 (r % 64) (r / 64) tt)
+abbrev pub unpackedVerdict : ℕ → Outcome (Unit {0})
+unpackedVerdict r = refusedUnless0 (r % 64) (r / 64) tt
 
 refused-by : {A : Type 0} (number place : ℕ) (a : A) → 1 ≤ number → refusedUnless0 number place a ≡ refused number place
 refused-by number place a h =
@@ -73,25 +68,19 @@ solver-packs-apart h k = sym (solver-unpacked h) ∙ solver-unpacked k
 
 -- ---- the check
 
--- numbers that leave 63 to `notCertificate`
-unpacked-packedVerdict : (v : FileOutcome) → ((number place : ℕ) → v ≡ told (refused number place) → Between 1 62 number)
-    → unpackedVerdict (packedVerdict v) ≡ v
-unpacked-packedVerdict (told (accepted tt)) h = refl
-unpacked-packedVerdict (told (refused number place)) h =
-    let between = h number place refl in
-    let small : number ≤ 63 = omega arith in
-    ap₂ (λ n k. unless63 (eqb n 63) (refusedUnless0 n k tt)) (packed-number number place small) (packed-place number place small)
-    ∙ ap (λ b. unless63 b (refusedUnless0 number place tt)) (ne-eqb number 63 (λ e. omega arith))
-    ∙ ap told (refused-by number place tt (between .0))
-unpacked-packedVerdict notCertificate h = refl
+unpacked-packedVerdict : (v : Outcome (Unit {0})) → Refusals 1 63 v → unpackedVerdict (packedVerdict v) ≡ v
+unpacked-packedVerdict (accepted tt) h = refl
+unpacked-packedVerdict (refused number place) h =
+    let between = h .numbers number place refl in
+    ap₂ (λ n k. refusedUnless0 n k tt) (packed-number number place (between .1)) (packed-place number place (between .1))
+    ∙ refused-by number place tt (between .0)
 
 -- what the check gives, taken apart, is its verdict
 pub check-unpacked : (limits : Limits) (system certificate : List ℕ)
     → unpackedVerdict (packedVerdict (fileVerdict limits system certificate)) ≡ fileVerdict limits system certificate
 check-unpacked limits system certificate =
-    unpacked-packedVerdict (fileVerdict limits system certificate) (λ number place e.
-    let between = check-numbers limits system certificate number place e in
-    (between .0, omega arith))
+    unpacked-packedVerdict (fileVerdict limits system certificate)
+    (refusals-wider 1 36 (omega arith) (omega arith) (check-numbers limits system certificate))
 
 pub check-packs-apart : (limits limits′ : Limits) (system certificate system′ certificate′ : List ℕ)
     → packedVerdict (fileVerdict limits system certificate) ≡ packedVerdict (fileVerdict limits′ system′ certificate′)

@@ -3,14 +3,15 @@
 use file_solver::solve_file;
 use reporting::write_report;
 use solver::Solved;
-use verifier::file::FileVerdict;
+use verifier::Verdict;
 use verifier::file::check_files;
 ghost use Prim.Native.Nat.{_+_, _*_, _≤_};
 ghost use mathlib.Core.Path.{_≡_};
 ghost use Rattle.words.specs.Limits.{office};
 ghost use Rattle.solver.specs.Answer.{solvedOutcome};
 ghost use Rattle.solver.specs.FileLaws.{AnswerMost};
-ghost use Rattle.verifier.specs.File.{fileVerdict, fileOutcome};
+ghost use Rattle.conditions.specs.Answer.{verdictOutcome};
+ghost use Rattle.verifier.specs.File.{fileVerdict};
 ghost use Rattle.verifier.specs.FileLaws.{VerdictMost};
 ghost use Rattle.reporting.specs.Reporting.{ReportsFile};
 ghost use Rattle.link.specs.Packed.{packed, packedVerdict, SolvesPacked};
@@ -33,14 +34,13 @@ fn pack_solved(solved: Solved) -> u64
     }
 }
 
-fn pack_verdict(verdict: FileVerdict) -> u64
-    requires { ⌜ VerdictMost 2199 (fileOutcome verdict) ⌝ }
-    ensures { λ r. ⌜ r ≡ packedVerdict (fileOutcome verdict) ⌝ }
+fn pack_verdict(verdict: Verdict) -> u64
+    requires { ⌜ VerdictMost 2199 (verdictOutcome verdict) ⌝ }
+    ensures { λ r. ⌜ r ≡ packedVerdict (verdictOutcome verdict) ⌝ }
 {
     match verdict {
-        FileVerdict::Accepted => 0,
-        FileVerdict::Refused(number, place) => pack(number, place),
-        FileVerdict::NotCertificate => 63,
+        Verdict::Accepted => 0,
+        Verdict::Refused(number, place) => pack(number, place),
     }
 }
 

@@ -11,14 +11,13 @@ use lib.Dec.{leb}
 use borrow.Author.Tests.{eq-eqb, ne-eqb, lt-ltb, le-ltb, leb-true, leb-false}
 use Rattle.words.specs.Limits.{Limits, office, longestCertificate}
 use Rattle.words.specs.LimitsLaws.{LimitsFit, office-fits}
-use Rattle.words.specs.Outcome.{Outcome, followedBy}
-use Rattle.words.specs.Outcome.Outcome.{accepted, refused}
+use Rattle.words.specs.Outcome.{Outcome, refuse}
+use Rattle.words.specs.Outcome.Outcome.{refused}
 use Rattle.words.specs.Bytes.{wordsOf, broken, tooLong}
 use Rattle.unpacking.specs.Unpacking.{Unpacked}
 use Rattle.truth.specs.Verdict.{verdict}
 use Rattle.truth.specs.Prefix.{verdict-room}
-use Rattle.verifier.specs.File.{firstOf, fileVerdict}
-use Rattle.verifier.specs.File.FileOutcome.{told, notCertificate}
+use Rattle.verifier.specs.File.{fileVerdict}
 
 module _ (bytes before after : List ℕ) (count : ℕ) (h : Unpacked bytes before after count) where
   known : count ≤ length (wordsOf bytes)
@@ -47,15 +46,15 @@ module _ (bs cs : List ℕ) where
   fault : Bool
   fault = broken bs || tooLong office bs
 
-  first : (a b : Bool) → fault ≡ a → broken cs ≡ b → firstOf a b words ≡ fileVerdict office bs cs
+  first : (a b : Bool) → fault ≡ a → broken cs ≡ b → refuse (a || b) 10 0 words ≡ fileVerdict office bs cs
   unfolding fileVerdict fault words
   first a b ea eb = simp (sym ea, sym eb)
 
-  pub system-broken : (length bs % 4 ≡ 0 → ⊥) → told (refused 10 0) ≡ fileVerdict office bs cs
+  pub system-broken : (length bs % 4 ≡ 0 → ⊥) → refused 10 0 ≡ fileVerdict office bs cs
   unfolding fault
   system-broken h = first true (broken cs) (simp (ne-eqb (length bs % 4) 0 h)) refl
 
-  pub system-long : length bs % 4 ≡ 0 → 4904 < length bs → told (refused 10 0) ≡ fileVerdict office bs cs
+  pub system-long : length bs % 4 ≡ 0 → 4904 < length bs → refused 10 0 ≡ fileVerdict office bs cs
   unfolding fault
   system-long e h = first true (broken cs) (simp (eq-eqb (length bs % 4) 0 e, lt-ltb 4904 (length bs) h)) refl
 
@@ -64,13 +63,12 @@ module _ (bs cs : List ℕ) where
     unfolding fault
     whole = simp (eq-eqb (length bs % 4) 0 e, le-ltb 4904 (length bs) h)
 
-    pub certificate-none : (length cs % 4 ≡ 0 → ⊥) → notCertificate ≡ fileVerdict office bs cs
-    certificate-none n = first false true whole (simp (ne-eqb (length cs % 4) 0 n))
+    pub certificate-broken : (length cs % 4 ≡ 0 → ⊥) → refused 10 0 ≡ fileVerdict office bs cs
+    certificate-broken n = first false true whole (simp (ne-eqb (length cs % 4) 0 n))
 
     -- what is told of words that were unpacked
     pub both-whole : length cs % 4 ≡ 0 → {tells : Outcome (Unit {0})} (vs us : List ℕ) → tells ≡ verdict office vs us
-        → vs ≡ wordsOf bs → verdict office vs us ≡ verdict office vs (wordsOf cs) → told tells ≡ fileVerdict office bs cs
+        → vs ≡ wordsOf bs → verdict office vs us ≡ verdict office vs (wordsOf cs) → tells ≡ fileVerdict office bs cs
     unfolding words
     both-whole n vs us is same enough =
-        ap told (is ∙ enough ∙ ap (λ ws. verdict office ws (wordsOf cs)) same)
-        ∙ first false false whole (simp (eq-eqb (length cs % 4) 0 n))
+        is ∙ enough ∙ ap (λ ws. verdict office ws (wordsOf cs)) same ∙ first false false whole (simp (eq-eqb (length cs % 4) 0 n))

@@ -10,19 +10,18 @@ use lib.Dec.{ltb}
 use borrow.Author.Tests.{ltb-false}
 use Rattle.words.specs.Limits.{Limits, longestSystem, longestCertificate}
 use Rattle.words.specs.LimitsLaws.{LimitsFit}
-use Rattle.words.specs.Outcome.{Outcome}
-use Rattle.words.specs.Outcome.Outcome.{accepted, refused}
+use Rattle.words.specs.Outcome.{Outcome, refuse}
+use Rattle.words.specs.Outcome.Outcome.{refused}
 use Rattle.words.specs.Bytes.{wordsOf, broken, tooLong}
 use Rattle.words.specs.BytesLaws.{length-wordsOf}
 use Rattle.truth.specs.Verdict.{verdict}
 use Rattle.truth.specs.Places.{verdict-place}
 use Rattle.truth.specs.Prefix.{verdict-room}
-use Rattle.verifier.specs.File.{FileOutcome, firstOf, fileVerdict}
-use Rattle.verifier.specs.File.FileOutcome.{told, notCertificate}
+use Rattle.verifier.specs.File.{fileVerdict}
 
 -- a refusal's place is at most so much
-pub record VerdictMost (most : ℕ) (v : FileOutcome) : Type 0 where
-  pub places : (number place : ℕ) → v ≡ told (refused number place) → place ≤ most
+pub record VerdictMost (most : ℕ) (v : Outcome (Unit {0})) : Type 0 where
+  pub places : (number place : ℕ) → v ≡ refused number place → place ≤ most
 
 -- files that pass have few words
 passed-short : (b t : Bool) (most n : ℕ) → ltb (4 * most) n ≡ t → b || t ≡ false → n / 4 ≤ most
@@ -46,13 +45,12 @@ module _ (limits : Limits) (fit : LimitsFit limits) (system certificate : List �
     min-le-left (min (length (wordsOf certificate)) (longestCertificate limits + 1)) (length (wordsOf certificate)),
   )
 
-  by-tests : (x y : Bool) {number place : ℕ} → broken system || tooLong limits system ≡ x → broken certificate ≡ y
-      → firstOf x y (verdict limits (wordsOf system) (wordsOf certificate)) ≡ told (refused number place) → place ≤ b
+  by-tests : (x y : Bool) {number place : ℕ} → broken system || tooLong limits system ≡ x
+      → refuse (x || y) 10 0 (verdict limits (wordsOf system) (wordsOf certificate)) ≡ refused number place → place ≤ b
   unfolding first-words
-  by-tests true y {place = place} long whole e = let same : place ≡ 0 = cc in omega arith
-  by-tests false true long whole e = absurd (let z : _≡_ {A = ℕ} 0 1 = cc in omega arith)
-  by-tests false false {number} {place} long whole e =
-      let words : verdict limits (wordsOf system) (wordsOf certificate) ≡ refused number place = cc in
+  by-tests true y {place = place} long e = let same : place ≡ 0 = cc in omega arith
+  by-tests false true {place = place} long e = let same : place ≡ 0 = cc in omega arith
+  by-tests false false {number} {place} long words =
       let short = passed-short (broken system) (tooLong limits system) (longestSystem limits) (length system) refl long in
       verdict-place limits fit (wordsOf system) first-words b (omega (arith, length-wordsOf system, short))
       (omega (arith, few-words)) rows columns (omega arith)
@@ -61,5 +59,5 @@ module _ (limits : Limits) (fit : LimitsFit limits) (system certificate : List �
   pub file-verdict-most : VerdictMost b (fileVerdict limits system certificate)
   unfolding fileVerdict
   file-verdict-most = record {
-    places = λ number place e. by-tests (broken system || tooLong limits system) (broken certificate) refl refl e;
+    places = λ number place e. by-tests (broken system || tooLong limits system) (broken certificate) refl e;
   }

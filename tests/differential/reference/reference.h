@@ -3,13 +3,10 @@
 #define REFERENCE_H
 #include "words.h"
 
-// The number that the exported check gives for a certificate's file that holds no words; document 01 has none.
-enum { NOT_CERTIFICATE = 63 };
-
 // reading.c: numbers 10, 1 to 9; for a certificate 21, 24 to 29
 bool is_prime(uint32_t p);
 struct refusal read_system(struct system *s, const struct file *f);
-bool holds_words(const struct file *f); // whole ones, and at most one more than the longest certificate has
+bool holds_words(const struct file *f); // whole ones
 struct refusal read_certificate(struct certificate *c, const struct system *s, const struct file *f);
 
 // writing.c: the written form of values, whether or not they keep the bounds

@@ -78,14 +78,14 @@ struct refusal verdict(const struct system *s, const struct certificate *c)
     return c->kind == SOLUTION ? solution_verdict(s, c) : absence_verdict(s, c);
 }
 
-// 10 comes first, then a certificate's file without words, then the words of both
+// 10 comes first, of either file, then the words of both
 struct refusal check_files(const struct file *system, const struct file *certificate)
 {
     static struct system s;
     static struct certificate c;
     struct refusal r = read_system(&s, system);
     if (r.number != 10 && !holds_words(certificate))
-        return refused(NOT_CERTIFICATE, 0);
+        return refused(10, 0);
     if (r.number == 0)
         r = read_certificate(&c, &s, certificate);
     return r.number == 0 ? verdict(&s, &c) : r;

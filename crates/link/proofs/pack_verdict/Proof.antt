@@ -1,7 +1,7 @@
 -- A refusal is packed; what it is read from is the verdict.
 use mathlib.Core.Path.{sym, ap, _∙_}
 use native.Mathlib.Omega.{arith}
-use Rattle.verifier.specs.File.{fileOutcome}
+use Rattle.conditions.specs.Answer.{verdictOutcome}
 use Rattle.link.specs.Packed.{packedVerdict}
 use borrow.Author.Needs.{needs}
 use Rattle.link.proofs.pack_verdict.Statement.{statement}
@@ -14,19 +14,13 @@ enum-known-verdict : tie.Need-enum-known-verdict
 enum-known-verdict c = search needs
 
 pack-requires : tie.Need-pack-requires
-pack-requires c κs = omega (arith, c .before .before .before .pre .places _ _ (ap fileOutcome (c .before .verdict .given .1)))
-
-enum-told-2 : tie.Need-enum-told-2
-enum-told-2 c = search needs
+pack-requires c κs = omega (arith, c .before .before .before .pre .places _ _ (ap verdictOutcome (c .before .verdict .given .1)))
 
 returns : tie.Need-returns
 returns c = search needs
 
 returns-2 : tie.Need-returns-2
-returns-2 c = c .pack .ensures ∙ sym (ap (λ v. packedVerdict (fileOutcome v)) (c .before .before .verdict .given .1))
-
-returns-3 : tie.Need-returns-3
-returns-3 c = search needs
+returns-2 c = c .pack .ensures ∙ sym (ap (λ v. packedVerdict (verdictOutcome v)) (c .before .before .verdict .given .1))
 
 pub pack-verdict-spec : {M : Type 1} → statement M
-pack-verdict-spec = tie.close (tie.spec enum-told enum-known-verdict pack-requires enum-told-2 returns returns-2 returns-3)
+pack-verdict-spec = tie.close (tie.spec enum-told enum-known-verdict pack-requires returns returns-2)

@@ -1,9 +1,7 @@
--- Number 10, or no certificate, or the verdict on the words for which there is room, which is that on all.
-use mathlib.Core.Path.{sym, ap, _∙_}
+-- Number 10, or the verdict on the words for which there is room, which is that on all.
 use native.Mathlib.Omega.{arith}
 use Rattle.unpacking.proofs.UnpackTurns.{unpacked-all}
-use Rattle.conditions.specs.Answer.{verdictOutcome}
-use Rattle.verifier.proofs.Files.{system-broken, system-long, certificate-none, both-whole}
+use Rattle.verifier.proofs.Files.{system-broken, system-long, certificate-broken, both-whole}
 use Rattle.verifier.proofs.Files.{unpacked-length, unpacked-verdict}
 use borrow.Author.Needs.{needs}
 use Rattle.verifier.proofs.file.check_files.Statement.{statement}
@@ -16,7 +14,7 @@ returns-2 : tie.Need-returns-2
 returns-2 c = system-long _ _ (c .before .if1 .left) (c .if2 .taken)
 
 returns-3 : tie.Need-returns-3
-returns-3 c = certificate-none _ _ (c .before .before .if1 .left) (c .before .if2 .left) (c .if3 .taken)
+returns-3 c = certificate-broken _ _ (c .before .before .if1 .left) (c .before .if2 .left) (c .if3 .taken)
 
 slice-aggregate-unpack : tie.Need-slice-aggregate-unpack
 slice-aggregate-unpack c = search needs
@@ -45,29 +43,11 @@ slice-aggregate-check-2 c = unpacked-length _ _ _ _ (c .before .before .before .
 check-requires : tie.Need-check-requires
 check-requires c κs = search needs
 
-enum-told : tie.Need-enum-told
-enum-told c = search needs
-
-enum-known-verdict : tie.Need-enum-known-verdict
-enum-known-verdict c = search needs
-
 returns-4 : tie.Need-returns-4
 returns-4 c =
-    let checked = c .before .before in
-    let filled = checked .before .before .before .before in
+    let filled = c .before .before .before .before in
     let tests = filled .before .before .before .before .before in
-    both-whole _ _ (tests .before .before .if1 .left) (tests .before .if2 .left) (tests .if3 .left) _ _
-    (sym (ap verdictOutcome (c .enum-told .given .1)) ∙ checked .check .ensures)
-    (unpacked-all _ _ _ _ (filled .before .before .before .unpack .ensures) (omega arith) .1)
-    (unpacked-verdict _ _ _ _ (filled .unpack2 .ensures) (omega arith) _)
-
-returns-5 : tie.Need-returns-5
-returns-5 c =
-    let checked = c .before .before .before in
-    let filled = checked .before .before .before .before in
-    let tests = filled .before .before .before .before .before in
-    both-whole _ _ (tests .before .before .if1 .left) (tests .before .if2 .left) (tests .if3 .left) _ _
-    (sym (ap verdictOutcome (c .before .verdict .given .1)) ∙ checked .check .ensures)
+    both-whole _ _ (tests .before .before .if1 .left) (tests .before .if2 .left) (tests .if3 .left) _ _ (c .check .ensures)
     (unpacked-all _ _ _ _ (filled .before .before .before .unpack .ensures) (omega arith) .1)
     (unpacked-verdict _ _ _ _ (filled .unpack2 .ensures) (omega arith) _)
 
@@ -87,7 +67,4 @@ check-files-spec =
     array-share-prefix-certificate-words
     slice-aggregate-check-2
     check-requires
-    enum-told
-    enum-known-verdict
-    returns-4
-    returns-5)
+    returns-4)
