@@ -5,14 +5,13 @@ use mathlib.Core.List.{List, [], _∷_}
 use Prim.Native.Nat.{ℕ, _<_}
 use native.Mathlib.Omega.{arith}
 use lib.ListN.{length}
-use borrow.Author.Tests.{eqb-true}
+use borrow.Author.Tests.{eqb-true, not-false}
 use Rattle.algebra.specs.Coefficients.{leading}
 use Rattle.modular.specs.Modulo.{modulo}
 use Rattle.words.specs.Outcome.{refuse}
 use Rattle.words.specs.Outcome.Outcome.{accepted}
 use Rattle.words.specs.OutcomeLaws.{refuse-passed}
 use Rattle.truth.specs.Verdict.{monic?}
-use Rattle.truth.specs.RefusalLaws.{not-false}
 use Rattle.conditions.specs.Table.{tryMonic}
 
 pub monic-some : (p : ℕ) (f : List ℕ) → leading (modulo p) f ≡ 1 → 0 < length f

@@ -1,19 +1,17 @@
 -- What a lane of the quotients holds: how much it has room for, and what is read of it with strides.
-use Prim.Native.Nat.{ℕ, _+_, _-_, _*_, _%_, _<_, _≤_}
+use Prim.Native.Nat.{ℕ, _+_, _-_, _*_, _<_, _≤_}
 use mathlib.Core.Path.{_≡_, sym, _∙_, ap}
 use mathlib.Core.List.{List}
-use native.Mathlib.Nat.{zero-mod}
 use native.Mathlib.Omega.{arith}
 use native.Mathlib.Decide.{decLt}
 use lib.ListN.{getD}
-use Rattle.algebra.specs.Polynomial.{Polynomial, polynomials, coefficients, equal-coefficients, coefficients-zero}
+use Rattle.algebra.specs.Polynomial.{Polynomial, coefficients, equal-coefficients}
 use Rattle.algebra.specs.Size.{size, coefficients-beyond}
 use Rattle.modular.specs.Prime.{Prime}
-use Rattle.modular.specs.Residue.{Residue, residues}
-use Rattle.vector.specs.Bound.{AtMost}
-use Rattle.reduction.specs.Holds.{Holds, holds-size, read-at, read-beyond}
+use Rattle.modular.specs.Residue.{residues}
+use Rattle.reduction.specs.Holds.{holds-size, read-at, read-beyond}
 use Rattle.reduction.specs.Flat.{flat}
-use Rattle.lattice.specs.Word.{residue, words, words-first}
+use Rattle.lattice.specs.Word.{residue, words-first}
 use Rattle.lattice.specs.Range.{words-zero}
 use Rattle.lattice.specs.Quotients.{HoldsQuotient}
 use Rattle.descent.specs.Degrees.{FewDegrees}

@@ -1,6 +1,6 @@
 -- A turn of the loop over the coefficients: what is told of those that are still due, from the word at which the loop stands.
 use mathlib.Core.Path.{_≡_, refl, sym, ap, ap₂, _∙_}
-use mathlib.Core.Bool.{Bool, false, not, _&&_}
+use mathlib.Core.Bool.{false, _&&_}
 use mathlib.Core.List.{List, _∷_}
 use Prim.Native.Nat.{ℕ, zero, suc, _+_, _-_, _≤_, _<_}
 use native.Mathlib.Numerals.{add-one}
@@ -12,8 +12,7 @@ use borrow.Author.Tests.{eq-eqb, ne-eqb, le-leb, lt-leb}
 use Rattle.words.specs.Word.{kind, payload}
 use Rattle.words.specs.Outcome.{Outcome}
 use Rattle.words.specs.Outcome.Outcome.{accepted, refused}
-use Rattle.words.specs.Reading.{Reading, turnBack, andThen, wordsUsed}
-use Rattle.words.specs.Reading.Reading.{read, fault}
+use Rattle.words.specs.Reading.{wordsUsed}
 use Rattle.words.specs.Polynomial.{coefficientsFrom}
 use Rattle.words.specs.ReadingLaws.{wordsUsed-map}
 

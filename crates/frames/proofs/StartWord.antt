@@ -6,8 +6,7 @@ use native.Mathlib.Omega.{arith}
 use lib.ListN.{length, getD, drop}
 use borrow.Author.Tests.{eq-eqb, ne-eqb, le-ltb, lt-ltb}
 use Rattle.words.specs.Word.{kind, payload}
-use Rattle.words.specs.Outcome.{Outcome}
-use Rattle.words.specs.Outcome.Outcome.{accepted, refused}
+use Rattle.words.specs.Outcome.Outcome.{refused}
 use Rattle.words.specs.Reading.{wordsUsed}
 use Rattle.words.specs.Polynomial.{coefficientsFrom, polynomialFrom}
 

@@ -1,6 +1,6 @@
 -- A step of an insertion: the multiple of the slot at the pivot is taken off the hand, block and tail. It is a `Step` of
 -- `reduction`.
-use Prim.Native.Nat.{ℕ, _+_, _-_, _*_, _/_, _%_, _<_, _≤_, max}
+use Prim.Native.Nat.{ℕ, _+_, _-_, _*_, _/_, _<_, _≤_, max}
 use mathlib.Core.Path.{_≡_, refl, ap}
 use mathlib.Core.List.{List}
 use native.Mathlib.Omega.{arith}

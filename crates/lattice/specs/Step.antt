@@ -1,6 +1,6 @@
 -- A step on the block in hand: when there is one, and what it leaves. The slot at the block's pivot is filled and no longer than
 -- the block; the multiple of it that takes the leading word away is taken off.
-use Prim.Native.Nat.{ℕ, _-_, _*_, _/_, _%_, _<_, _≤_}
+use Prim.Native.Nat.{ℕ, _-_, _*_, _%_, _<_, _≤_}
 use mathlib.Core.Path.{_≡_}
 use mathlib.Core.List.{List}
 use native.Mathlib.Omega.{arith}

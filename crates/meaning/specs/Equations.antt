@@ -1,7 +1,7 @@
 -- The equations over the residues modulo p that a system's lists stand for: as `reduction` takes them, under any limits, and as the
 -- solver's contracts take them, under the office's.
 use Prim.Native.Nat.{ℕ, suc, _-_, _<_, _≤_}
-use mathlib.Core.Path.{_≡_, refl, ap}
+use mathlib.Core.Path.{_≡_, ap}
 use native.Mathlib.Omega.{arith}
 use lib.ListN.{length}
 use Rattle.algebra.specs.Polynomial.{Polynomial}
@@ -13,7 +13,7 @@ use Rattle.reduction.specs.System.{System as Equated}
 use Rattle.words.specs.Limits.{Limits, office}
 use Rattle.words.specs.System.{System, SystemWithin, entry, rightSide}
 use Rattle.words.specs.SystemLaws.{entry-within, rightSide-within}
-use Rattle.areas.specs.Input.{Equations, systemOf}
+use Rattle.areas.specs.Input.{Equations}
 use Rattle.meaning.specs.Lists.{listOf, list-length}
 
 -- "degree at most": one less than the greatest number of coefficients
@@ -72,6 +72,3 @@ module _ (s : System) (h : SystemWithin office s) where
     matrix-small = matrix-small office s h;
     right-small = right-small office s h;
   }
-
-  pub same-equations : systemOf (s .modulus) (h .shape .prime) (s .rows) (s .columns) equations ≡ equated office s h
-  same-equations = refl

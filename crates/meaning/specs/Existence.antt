@@ -21,10 +21,12 @@ use Rattle.words.specs.Polynomial.{Within, AllWithin, VectorWithin}
 use Rattle.words.specs.System.{System, SystemWithin, shape}
 use Rattle.words.specs.Certificate.{Certificate, CertificateWithin}
 use Rattle.words.specs.Certificate.Certificate.{solution, absence}
+use Rattle.truth.specs.Solution.{Answer, Answers}
 use Rattle.truth.specs.Right.{Right}
 use Rattle.meaning.specs.Lists.{listOf, list-canonical, list-length}
 use Rattle.meaning.specs.Equations.{systemDegree, equated}
 use Rattle.meaning.specs.RightLists.{solution-right, absence-right}
+use Rattle.meaning.specs.Answers.{answerOf, right-answers}
 
 -- f 0, .., f (n - 1)
 unfoldable listed : {A : Type 0} → ℕ → (ℕ → A) → List A
@@ -125,9 +127,18 @@ module _ (limits : Limits) (s : System) (h : SystemWithin limits s) where
   pub suffices-all : Suffices limits (limits .rows) (limits .columns) → Suffices limits (s .rows) (s .columns)
   suffices-all room = omega (arith, mul-le-mul-right (systemDegree limits) least)
 
+  -- so there is an answer, and one only (`answer-unique`): wherever there is a solution, there is a least denominator
+  pub answer-exists : Suffices limits (s .rows) (s .columns) → (a : Answer) × Answers s a
+  answer-exists room =
+      let R = certificate-exists room in
+      (answerOf (R .certificate), right-answers limits s h (R .certificate) (R .within) (R .right))
+
 -- "Degree 120 always suffices", and degree 28 on the panel
 pub office-certificate-exists : (s : System) → SystemWithin office s → RightCertificate office s
 office-certificate-exists s h = certificate-exists office s h (suffices-all office s h (omega arith))
+
+pub office-answer-exists : (s : System) → SystemWithin office s → (a : Answer) × Answers s a
+office-answer-exists s h = answer-exists office s h (suffices-all office s h (omega arith))
 
 pub panel-certificate-exists : (s : System) → SystemWithin panel s → RightCertificate panel s
 panel-certificate-exists s h = certificate-exists panel s h (suffices-all panel s h (omega arith))

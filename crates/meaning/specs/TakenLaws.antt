@@ -38,7 +38,7 @@ taken-at p output k (suc count) (suc j) h =
     taken-at p output (k + 1) count j (omega arith) ∙ ap (takenPolynomial p output) place
 
 module _ (p : ℕ) (positive : 0 < p) (output : List ℕ) where
-  polynomial-within : (k : ℕ) → Within p 121 (takenPolynomial p output k)
+  pub polynomial-within : (k : ℕ) → Within p 121 (takenPolynomial p output k)
   polynomial-within k = record {
     canonical = canonical-reduced p positive _;
     size = length-bound p _ 121 (canonical-reduced p positive _) (λ i h.

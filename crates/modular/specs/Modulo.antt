@@ -1,5 +1,4 @@
 -- Arithmetic modulo p on the numbers below p: K of document 01, "The system", as it is computed. Its laws are in `Residue`.
-use mathlib.Core.Bool.{Bool}
 use Prim.Native.Nat.{ℕ, zero, suc, _+_, _-_, _*_, _/_, _%_}
 use lib.Dec.{eqb}
 use Rattle.algebra.specs.Operations.{Operations}

@@ -1,11 +1,10 @@
 -- The first n words of f stored negated, in words that were below p: the polynomial read from them is minus that of f.
-use Prim.Native.Nat.{ℕ, zero, suc, _+_, _-_, _*_, _%_, _<_, _≤_}
+use Prim.Native.Nat.{ℕ, _+_, _-_, _*_, _%_, _<_, _≤_}
 use mathlib.Core.Path.{_≡_, sym, _∙_, ap}
 use mathlib.Core.List.{List}
-use native.Mathlib.Nat.{mod-lt}
 use native.Mathlib.Omega.{arith}
 use native.Mathlib.Decide.{decLt}
-use lib.ListN.{length, getD, replicate}
+use lib.ListN.{length, getD}
 use Rattle.ring.specs.Ring.{neg-zero}
 use Rattle.algebra.specs.Polynomial.{Polynomial, polynomials, coefficients, equal-coefficients, coefficients-neg}
 use Rattle.modular.specs.Prime.{Prime}

@@ -1,17 +1,15 @@
 -- What was packed is the certificate that `takenCertificate` takes from memory, and its words are those of the format.
-use Prim.Native.Nat.{ℕ, zero, suc, _+_, _-_, _*_, _%_, _≤_, _<_}
+use Prim.Native.Nat.{ℕ, zero, suc, _+_, _*_, _%_, _≤_, _<_}
 use native.Mathlib.Nat.{mod-eq-of-lt}
 use native.Mathlib.Omega.{arith}
 use mathlib.Core.Path.{_≡_, refl, sym, ap, ap₂, _∙_, subst}
 use mathlib.Core.Logic.{⊎-elim}
 use mathlib.Core.List.{List, _∷_}
-use lib.ListN.{length, getD, take, drop, length-take}
+use lib.ListN.{length, getD, take, drop}
 use Rattle.modular.specs.Coefficientwise.{coefficient-getD}
-use Rattle.vector.specs.Reduced.{reduced-is, canonical-reduced, word-inside, word-behind}
-use Rattle.vector.specs.Size.{size-reduced}
+use Rattle.vector.specs.Reduced.{reduced-is, word-inside, word-behind}
 use Rattle.vector.specs.Stored.{below-or-not}
 use Rattle.words.specs.Word.{AllBelow}
-use Rattle.words.specs.Polynomial.{Within}
 use Rattle.words.specs.Limits.{office, wordsFor}
 use Rattle.words.specs.System.{Shape, ShapeWithin}
 use Rattle.words.specs.Frame.{framedWords}
@@ -72,14 +70,6 @@ module _ (p : ℕ) (positive : 0 < p) (output : List ℕ) (below : AllBelow p ou
     -- so code may lend the polynomial as a part of the words
     pub taken-part : 128 * k + n ≤ length output → takenPolynomial p output k ≡ take n (drop (128 * k) output)
     taken-part inside = taken-is ∙ numbers-part output (128 * k) n inside
-
-  pub taken-within : (k : ℕ) → Within p 121 (takenPolynomial p output k)
-  taken-within k =
-      let held = take 121 (drop (128 * k) output) in
-      record {
-        canonical = canonical-reduced p positive held;
-        size = omega (arith, size-reduced p held, length-take 121 (drop (128 * k) output));
-      }
 
   module _ (sizes coefficients : List ℕ) (count : ℕ) (h : Packed output sizes coefficients count) where
     packed-numbers : (k : ℕ) → k < count → polynomialIn 121 sizes coefficients k ≡ numbersFrom output (128 * k) (getD sizes k 0)

@@ -9,7 +9,7 @@ use Rattle.words.specs.Outcome.{Outcome, mapped}
 use Rattle.words.specs.Outcome.Outcome.{accepted, refused}
 use Rattle.words.specs.Reading.{outcome, wordsUsed}
 use Rattle.words.specs.Reading.Reading.{read}
-use Rattle.words.specs.Frame.{Framed, bodyFrom, framedFrom}
+use Rattle.words.specs.Frame.{bodyFrom, framedFrom}
 use Rattle.words.specs.System.{Shape}
 use Rattle.words.specs.Certificate.{Form, certificateForm, certificateHeadFrom, entryCount, certificateDue, certificateAs}
 use Rattle.words.specs.Certificate.{certificateOf, certificateFrom, readCertificate}

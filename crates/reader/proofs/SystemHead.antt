@@ -1,6 +1,6 @@
 -- The head of a system, which is the first word: what is told at each test of the code.
 use mathlib.Core.Path.{_≡_, refl, ap, _∙_}
-use mathlib.Core.Bool.{Bool, true, false, not, _&&_}
+use mathlib.Core.Bool.{true, false}
 use mathlib.Core.List.{List, [], _∷_}
 use Prim.Native.Nat.{ℕ, suc, _-_, _/_, _%_}
 use native.Mathlib.Omega.{arith}

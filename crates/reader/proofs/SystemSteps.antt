@@ -1,7 +1,7 @@
 -- A whole system, from what is told of its head and of the words behind it.
 use mathlib.Core.Path.{_≡_, refl, sym, ap, _∙_}
 use mathlib.Core.List.{List}
-use Prim.Native.Nat.{ℕ, _+_, _*_, _≤_}
+use Prim.Native.Nat.{ℕ, _≤_}
 use native.Mathlib.Omega.{arith}
 use lib.ListN.{length, drop}
 use Rattle.words.specs.Limits.{Limits}
@@ -9,8 +9,8 @@ use Rattle.words.specs.Outcome.{Outcome, mapped}
 use Rattle.words.specs.Outcome.Outcome.{accepted, refused}
 use Rattle.words.specs.Reading.{outcome}
 use Rattle.words.specs.Reading.Reading.{read}
-use Rattle.words.specs.Frame.{Framed, framedFrom}
-use Rattle.words.specs.System.{Shape, shape, ShapeWithin, systemHeadFrom, systemDue, systemOf, systemFrom, readSystem}
+use Rattle.words.specs.Frame.{framedFrom}
+use Rattle.words.specs.System.{Shape, shape, systemHeadFrom, systemDue, systemOf, systemFrom, readSystem}
 use Rattle.words.specs.SystemLaws.{systemFrom-shown}
 use Rattle.words.specs.SystemHeadLaws.{head-read}
 use Rattle.reader.proofs.FrameSteps.{mapped-outcome, OfFrame, OfBody, frame-head-refused, frame-some, frame-body-refused}

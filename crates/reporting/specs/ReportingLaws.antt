@@ -1,36 +1,30 @@
--- A file has one report, which is written in one way.
+-- Every file has a report, and one only, which is written in one way.
 use mathlib.Core.Path.{_≡_, refl, sym, ap, _∙_}
-use mathlib.Core.Bool.{Bool, true, false, _||_}
+use mathlib.Core.Bool.{Bool, true, false}
 use mathlib.Core.List.{List, _++_}
 use Prim.Native.Nat.{ℕ, _≤_}
 use native.Mathlib.Omega.{arith}
 use lib.ListN.{length, drop, length-append}
 use lib.Dec.{ltb}
-use Rattle.words.specs.Limits.{Limits}
-use Rattle.words.specs.LimitsLaws.{LimitsFit}
+use Rattle.words.specs.Limits.{Limits, office}
+use Rattle.words.specs.LimitsLaws.{LimitsFit, office-fits}
 use Rattle.words.specs.Outcome.{Outcome}
 use Rattle.words.specs.Outcome.Outcome.{accepted, refused}
-use Rattle.words.specs.OutcomeLaws.{refuse-passed}
-use Rattle.words.specs.System.{System, SystemWithin}
-use Rattle.words.specs.SystemLaws.{system-written-of-read}
-use Rattle.words.specs.Bytes.{readSystemFile, wordsOf, broken, tooLong}
+use Rattle.words.specs.System.{System}
+use Rattle.words.specs.Bytes.{readSystemFile}
+use Rattle.words.specs.BytesLaws.{file-within}
 use Rattle.truth.specs.Accepted.{proper}
 use Rattle.truth.specs.Truth.{answer-unique}
+use Rattle.meaning.specs.Existence.{office-answer-exists}
 use Rattle.report.specs.Text.{reportText}
 use Rattle.reporting.specs.Reporting.{Reports, ReportOf, GivenUnless, space, ReportsFile}
 
 module _ (limits : Limits) (fit : LimitsFit limits) (file : List ℕ) where
-  -- a system that was read keeps the limits
-  read-within : (s : System) → readSystemFile limits file ≡ accepted s → SystemWithin limits s
-  unfolding readSystemFile
-  read-within s e =
-      system-written-of-read limits fit (wordsOf file) s (refuse-passed (broken file || tooLong limits file) 10 0 _ e .1) .1
-
   by-outcome : (o : Outcome System) → readSystemFile limits file ≡ o → (t t′ : List ℕ) → Reports o t → Reports o t′ → t ≡ t′
   unfolding Reports
   by-outcome (refused number place) e t t′ h h′ = h ∙ sym h′
   by-outcome (accepted s) e t t′ h h′ =
-      let same = answer-unique s (proper limits s (read-within s e)) (h .0) (h′ .0) (h .1) (h′ .1) in
+      let same = answer-unique s (proper limits s (file-within limits fit s file e)) (h .0) (h′ .0) (h .1) (h′ .1) in
       h .2 ∙ ap (λ a. reportText (accepted a)) same ∙ sym (h′ .2)
 
   pub report-unique : (t t′ : List ℕ) → ReportOf limits file t → ReportOf limits file t′ → t ≡ t′
@@ -51,6 +45,18 @@ module _ (limits : Limits) (fit : LimitsFit limits) (file : List ℕ) where
     pub reports-unique : ReportsFile limits file entry exit count → ReportsFile limits file entry exit′ count′
         → (exit ≡ exit′) × (count ≡ count′)
     reports-unique = by-space (ltb (length entry) space)
+
+-- there is a report of every file, since every system has an answer
+module _ (file : List ℕ) where
+  exists-by : (o : Outcome System) → readSystemFile office file ≡ o → (text : List ℕ) × Reports o text
+  unfolding Reports
+  exists-by (refused number place) e = (reportText (refused number place), refl)
+  exists-by (accepted s) e =
+      let answer = office-answer-exists s (file-within office office-fits s file e) in
+      (reportText (accepted (answer .0)), (answer .0, answer .1, refl))
+
+  pub report-exists : (text : List ℕ) × ReportOf office file text
+  report-exists = exists-by (readSystemFile office file) refl
 
 -- the report is among the lent bytes
 module _ (entry exit : List ℕ) {count : ℕ} where

@@ -1,7 +1,7 @@
 -- An equation as a linear combination of equations that hold: l ≡ r where l - r is the sum of u·(p - q) over hypotheses p ≡ q.
 --   combination R l r (given u e ∷ given u′ e′ ∷ []) (identity R .. refl)
 -- What is left to show is a ring identity, l + (u·q + ..) ≡ r + (u·p + ..), for `identity`.
-use mathlib.Core.Path.{_≡_, refl, sym, _∙_, ap, ap₂}
+use mathlib.Core.Path.{_≡_, refl, _∙_, ap, ap₂}
 use mathlib.Core.List.{List, [], _∷_}
 use Rattle.ring.specs.Ring.{Ring, add-cancel}
 

@@ -1,7 +1,7 @@
 -- The solver on identities of two to nine variables, and an equation from two others.
-use Prim.Native.Nat.{ℕ, zero, suc}
+use Prim.Native.Nat.{zero}
 use mathlib.Core.Path.{_≡_, refl}
-use mathlib.Core.List.{List, [], _∷_}
+use mathlib.Core.List.{[], _∷_}
 use Rattle.ring.specs.Ring.{Ring}
 use Rattle.ring.specs.Identity.{quotes, identity}
 use Rattle.ring.specs.Combination.{given, combination}

@@ -1,5 +1,5 @@
 -- A commutative ring: operations and laws.
-use mathlib.Core.Path.{_≡_, refl, sym, _∙_, ap, ap₂}
+use mathlib.Core.Path.{_≡_, sym, _∙_, ap, ap₂}
 
 pub record Ring (A : Type 0) : Type 0 where
   pub add : A → A → A

@@ -6,7 +6,7 @@ use mathlib.Core.List.{List, [], _∷_}
 use native.Mathlib.Nat.{add-suc, mul-suc}
 use native.Mathlib.Nat.{add-zero as addₙ-zero, mul-zero as mulₙ-zero}
 use native.Mathlib.Omega.{arith}
-use Rattle.ring.specs.Ring.{Ring, zero-add, neg-add, one-mul, add-mul, add-left-comm, mul-left-comm, add-add-add-comm, add-cancel, mul-zero, zero-mul, neg-unique, neg-neg, neg-zero, neg-add-distrib, mul-neg, neg-mul}
+use Rattle.ring.specs.Ring.{Ring, zero-add, neg-add, add-mul, add-left-comm, mul-left-comm, add-add-add-comm, add-cancel, mul-zero, zero-mul, neg-neg, neg-zero, neg-add-distrib, mul-neg, neg-mul}
 
 infixl 65 _:+_
 infixl 65 _:-_

@@ -2,7 +2,6 @@
 -- with the bounds apart.
 use Prim.Native.Nat.{ℕ, zero, suc, _-_, _<_}
 use mathlib.Core.Path.{_≡_, refl, sym, _∙_, ap, ap₂}
-use mathlib.Core.List.{List, [], _∷_}
 use native.Mathlib.Omega.{arith}
 use mathlib.Core.Logic.{ite, if-pos, if-neg}
 use native.Mathlib.Decide.{ℕ-discrete}

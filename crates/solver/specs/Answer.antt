@@ -1,7 +1,6 @@
 -- What the solver's answer says: the count of the certificate's words, or bytes where files are meant, or the number and the place of
 -- document 01's table.
 use Prim.Native.Nat.{ℕ}
-use mathlib.Core.Bool.{Bool, true, false}
 use Rattle.words.specs.Outcome.{Outcome}
 use Rattle.words.specs.Outcome.Outcome.{accepted, refused}
 use Rattle.solver.specs.declared.Solved.{Solved}

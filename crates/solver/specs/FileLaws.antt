@@ -1,8 +1,8 @@
 -- Counts and places of the answers to files are small: a certificate's file has at most the bytes of the longest certificate, and a
 -- refusal's place is at most the number of words of the longest system.
 use Prim.Native.Nat.{ℕ, _*_, _≤_}
-use mathlib.Core.Path.{_≡_, refl, sym, ap, _∙_, subst}
-use mathlib.Core.Bool.{Bool, true, false, _||_}
+use mathlib.Core.Path.{_≡_, refl, sym, _∙_, subst}
+use mathlib.Core.Bool.{Bool, true, false}
 use mathlib.Core.List.{List}
 use native.Mathlib.Omega.{arith}
 use lib.ListN.{length}
@@ -13,10 +13,9 @@ use Rattle.words.specs.Outcome.{Outcome, refuse}
 use Rattle.words.specs.Outcome.Outcome.{accepted, refused}
 use Rattle.words.specs.OutcomeLaws.{refused-accepted, followedBy-accepted, refuse-passed}
 use Rattle.words.specs.FaultLaws.{file-place}
-use Rattle.words.specs.System.{System, SystemWithin, shape}
-use Rattle.words.specs.SystemLaws.{system-written-of-read}
-use Rattle.words.specs.Bytes.{wordsOf, broken, tooLong, readSystemFile}
-use Rattle.words.specs.BytesLaws.{length-bytesOf}
+use Rattle.words.specs.System.{System, shape}
+use Rattle.words.specs.Bytes.{readSystemFile}
+use Rattle.words.specs.BytesLaws.{length-bytesOf, file-within}
 use Rattle.words.specs.Certificate.{certificateWords}
 use Rattle.words.specs.CertificateLaws.{certificateWords-most}
 use Rattle.solver.specs.Solving.{withRoom, fileToSolve, certificateBytes, Gives, SolvesOr, SolvesFile}
@@ -38,17 +37,12 @@ room-place most longest lent (accepted s) h number place e = by-room (ltb lent l
     by-room false e = absurd (refused-accepted (sym e))
 
 module _ (limits : Limits) (fit : LimitsFit limits) (file entry exit : List ℕ) (answer : Outcome ℕ) where
-  read-within : (s : System) → readSystemFile limits file ≡ accepted s → SystemWithin limits s
-  unfolding readSystemFile
-  read-within s e =
-      system-written-of-read limits fit (wordsOf file) s (refuse-passed (broken file || tooLong limits file) 10 0 _ e .1) .1
-
   gives-most : {s : System} {count : ℕ} → readSystemFile limits file ≡ accepted s → Gives limits certificateBytes s entry exit count
       → count ≤ 4 * longestCertificate limits
   unfolding certificateBytes
   gives-most {s} e G =
       let c = G .certificate in
-      let words = certificateWords-most limits (shape s) fit (read-within s e .shape) c (G .within) in
+      let words = certificateWords-most limits (shape s) fit (file-within limits fit s file e .shape) c (G .within) in
       omega (arith, G .same-count, length-bytesOf (certificateWords c), words)
 
   by-system : (o : Outcome System) → fileToSolve limits (length entry) file ≡ o

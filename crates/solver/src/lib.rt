@@ -9,7 +9,6 @@ use reader::system::SystemRead;
 use reader::system::read_system;
 use writer::certificate::Form;
 ghost use mathlib.Core.Path.{_≡_};
-ghost use mathlib.Core.Bool.{Bool};
 ghost use Prim.Native.Nat.{_≤_};
 ghost use lib.ListN.{length};
 ghost use Rattle.words.specs.Limits.{office};

@@ -1,30 +1,27 @@
 -- Demand 2: "a card is accepted for a sheet when the check, handed the words of both, turns nothing back, and that is exactly when the
 -- card's words are the written form of a right card or of an absence card for that sheet, all degrees at most 120".
-use Prim.Native.Nat.{ℕ, _<_}
+use Prim.Native.Nat.{ℕ}
 use mathlib.Core.Path.{_≡_, refl, sym, _∙_, ap, subst}
 use mathlib.Core.Logic.{_↔_}
-use mathlib.Core.Bool.{Bool, true, false, not}
+use mathlib.Core.Bool.{Bool, not}
 use mathlib.Core.List.{List, [], _∷_}
-use lib.Dec.{eqb}
-use borrow.Author.Tests.{eqb-true, eq-eqb}
-use Rattle.ring.specs.Ring.{Ring}
+use borrow.Author.Tests.{eqb-true, eq-eqb, not-false}
 use Rattle.algebra.specs.Coefficients.{mul, leading, remainder}
 use Rattle.modular.specs.Modulo.{modulo}
 use Rattle.modular.specs.Canonical.{Canonical}
 use Rattle.modular.specs.Values.{NumberPolynomial, equal-numbers}
 use Rattle.modular.specs.Numbers.{numbers}
-use Rattle.modular.specs.Carried.{numberArithmetic}
-use Rattle.modular.specs.DivisionLaws.{divisionLaws, DivisionLaws}
+use Rattle.modular.specs.DivisionLaws.{divisionLaws}
 use Rattle.words.specs.Limits.{Limits}
 use Rattle.words.specs.LimitsLaws.{LimitsFit}
-use Rattle.words.specs.Polynomial.{Within, AllWithin, VectorWithin}
+use Rattle.words.specs.Polynomial.{AllWithin}
 use Rattle.words.specs.System.{System, shape, rightSide, SystemWithin, systemWords, readSystem}
 use Rattle.words.specs.SystemLaws.{system-read-of-written, system-written-of-read}
 use Rattle.words.specs.Certificate.{Certificate, CertificateWithin, SolutionWithin, certificateWords, readCertificate}
 use Rattle.words.specs.Certificate.Certificate.{solution, absence}
 use Rattle.words.specs.CertificateLaws.{certificate-read-of-written, certificate-written-of-read}
 use Rattle.words.specs.Outcome.{Outcome, refuse, followedBy}
-use Rattle.words.specs.Outcome.Outcome.{accepted, refused}
+use Rattle.words.specs.Outcome.Outcome.{accepted}
 use Rattle.words.specs.OutcomeLaws.{refuse-passed, passed-refuse, followedBy-accepted}
 use Rattle.truth.specs.Solution.{AllCanonical, Monic, Divides, rowOf, columnOf, sideOf}
 use Rattle.truth.specs.Right.{RightSolution, RightAbsence, Right, certified}
@@ -111,12 +108,12 @@ module _ (s : System) (h : Proper s) where
         let columns = RefusalLaws.refuseFirst-passed (s .columns) wrong-column 33 from-34 tt (rows .rest) in
         let last = refuse-passed (not (same? (certified s w Z) d)) 34 0 (accepted tt) (columns .rest) in
         record {
-          monic = eqb-true (leading (modulo p) d) 1 (RefusalLaws.not-false (monic? p d) (first .0));
-          certifyingMonic = eqb-true (leading (modulo p) w) 1 (RefusalLaws.not-false (monic? p w) (second .0));
-          rows = λ i k. RefusalLaws.same?-true _ _ (RefusalLaws.not-false _ (rows .free i k));
+          monic = eqb-true (leading (modulo p) d) 1 (not-false (monic? p d) (first .0));
+          certifyingMonic = eqb-true (leading (modulo p) w) 1 (not-false (monic? p w) (second .0));
+          rows = λ i k. RefusalLaws.same?-true _ _ (not-false _ (rows .free i k));
           columns = λ j k. column-divides w Z (P .certifyingDenominator) (P .certifyingNumerators) j
-              (RefusalLaws.zero?-true _ (RefusalLaws.not-false _ (columns .free j k)));
-          denominators = RefusalLaws.same?-true (certified s w Z) d (RefusalLaws.not-false _ (last .0));
+              (RefusalLaws.zero?-true _ (not-false _ (columns .free j k)));
+          denominators = RefusalLaws.same?-true (certified s w Z) d (not-false _ (last .0));
         }
 
     pub right-accepted : RightSolution s d N w Z → solutionVerdict s d N w Z ≡ accepted tt
@@ -140,7 +137,7 @@ module _ (s : System) (q : List (List ℕ)) where
       let columns = RefusalLaws.refuseFirst-passed (s .columns) wrong-product 35 (refuse (zero? (sideOf s q)) 36 0 (accepted tt)) tt e in
       let last = refuse-passed (zero? (sideOf s q)) 36 0 (accepted tt) (columns .rest) in
       record {
-        columns = λ j k. RefusalLaws.zero?-true _ (RefusalLaws.not-false _ (columns .free j k));
+        columns = λ j k. RefusalLaws.zero?-true _ (not-false _ (columns .free j k));
         side = RefusalLaws.zero?-false _ (last .0);
       }
 

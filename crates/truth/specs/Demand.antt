@@ -1,11 +1,10 @@
 -- Demand 3's truth, of words: whatever the words are and however they came about, an accepted certificate tells the truth.
 use Prim.Native.Nat.{ℕ}
-use mathlib.Core.Path.{_≡_, refl, sym, _∙_, ap, subst}
+use mathlib.Core.Path.{_≡_, sym, _∙_, ap, subst}
 use mathlib.Core.List.{List}
 use Rattle.words.specs.Limits.{Limits}
 use Rattle.words.specs.LimitsLaws.{LimitsFit}
 use Rattle.words.specs.Outcome.Outcome.{accepted}
-use Rattle.words.specs.Polynomial.{VectorWithin}
 use Rattle.words.specs.Outcome.{followedBy}
 use Rattle.words.specs.System.{System, SystemWithin, shape, systemWords, readSystem}
 use Rattle.words.specs.SystemLaws.{systemWords-injective, system-written-of-read}

@@ -1,6 +1,6 @@
 -- Every vector of fractions has one denominator (document 01, "The system": "*the* monic polynomial of least degree that, times y, leaves
 -- only polynomials"): e divided by the greatest common divisor of e and the numerators. "The vector zero has denominator 1."
-use Prim.Native.Nat.{ℕ, zero, suc, _<_, _≤_}
+use Prim.Native.Nat.{ℕ, zero, suc, _<_}
 use mathlib.Core.Path.{_≡_, refl, sym, _∙_, ap, subst}
 use mathlib.Core.List.{List, [], _∷_}
 use native.Mathlib.Omega.{arith}
@@ -10,24 +10,24 @@ use Rattle.ring.specs.Ring.{Ring, one-mul}
 use Rattle.ring.specs.Identity.{quotes, identity}
 use Rattle.ring.specs.Combination.{given, combination}
 use Rattle.algebra.specs.Coefficients.{mul, leading, gcd}
-use Rattle.algebra.specs.Sized.{Sized, size-positive, size-mul-nonzero, mul-nonzero-left, mul-nonzero-right}
-use Rattle.algebra.specs.Divides.{Divides as DividesIn, divides-refl, divides-equal, divides-trans, divides-mul, divides-combination, divides-size, divides-product, mul-divides-cancel, mul-divides-mul}
+use Rattle.algebra.specs.Sized.{size-positive, size-mul-nonzero, mul-nonzero-left, mul-nonzero-right}
+use Rattle.algebra.specs.Divides.{Divides as DividesIn, divides-refl, divides-equal, divides-trans, divides-mul, divides-combination, divides-size, mul-divides-cancel}
 use Rattle.algebra.specs.Bezout.{Greatest}
 use Rattle.modular.specs.Prime.{Prime}
 use Rattle.modular.specs.Modulo.{modulo}
 use Rattle.modular.specs.Canonical.{Canonical}
 use Rattle.modular.specs.Closed.{canonical-nil}
 use Rattle.modular.specs.Residue.{Residue}
-use Rattle.modular.specs.Values.{NumberPolynomial, equal-numbers}
+use Rattle.modular.specs.Values.{NumberPolynomial}
 use Rattle.modular.specs.Arithmetic.{Arithmetic}
 use Rattle.modular.specs.Carried.{numberArithmetic}
 use Rattle.modular.specs.SizeLaws.{sized}
-use Rattle.modular.specs.DivisionLaws.{divisionLaws, DivisionLaws}
-use Rattle.modular.specs.MonicLaws.{monicLaws, MonicLaws}
-use Rattle.modular.specs.GcdLaws.{gcdLaws, GcdLaws}
+use Rattle.modular.specs.DivisionLaws.{divisionLaws}
+use Rattle.modular.specs.MonicLaws.{monicLaws}
+use Rattle.modular.specs.GcdLaws.{gcdLaws}
 use Rattle.modular.specs.Numbers.{numbers}
 use Rattle.truth.specs.Solution.{AllCanonical, Divides, Clears, Monic, Denominator}
-use Rattle.truth.specs.Lift.{canonical-at, vector, divides-list, divides-lift}
+use Rattle.truth.specs.Lift.{vector, divides-list, divides-lift}
 
 module _ (p : ℕ) (prime : Prime p) where
   abbrev P : Type 0

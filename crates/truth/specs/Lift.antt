@@ -1,9 +1,9 @@
 -- Systems and vectors of polynomials, as lists, are equations over the ring of polynomials modulo p: what is proved in the ring
 -- (`Witness`) is said of the lists (`Solution`).
-use Prim.Native.Nat.{ℕ, zero, suc, _<_}
-use mathlib.Core.Path.{_≡_, refl, sym, _∙_, ap, ap₂}
+use Prim.Native.Nat.{ℕ, zero, suc}
+use mathlib.Core.Path.{_≡_, refl, ap}
 use mathlib.Core.List.{List, [], _∷_}
-use lib.ListN.{length, getD}
+use lib.ListN.{getD}
 use Rattle.ring.specs.Ring.{Ring}
 use Rattle.ring.specs.Sum.{sum}
 use Rattle.algebra.specs.Coefficients.{mul, add}

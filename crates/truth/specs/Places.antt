@@ -1,5 +1,5 @@
 -- Places of the verdict's refusals: at most the number of words of a list, or that of rows or columns.
-use Prim.Native.Nat.{ℕ, zero, suc, _+_, _≤_}
+use Prim.Native.Nat.{ℕ, zero, suc, _≤_}
 use mathlib.Core.Path.{_≡_, refl, sym}
 use mathlib.Core.Bool.{Bool, true, false, not}
 use mathlib.Core.List.{List}
@@ -13,7 +13,7 @@ use Rattle.words.specs.Outcome.{Outcome, refuse, followedBy}
 use Rattle.words.specs.Outcome.Outcome.{accepted, refused}
 use Rattle.words.specs.OutcomeLaws.{refused-accepted}
 use Rattle.words.specs.FaultLaws.{system-place, certificate-place}
-use Rattle.words.specs.System.{System, SystemWithin, shape, rightSide, readSystem}
+use Rattle.words.specs.System.{System, shape, rightSide, readSystem}
 use Rattle.words.specs.SystemLaws.{system-written-of-read}
 use Rattle.words.specs.Certificate.{Certificate, readCertificate}
 use Rattle.words.specs.Certificate.Certificate.{solution, absence}

@@ -42,10 +42,6 @@ passed-refuseFirst (suc n) holds number next a free e = passed-refuseFirst n hol
 
 -- ---- the tests
 
-pub not-false : (b : Bool) → not b ≡ false → b ≡ true
-not-false true e = refl
-not-false false e = absurd (let z : _≡_ {A = ℕ} 0 1 = cc in omega arith)
-
 pub true-not : {b : Bool} → b ≡ true → not b ≡ false
 true-not {b} e = ap not e
 

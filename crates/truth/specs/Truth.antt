@@ -1,18 +1,17 @@
 -- Demand 3's truth, of the definitions, for every prime, every number of rows and columns and every degree: a right solution
 -- certificate gives the least denominator, with a right absence certificate there is no solution, and no system has both.
-use Prim.Native.Nat.{ℕ, _<_, _≤_}
-use mathlib.Core.Path.{_≡_, refl, sym, _∙_, ap, ap₂, subst}
+use Prim.Native.Nat.{ℕ, _<_}
+use mathlib.Core.Path.{_≡_, refl, sym, _∙_, ap, subst}
 use mathlib.Core.List.{List, [], _∷_}
 use native.Mathlib.Omega.{arith}
 use lib.ListN.{length, getD}
-use Rattle.ring.specs.Ring.{Ring, mul-zero}
+use Rattle.ring.specs.Ring.{Ring}
 use Rattle.ring.specs.Identity.{quotes, identity}
 use Rattle.ring.specs.Combination.{given, combination}
 use Rattle.algebra.specs.Coefficients.{mul, monic, quotient, gcd}
 use Rattle.algebra.specs.Sized.{Sized, cancel-mul, mul-cancel}
 use Rattle.algebra.specs.Divides.{Divides as DividesIn, divides-size}
 use Rattle.algebra.specs.Bezout.{Greatest}
-use Rattle.modular.specs.Prime.{Prime}
 use Rattle.modular.specs.Modulo.{modulo}
 use Rattle.modular.specs.Canonical.{Canonical}
 use Rattle.modular.specs.Residue.{Residue}
@@ -20,12 +19,12 @@ use Rattle.modular.specs.Values.{NumberPolynomial, equal-numbers}
 use Rattle.modular.specs.Arithmetic.{Arithmetic}
 use Rattle.modular.specs.Carried.{numberArithmetic}
 use Rattle.modular.specs.SizeLaws.{sized}
-use Rattle.modular.specs.DivisionLaws.{divisionLaws, DivisionLaws}
-use Rattle.modular.specs.MonicLaws.{monicLaws, MonicLaws}
-use Rattle.modular.specs.GcdLaws.{gcdLaws, GcdLaws}
+use Rattle.modular.specs.DivisionLaws.{divisionLaws}
+use Rattle.modular.specs.MonicLaws.{monicLaws}
+use Rattle.modular.specs.GcdLaws.{gcdLaws}
 use Rattle.modular.specs.Numbers.{numbers}
 use Rattle.words.specs.System.{System}
-use Rattle.truth.specs.Solution.{AllCanonical, RationalSolution, Divides, Clears, Monic, Denominator, LeastDenominator, Answer, Answers, rowOf, columnOf, sideOf}
+use Rattle.truth.specs.Solution.{AllCanonical, RationalSolution, Divides, Clears, Monic, Denominator, LeastDenominator, Answer, Answers, columnOf, sideOf}
 use Rattle.truth.specs.Solution.Answer.{none, least}
 use Rattle.truth.specs.Right.{RightSolution, RightAbsence, certified}
 use Rattle.truth.specs.Lift.{Proper, canonical-at, ringOf, equations, vector, row-list, column-list, side-list, divides-list, divides-lift}

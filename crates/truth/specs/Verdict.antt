@@ -8,7 +8,7 @@ use Rattle.algebra.specs.Coefficients.{mul, leading, divide, remainder}
 use Rattle.modular.specs.Modulo.{modulo}
 use Rattle.words.specs.Limits.{Limits}
 use Rattle.words.specs.Outcome.{Outcome, refuse, followedBy}
-use Rattle.words.specs.Outcome.Outcome.{accepted, refused}
+use Rattle.words.specs.Outcome.Outcome.{accepted}
 use Rattle.words.specs.System.{System, rightSide, shape, readSystem}
 use Rattle.words.specs.Certificate.{Certificate, readCertificate}
 use Rattle.words.specs.Certificate.Certificate.{solution, absence}

@@ -2,7 +2,7 @@
 -- dividing Z·A bounds the denominators of A·y = b from below, and a row q with q·A = 0 and q·b not 0 excludes every solution.
 use Prim.Native.Nat.{ℕ, _<_}
 use mathlib.Core.Path.{_≡_, refl, sym, _∙_, ap}
-use mathlib.Core.List.{List, [], _∷_}
+use mathlib.Core.List.{[], _∷_}
 use Rattle.ring.specs.Ring.{Ring, mul-left-comm, zero-mul}
 use Rattle.ring.specs.Identity.{quotes, identity}
 use Rattle.ring.specs.Combination.{given, combination}

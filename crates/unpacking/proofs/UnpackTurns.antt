@@ -1,11 +1,11 @@
 -- A turn of the loop that unpacks bytes: the words before the loop's place are unpacked, those from it on are as they were lent.
 use mathlib.Core.Path.{_≡_, refl, sym, ap, ap₂, _∙_}
-use mathlib.Core.List.{List, [], _∷_, _++_, append-assoc}
+use mathlib.Core.List.{List, _∷_, _++_}
 use Prim.Native.Nat.{ℕ, suc, _+_, _*_, _/_, _≤_, _<_, min}
 use native.Mathlib.Nat.{min-le-left, min-le-right, min-eq-left}
 use native.Mathlib.Numerals.{add-one}
 use native.Mathlib.Omega.{arith}
-use lib.ListN.{length, getD, take, drop, set, length-set, length-append, length-drop}
+use lib.ListN.{length, getD, take, drop, set, length-append, length-drop}
 use lib.Seq.{length-take-le, take-suc, drop-cons, set-at, append-snoc, take-length, take-append-seam}
 use Rattle.words.specs.Bytes.{wordAt, wordsOf}
 use Rattle.words.specs.BytesLaws.{length-wordsOf, wordsOf-at}

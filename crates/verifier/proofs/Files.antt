@@ -1,16 +1,15 @@
 -- What is decided of the bytes of files before their words are looked at, and that the words that there is room for decide.
 use mathlib.Core.Path.{_≡_, refl, sym, ap, _∙_}
-use mathlib.Core.Bool.{Bool, true, false, not, _||_}
-use mathlib.Core.List.{List, _++_}
-use Prim.Native.Nat.{ℕ, _%_, _*_, _≤_, _<_, min}
-use native.Mathlib.Nat.{min-le-left, min-eq-left, min-eq-right}
+use mathlib.Core.Bool.{Bool, true, false, _||_}
+use mathlib.Core.List.{List}
+use Prim.Native.Nat.{ℕ, _%_, _≤_, _<_}
+use native.Mathlib.Nat.{min-le-left}
 use native.Mathlib.Omega.{arith}
 use lib.ListN.{length, take, drop}
-use lib.Seq.{length-take-le, take-at, take-length}
-use lib.Dec.{leb}
-use borrow.Author.Tests.{eq-eqb, ne-eqb, lt-ltb, le-ltb, leb-true, leb-false}
-use Rattle.words.specs.Limits.{Limits, office, longestCertificate}
-use Rattle.words.specs.LimitsLaws.{LimitsFit, office-fits}
+use lib.Seq.{length-take-le, take-at}
+use borrow.Author.Tests.{eq-eqb, ne-eqb, lt-ltb, le-ltb}
+use Rattle.words.specs.Limits.{office, longestCertificate}
+use Rattle.words.specs.LimitsLaws.{office-fits}
 use Rattle.words.specs.Outcome.{Outcome, refuse}
 use Rattle.words.specs.Outcome.Outcome.{refused}
 use Rattle.words.specs.Bytes.{wordsOf, broken, tooLong}

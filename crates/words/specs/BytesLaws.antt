@@ -1,22 +1,20 @@
 -- Words as bytes and back, and systems as files.
-use mathlib.Core.Path.{_≡_, refl, sym, ap, ap₂, _∙_, subst}
-use mathlib.Core.Bool.{Bool, true, false, not, _||_}
+use mathlib.Core.Path.{_≡_, refl, sym, ap, ap₂, _∙_}
+use mathlib.Core.Bool.{Bool, true, false, _||_}
 use mathlib.Core.Logic.{_↔_}
 use mathlib.Core.List.{List, [], _∷_}
 use Prim.Native.Nat.{ℕ, zero, suc, _+_, _*_, _/_, _%_, _≤_, _<_}
 use native.Mathlib.Omega.{arith}
 use lib.ListN.{length, getD}
-use lib.Dec.{eqb, ltb}
 use borrow.Author.Tests.{eq-eqb, ne-eqb, eqb-true, lt-ltb, le-ltb, not-false}
 use Rattle.words.specs.Limits.{Limits, longestSystem}
-use Rattle.words.specs.Word.{Words, Bytes}
-use Rattle.words.specs.Outcome.{Outcome, refuse}
+use Rattle.words.specs.Word.{Bytes}
 use Rattle.words.specs.Outcome.Outcome.{accepted, refused}
 use Rattle.words.specs.System.{System, SystemWithin, systemWords, readSystem}
 use Rattle.words.specs.Bytes.{wordOf, wordAt, wordsOf, bytesOf, broken, tooLong, readSystemFile}
+use Rattle.words.specs.OutcomeLaws.{refuse-passed}
 use Rattle.words.specs.LimitsLaws.{LimitsFit}
 use Rattle.words.specs.SystemLaws.{system-read-of-written, system-written-of-read, systemWords-most}
-use Rattle.words.specs.WidthLaws.{systemWords-words}
 
 pub length-wordsOf : (bytes : List ℕ) → length (wordsOf bytes) ≡ length bytes / 4
 unfolding wordsOf
@@ -89,12 +87,6 @@ pub file-passed : (limits : Limits) (bytes : List ℕ) → length bytes % 4 ≡ 
 unfolding readSystemFile
 file-passed limits bytes h k = simp (eq-eqb _ _ h, le-ltb _ _ k)
 
--- row 10 was passed
-refuse-passed : {A : Type 0} (b : Bool) (number place : ℕ) (next : Outcome A) (a : A) → refuse b number place next ≡ accepted a
-    → (b ≡ false) × (next ≡ accepted a)
-refuse-passed true number place next a e = absurd (let z : _≡_ {A = ℕ} 0 1 = cc in omega arith)
-refuse-passed false number place next a e = (refl, e)
-
 or-false : (a b : Bool) → a || b ≡ false → a ≡ false
 or-false true b e = e
 or-false false b e = refl
@@ -108,12 +100,18 @@ module _ (limits : Limits) (fit : LimitsFit limits) (s : System) where
       ∙ ap (readSystem limits) (wordsOf-bytesOf (systemWords s))
       ∙ system-read-of-written limits fit s h
 
+  -- a system that was read from a file keeps the limits
+  pub file-within : (bytes : List ℕ) → readSystemFile limits bytes ≡ accepted s → SystemWithin limits s
+  unfolding readSystemFile
+  file-within bytes e =
+      system-written-of-read limits fit (wordsOf bytes) s (refuse-passed (broken bytes || tooLong limits bytes) 10 0 _ e .1) .1
+
   module _ (bytes : List ℕ) (small : Bytes bytes) where
     pub file-written-of-read : readSystemFile limits bytes ≡ accepted s
         → (bytes ≡ bytesOf (systemWords s)) × SystemWithin limits s
     unfolding readSystemFile
     file-written-of-read e =
-        let t = refuse-passed (broken bytes || tooLong limits bytes) 10 0 _ s e in
+        let t = refuse-passed (broken bytes || tooLong limits bytes) 10 0 _ e in
         let whole = eqb-true _ _ (not-false _ (or-false (broken bytes) (tooLong limits bytes) (t .0))) in
         let r = system-written-of-read limits fit (wordsOf bytes) s (t .1) in
         (sym (bytesOf-wordsOf bytes small whole) ∙ ap bytesOf (r .0), r .1)

@@ -1,26 +1,24 @@
 -- Certificates as words: the reader accepts just the written forms of certificates within the limits and gives their values back.
-use mathlib.Core.Path.{_≡_, refl, sym, ap, ap₂, _∙_, subst₂}
+use mathlib.Core.Path.{_≡_, refl, sym, ap, ap₂, _∙_}
 use mathlib.Core.Bool.{Bool, true, false, not, _&&_, _||_}
 use mathlib.Core.Logic.{_↔_}
 use mathlib.Core.List.{List, [], _∷_, _++_}
-use Prim.Native.Nat.{ℕ, suc, _+_, _*_, _≤_, _<_}
+use Prim.Native.Nat.{ℕ, suc, _+_, _≤_}
 use native.Mathlib.Nat.{le-trans}
 use native.Mathlib.Numerals.{add-one}
 use native.Mathlib.Omega.{arith}
-use lib.ListN.{length, getD, take, drop, take-append-drop}
+use lib.ListN.{length, getD, take, drop}
 use lib.Seq.{take-at, drop-at, getD-at, drop-drop, split-at}
 use lib.Dec.{eqb}
-use borrow.Author.Tests.{eq-eqb, ne-eqb, eqb-true}
+use borrow.Author.Tests.{eqb-true}
 use Rattle.words.specs.Limits.{Limits, solutionCount, longestCertificate}
-use Rattle.words.specs.Word.{kind, payload, word}
-use Rattle.words.specs.Outcome.{Outcome}
-use Rattle.words.specs.Outcome.Outcome.{accepted, refused}
-use Rattle.words.specs.Reading.{Reading, turnBack, outcome}
-use Rattle.words.specs.Reading.Reading.{read, fault}
+use Rattle.words.specs.Word.{kind, payload}
+use Rattle.words.specs.Outcome.Outcome.{accepted}
+use Rattle.words.specs.Reading.{outcome}
+use Rattle.words.specs.Reading.Reading.{read}
 use Rattle.words.specs.Polynomial.{Within, VectorWithin}
-use Rattle.words.specs.Frame.{Framed}
 use Rattle.words.specs.System.{Shape, ShapeWithin}
-use Rattle.words.specs.Certificate.{Certificate, Form, SolutionWithin, CertificateWithin, certificateForm}
+use Rattle.words.specs.Certificate.{Certificate, Form, CertificateWithin, certificateForm}
 use Rattle.words.specs.Certificate.{certificateEntries, formWord, certificateWords, formOf, certificateHeadFrom, entryCount}
 use Rattle.words.specs.Certificate.{certificateDue, certificateAs, certificateOf, certificateFrom, readCertificate}
 use Rattle.words.specs.Certificate.Certificate.{solution, absence}

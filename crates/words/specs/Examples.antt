@@ -3,7 +3,6 @@ use mathlib.Core.Path.{_≡_, refl}
 use Prim.Native.Nat.{ℕ}
 use mathlib.Core.List.{List, [], _∷_, map}
 use Rattle.words.specs.Limits.{office, panel, longestSystem, longestCertificate}
-use Rattle.words.specs.Outcome.{Outcome}
 use Rattle.words.specs.Outcome.Outcome.{accepted, refused}
 use Rattle.words.specs.System.{System, shape, systemWords, readSystem}
 use Rattle.words.specs.Certificate.{Certificate, certificateWords, readCertificate}

@@ -1,15 +1,14 @@
 -- Values in framed words: read-of-written, written-of-read and what follows from them, stated once for both formats.
-use mathlib.Core.Path.{_≡_, refl, sym, ap, _∙_, subst}
+use mathlib.Core.Path.{_≡_, sym, ap, _∙_, subst}
 use mathlib.Core.Logic.{_↔_}
 use mathlib.Core.List.{List, []}
 use Prim.Native.Nat.{ℕ, _≤_}
-use native.Mathlib.Omega.{arith}
 use lib.ListN.{length}
 use Rattle.words.specs.Limits.{wordsFor}
 use Rattle.words.specs.Outcome.{Outcome}
-use Rattle.words.specs.Outcome.Outcome.{accepted, refused}
+use Rattle.words.specs.Outcome.Outcome.{accepted}
 use Rattle.words.specs.Reading.{Reading, andThen, outcome}
-use Rattle.words.specs.Reading.Reading.{read, fault}
+use Rattle.words.specs.Reading.Reading.{read}
 use Rattle.words.specs.Frame.{Due, Framed, framedWords, framedFrom}
 use Rattle.words.specs.ReadingLaws.{andThen-read, outcome-accepted}
 use Rattle.words.specs.FrameLaws.{HeadLaws, Expressible, Entries, framedWords-most, framed-written, framed-read}

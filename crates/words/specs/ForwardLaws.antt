@@ -3,14 +3,13 @@
 use mathlib.Core.Path.{_≡_}
 use mathlib.Core.Bool.{Bool, true, false, not, _&&_}
 use mathlib.Core.List.{List, [], _∷_}
-use Prim.Native.Nat.{ℕ, zero, suc, _+_, _-_, _≤_}
+use Prim.Native.Nat.{ℕ, zero, suc, _-_, _≤_}
 use native.Mathlib.Nat.{le-refl, le-trans}
 use native.Mathlib.Omega.{arith}
 use lib.ListN.{length}
 use lib.Dec.{eqb, leb, ltb}
 use Rattle.words.specs.Word.{kind, payload}
-use Rattle.words.specs.Outcome.{Outcome}
-use Rattle.words.specs.Outcome.Outcome.{accepted, refused}
+use Rattle.words.specs.Outcome.Outcome.{refused}
 use Rattle.words.specs.Reading.{Reading, turnBack, andThen, wordsUsed}
 use Rattle.words.specs.Reading.Reading.{read, fault}
 use Rattle.words.specs.Polynomial.{coefficientsFrom, polynomialFrom, polynomialsFrom}

@@ -1,18 +1,18 @@
 -- Framed words read and written, once for systems and certificates: over the head, what is due behind it, the refusals' numbers.
-use mathlib.Core.Path.{_≡_, refl, sym, ap, _∙_, subst, subst₂}
+use mathlib.Core.Path.{_≡_, ap, _∙_, subst, subst₂}
 use mathlib.Core.Bool.{not}
 use mathlib.Core.List.{List, [], _∷_, _++_}
-use Prim.Native.Nat.{ℕ, zero, suc, _+_, _-_, _*_, _≤_, _<_}
+use Prim.Native.Nat.{ℕ, _+_, _-_, _*_, _≤_, _<_}
 use native.Mathlib.Omega.{arith}
 use lib.ListN.{length, length-append}
 use lib.Dec.{eqb}
 use borrow.Author.Tests.{eq-eqb, eqb-true, not-false}
 use Rattle.words.specs.Limits.{wordsFor}
 use Rattle.words.specs.Word.{kind, payload, word}
-use Rattle.words.specs.Reading.{Reading, turnBack, andThen, renumber}
-use Rattle.words.specs.Reading.Reading.{read, fault}
-use Rattle.words.specs.Polynomial.{AllWithin, VectorWithin, polynomialsWords, polynomialsFrom}
-use Rattle.words.specs.Frame.{Due, Framed, endWord, framedWords, nothingFrom, endFrom, bodyFrom, framedFrom}
+use Rattle.words.specs.Reading.{Reading, renumber}
+use Rattle.words.specs.Reading.Reading.{read}
+use Rattle.words.specs.Polynomial.{VectorWithin, polynomialsWords, polynomialsFrom}
+use Rattle.words.specs.Frame.{Due, Framed, endWord, framedWords, endFrom, bodyFrom, framedFrom}
 use Rattle.words.specs.WordLaws.{kind-word, word-of}
 use Rattle.words.specs.ReadingLaws.{fault-read, turnBack-read, andThen-read, renumber-read}
 use Rattle.words.specs.PolynomialLaws.{polynomials-written, polynomials-read, length-polynomialsWords}

@@ -1,9 +1,8 @@
 -- Limits that the words can hold: sizes fit into four bits, numbers of coefficients and of words into a payload.
-use mathlib.Core.Path.{_≡_}
-use Prim.Native.Nat.{ℕ, _+_, _*_, _≤_, _<_}
+use Prim.Native.Nat.{ℕ, _+_, _≤_, _<_}
 use native.Mathlib.Nat.{mul-le-mul}
 use native.Mathlib.Omega.{arith}
-use Rattle.words.specs.Limits.{Limits, office, panel, systemCount, solutionCount, wordsFor}
+use Rattle.words.specs.Limits.{Limits, office, panel, systemCount, wordsFor}
 
 pub record LimitsFit (limits : Limits) : Type 0 where
   pub rows : limits .rows ≤ 15

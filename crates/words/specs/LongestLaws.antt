@@ -1,6 +1,6 @@
 -- The longest written forms are reached: by polynomials of as many coefficients as the limits allow, all of them 1, modulo 2.
-use mathlib.Core.Path.{_≡_, refl, sym, ap, _∙_}
-use mathlib.Core.List.{List, [], _∷_, _++_, append-assoc}
+use mathlib.Core.Path.{_≡_, refl}
+use mathlib.Core.List.{List, [], _∷_, _++_}
 use Prim.Native.Nat.{ℕ, zero, suc, _+_, _*_, _≤_, _<_}
 use native.Mathlib.Nat.{le-refl, le-of-eq}
 use native.Mathlib.Omega.{arith}
@@ -10,9 +10,8 @@ use Rattle.modular.specs.Primality.{prime-of-true}
 use Rattle.modular.specs.Prime.{prime?}
 use Rattle.words.specs.Limits.{Limits, longestSystem, longestCertificate}
 use Rattle.words.specs.Polynomial.{Within, AllWithin, VectorWithin, polynomialWords, polynomialsWords}
-use Rattle.words.specs.Frame.{framedWords}
 use Rattle.words.specs.System.{System, shape, SystemWithin, headWord, systemEntries, systemWords}
-use Rattle.words.specs.Certificate.{Certificate, CertificateWithin, SolutionWithin, certificateForm, certificateEntries}
+use Rattle.words.specs.Certificate.{Certificate, CertificateWithin, certificateForm, certificateEntries}
 use Rattle.words.specs.Certificate.{formWord, certificateWords}
 use Rattle.words.specs.Certificate.Certificate.{solution}
 use Rattle.words.specs.PolynomialLaws.{length-polynomialWords}

@@ -8,7 +8,7 @@ use lib.ListN.{length, getD, take, drop, length-append}
 use lib.Seq.{drop-at, drop-drop}
 use Rattle.modular.specs.Canonical.{Canonical}
 use Rattle.words.specs.Word.{payload, word}
-use Rattle.words.specs.Polynomial.{Within, polynomialWords, polynomialsWords}
+use Rattle.words.specs.Polynomial.{polynomialWords, polynomialsWords}
 use Rattle.words.specs.Frame.{endWord, framedWords, entryPlace}
 use Rattle.words.specs.PolynomialLaws.{length-polynomialWords}
 

@@ -1,16 +1,16 @@
 -- Reading the words of polynomials gives them back, and what is read was written so.
 use mathlib.Core.Path.{_≡_, refl, sym, ap, ap₂, _∙_, subst₂}
-use mathlib.Core.Bool.{Bool, true, false, not, _&&_}
+use mathlib.Core.Bool.{false, not, _&&_}
 use mathlib.Core.List.{List, [], _∷_, _++_, map, append-assoc}
 use Prim.Native.Nat.{ℕ, zero, suc, _+_, _*_, _≤_, _<_}
 use native.Mathlib.Omega.{arith}
 use lib.ListN.{length, length-append, length-map}
 use lib.Dec.{eqb, leb, ltb}
-use borrow.Author.Tests.{eqb-true, eqb-false, eq-eqb, ne-eqb, lt-leb, le-ltb, leb-false, ltb-false}
+use borrow.Author.Tests.{eqb-false, eq-eqb, ne-eqb, lt-leb, le-ltb, leb-false, ltb-false}
 use Rattle.modular.specs.Canonical.{Ends, Canonical}
 use Rattle.words.specs.Word.{kind, payload, word}
-use Rattle.words.specs.Reading.{Reading, turnBack, andThen}
-use Rattle.words.specs.Reading.Reading.{read, fault}
+use Rattle.words.specs.Reading.{Reading}
+use Rattle.words.specs.Reading.Reading.{read}
 use Rattle.words.specs.Polynomial.{Within, AllWithin, VectorWithin, polynomialWords, polynomialsWords, coefficientsFrom}
 use Rattle.words.specs.Polynomial.{polynomialFrom, polynomialsFrom}
 use Rattle.words.specs.WordLaws.{kind-word, payload-word, word-of}

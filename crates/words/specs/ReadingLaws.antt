@@ -2,11 +2,9 @@
 use mathlib.Core.Path.{_≡_, refl, ap}
 use mathlib.Core.Bool.{Bool, true, false, not, _&&_}
 use mathlib.Core.List.{List}
-use Prim.Native.Nat.{ℕ, _+_, _≤_}
+use Prim.Native.Nat.{ℕ}
 use native.Mathlib.Omega.{arith}
-use lib.ListN.{length}
-use Rattle.words.specs.Outcome.{Outcome, mapped}
-use Rattle.words.specs.Outcome.Outcome.{accepted, refused}
+use Rattle.words.specs.Outcome.Outcome.{accepted}
 use Rattle.words.specs.Reading.{Reading, turnBack, andThen, renumber, outcome, wordsUsed}
 use Rattle.words.specs.Reading.Reading.{read, fault}
 

@@ -1,6 +1,6 @@
 -- The head of a system: reading what was written, and what was read.
-use mathlib.Core.Path.{_≡_, refl, ap, subst₂}
-use mathlib.Core.Bool.{Bool, true, not, _&&_}
+use mathlib.Core.Path.{_≡_, ap, subst₂}
+use mathlib.Core.Bool.{true, not, _&&_}
 use mathlib.Core.List.{List, [], _∷_}
 use Prim.Native.Nat.{ℕ, _+_, _*_, _/_, _%_, _≤_, _<_}
 use native.Mathlib.Omega.{arith}
@@ -8,20 +8,19 @@ use lib.Dec.{eqb, leb}
 use borrow.Author.Tests.{eqb-true, eq-eqb, not-false, le-leb, leb-true}
 use Rattle.modular.specs.Prime.{prime?}
 use Rattle.modular.specs.Primality.{prime-of-true, true-of-prime}
-use Rattle.words.specs.Word.{kind, word}
+use Rattle.words.specs.Word.{kind}
 use Rattle.words.specs.Limits.{Limits}
-use Rattle.words.specs.Reading.{Reading, turnBack}
-use Rattle.words.specs.Reading.Reading.{read, fault}
+use Rattle.words.specs.Reading.Reading.{read}
 use Rattle.words.specs.System.{Shape, ShapeWithin, headWord, headShape, oneTo, systemHeadFrom}
 use Rattle.words.specs.ReadingLaws.{fault-read, turnBack-read, and-passed}
 use Rattle.words.specs.LimitsLaws.{LimitsFit}
 use Rattle.modular.specs.LargestPrime.{prime-largest}
 use Rattle.words.specs.FrameLaws.{HeadLaws}
 
-oneTo-true : (most n : ℕ) → 1 ≤ n → n ≤ most → oneTo most n ≡ true
+pub oneTo-true : (most n : ℕ) → 1 ≤ n → n ≤ most → oneTo most n ≡ true
 oneTo-true most n low high = simp (le-leb 1 n low, le-leb n most high)
 
-oneTo-from : (most n : ℕ) → oneTo most n ≡ true → (1 ≤ n) × (n ≤ most)
+pub oneTo-from : (most n : ℕ) → oneTo most n ≡ true → (1 ≤ n) × (n ≤ most)
 oneTo-from most n e = let t = and-passed (leb 1 n) (leb n most) (ap not e) in (leb-true 1 n (t .0), leb-true n most (t .1))
 
 -- the low four bits

@@ -1,17 +1,15 @@
 -- Systems as words: the reader accepts just the written forms of systems within the limits and gives their values back.
-use mathlib.Core.Path.{_≡_, refl, sym, ap, ap₂, _∙_}
+use mathlib.Core.Path.{_≡_, refl, ap, ap₂}
 use mathlib.Core.Logic.{_↔_}
-use mathlib.Core.List.{List, [], _∷_, _++_}
-use Prim.Native.Nat.{ℕ, _+_, _*_, _≤_, _<_}
+use mathlib.Core.List.{List}
+use Prim.Native.Nat.{ℕ, _+_, _*_, _≤_}
 use native.Mathlib.Nat.{le-trans, mul-le-mul}
 use native.Mathlib.Omega.{arith}
-use lib.ListN.{length, take, drop, take-append-drop}
+use lib.ListN.{length, take-append-drop}
 use lib.Seq.{take-at, drop-at}
-use Rattle.words.specs.Limits.{Limits, systemCount, longestSystem}
-use Rattle.words.specs.Outcome.{Outcome}
-use Rattle.words.specs.Outcome.Outcome.{accepted, refused}
-use Rattle.words.specs.Reading.{Reading, outcome}
-use Rattle.words.specs.Reading.Reading.{read, fault}
+use Rattle.words.specs.Limits.{Limits, longestSystem}
+use Rattle.words.specs.Outcome.Outcome.{accepted}
+use Rattle.words.specs.Reading.{outcome}
 use Rattle.words.specs.Polynomial.{Within}
 use Rattle.words.specs.Frame.{Framed}
 use Rattle.words.specs.System.{System, Shape, shape, entry, rightSide, ShapeWithin, SystemWithin, headWord, systemEntries}

@@ -1,9 +1,9 @@
 -- Several polynomials within a limit: joined, split, and one of them.
-use mathlib.Core.Path.{_≡_, refl, ap, _∙_}
+use mathlib.Core.Path.{_≡_, ap, _∙_}
 use mathlib.Core.List.{List, [], _∷_, _++_}
-use Prim.Native.Nat.{ℕ, zero, suc, _+_, _≤_}
+use Prim.Native.Nat.{ℕ, zero, suc, _+_}
 use native.Mathlib.Omega.{arith}
-use lib.ListN.{length, getD, take, drop, length-append, length-drop}
+use lib.ListN.{getD, take, drop, length-append, length-drop}
 use lib.Seq.{length-take-le}
 use Rattle.modular.specs.Canonical.{Canonical}
 use Rattle.words.specs.Polynomial.{Within, AllWithin, VectorWithin}

@@ -1,13 +1,12 @@
 -- Written forms are made of 32-bit words.
-use mathlib.Core.Path.{_≡_, subst}
 use mathlib.Core.List.{List, [], _∷_, _++_, map}
-use Prim.Native.Nat.{ℕ, zero, suc, _+_, _*_, _≤_, _<_}
+use Prim.Native.Nat.{ℕ, zero, suc, _+_, _≤_, _<_}
 use native.Mathlib.Omega.{arith}
-use lib.ListN.{length, getD}
+use lib.ListN.{length}
 use Rattle.modular.specs.Canonical.{Canonical}
-use Rattle.words.specs.Limits.{Limits, wordsFor}
+use Rattle.words.specs.Limits.{Limits}
 use Rattle.words.specs.Word.{word, AllBelow, Words}
-use Rattle.words.specs.Polynomial.{Within, AllWithin, VectorWithin, polynomialWords, polynomialsWords}
+use Rattle.words.specs.Polynomial.{Within, AllWithin, polynomialWords, polynomialsWords}
 use Rattle.words.specs.Frame.{Due, endWord, framedWords}
 use Rattle.words.specs.System.{System, shape, SystemWithin, headWord, systemEntries, systemWords}
 use Rattle.words.specs.System.{Shape, ShapeWithin}

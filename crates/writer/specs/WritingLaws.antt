@@ -1,10 +1,10 @@
 -- The trial of p, n and m: it is made first, whatever comes next; and it refuses nothing exactly where they keep the limits.
-use mathlib.Core.Path.{_≡_, refl, ap}
+use mathlib.Core.Path.{_≡_, refl}
 use mathlib.Core.Bool.{Bool, true, false, not, _&&_, _||_}
-use Prim.Native.Nat.{ℕ, _≤_}
+use Prim.Native.Nat.{ℕ}
 use native.Mathlib.Omega.{arith}
-use lib.Dec.{leb, ltb}
-use borrow.Author.Tests.{le-leb, le-ltb, leb-true, ltb-false, not-false}
+use lib.Dec.{ltb}
+use borrow.Author.Tests.{le-ltb, ltb-false, not-false}
 use Rattle.modular.specs.Prime.{prime?}
 use Rattle.modular.specs.Primality.{prime-of-true, true-of-prime}
 use Rattle.words.specs.Limits.{Limits, largestModulus}
@@ -13,6 +13,7 @@ use Rattle.words.specs.Outcome.Outcome.{accepted}
 use Rattle.words.specs.OutcomeLaws.{refuse-passed}
 use Rattle.words.specs.System.{Shape, ShapeWithin, oneTo}
 use Rattle.words.specs.ReadingLaws.{and-passed}
+use Rattle.words.specs.SystemHeadLaws.{oneTo-true, oneTo-from}
 use Rattle.trial.specs.Trial.{passed}
 use Rattle.trial.specs.TrialLaws.{after, refuse-after}
 use Rattle.writer.specs.Writing.{refuseShape}
@@ -21,12 +22,6 @@ or-passed : (a b : Bool) → a || b ≡ false → (a ≡ false) × (b ≡ false)
 or-passed false false e = (refl, refl)
 or-passed false true e = absurd (let z : _≡_ {A = ℕ} 0 1 = cc in omega arith)
 or-passed true b e = absurd (let z : _≡_ {A = ℕ} 0 1 = cc in omega arith)
-
-oneTo-true : (most n : ℕ) → 1 ≤ n → n ≤ most → oneTo most n ≡ true
-oneTo-true most n low high = simp (le-leb 1 n low, le-leb n most high)
-
-oneTo-from : (most n : ℕ) → oneTo most n ≡ true → (1 ≤ n) × (n ≤ most)
-oneTo-from most n e = let t = and-passed (leb 1 n) (leb n most) (ap not e) in (leb-true 1 n (t .0), leb-true n most (t .1))
 
 module _ {A : Type 0} (limits : Limits) (h : Shape) (next : Outcome A) where
   abbrev notPrime : Bool

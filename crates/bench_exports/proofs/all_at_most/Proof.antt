@@ -7,8 +7,6 @@ use Rattle.bench_exports.specs.Rounds.{allAtMost}
 use Rattle.bench_exports.proofs.Tests.{at-most-turn, at-most-stop, at-most-end}
 use Rattle.bench_exports.proofs.all_at_most.Statement.{statement}
 use Rattle.bench_exports.proofs.all_at_most.Tie as tie
-use Rattle.bench_exports.proofs.all_at_most.Reads as reads
-use Rattle.bench_exports.proofs.all_at_most.Lts as lts
 
 abbrev Inv-loop : tie.InvT-loop
 Inv-loop l limit i₀ i = (i ≤ length l) × (allAtMost limit l ≡ allAtMost limit (drop i l))

@@ -1,6 +1,5 @@
 -- The reader's refusals, then 11; else what `solve_read` gives (`Reading`).
 use mathlib.Core.Path.{refl, ap}
-use native.Mathlib.Omega.{arith}
 use Rattle.words.specs.Certificate.{certificateWords}
 use Rattle.reader.specs.Answer.{systemOutcome}
 use Rattle.solver.proofs.Reading.{was-read, was-refused, solves-refused, solves-short, solves-given}

@@ -1,6 +1,5 @@
 -- `unpacking::unpack` meets its contract. The loop's invariant: the words before its place are unpacked. The measure is the
 -- number of those that are not.
-use mathlib.Core.Path.{sym, ap, _∙_}
 use Prim.Native.Nat.{_-_}
 use native.Mathlib.Omega.{arith}
 use Rattle.unpacking.proofs.UnpackTurns.{Filled, filled-start, filled-room, filled-length, filled-next, filled-end}

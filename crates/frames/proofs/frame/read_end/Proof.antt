@@ -1,6 +1,5 @@
 -- `frames::frame::read_end` meets its contract: each answer is what the definition gives at that test.
 use mathlib.Core.Path.{sym, _∙_}
-use native.Mathlib.Omega.{arith}
 use Rattle.frames.proofs.EndWord.{end-missing, end-kind, end-payload, end-follows, end-right}
 use borrow.Author.Needs.{needs}
 use Rattle.frames.proofs.frame.read_end.Statement.{statement}

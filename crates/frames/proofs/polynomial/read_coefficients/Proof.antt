@@ -1,8 +1,8 @@
 -- `frames::polynomial::read_coefficients` meets its contract. The loop's invariant: what is told of all coefficients is what is
 -- told of those from the loop's word on. The measure is the number of these.
-use mathlib.Core.Path.{_≡_, sym, _∙_}
+use mathlib.Core.Path.{sym, _∙_}
 use mathlib.Core.Logic.{⊎-elim}
-use Prim.Native.Nat.{_+_, _-_, _≤_, _<_}
+use Prim.Native.Nat.{_+_, _-_}
 use native.Mathlib.Omega.{arith}
 use borrow.Author.Needs.{needs}
 use Rattle.frames.proofs.CoefficientTurns.{Reached, reached-start, reached-next, reached-end, due-missing, due-kind}

@@ -1,6 +1,6 @@
 -- Two calls of `exchange`, for the blocks and for the tails; what they leave is the memory of `Swapping`.
 use mathlib.Core.Path.{_∙_}
-use Prim.Native.Nat.{_≤_, _<_}
+use Prim.Native.Nat.{_<_}
 use native.Mathlib.Nat.{le-of-lt, le-trans, le-add-right}
 use native.Mathlib.Omega.{arith}
 use lib.ListN.{length-set}

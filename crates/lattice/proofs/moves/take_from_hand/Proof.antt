@@ -1,10 +1,8 @@
 -- The step on the block is that of `take_multiple`, and the same multiple is taken off the tail.
-use Prim.Native.Nat.{_+_, _*_, _≤_}
 use mathlib.Core.Path.{refl}
 use native.Mathlib.Nat.{le-of-lt, le-trans}
 use native.Mathlib.Omega.{arith}
 use Rattle.residue.specs.Modulus.{ValidModulus}
-use Rattle.lattice.specs.Memory.{row}
 use Rattle.lattice.specs.Sums.{sums-fewer}
 use Rattle.lattice.specs.Step.{takes-left}
 use Rattle.lattice.proofs.Rows

@@ -1,5 +1,4 @@
 -- The words are those of `add_scaled`; the word before the leading one is known before it.
-use Prim.Native.Nat.{ℕ, _+_, _-_, _*_, _≤_, _<_}
 use mathlib.Core.Path.{refl}
 use native.Mathlib.Nat.{le-of-lt}
 use native.Mathlib.Omega.{arith}

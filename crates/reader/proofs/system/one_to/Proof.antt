@@ -1,7 +1,5 @@
 -- `reader::system::one_to` meets its contract.
 use borrow.Author.Tests.{le-leb, lt-leb}
-use native.Mathlib.Omega.{arith}
-use borrow.Author.Needs.{needs}
 use Rattle.reader.proofs.system.one_to.Statement.{statement}
 use Rattle.reader.proofs.system.one_to.Tie as tie
 

@@ -12,7 +12,8 @@ use Rattle.truth.specs.Solution.Answer.{least}
 use Rattle.meaning.specs.Taken.{takenPolynomial}
 use Rattle.areas.specs.Output.{ValidOutput}
 use Rattle.packing.specs.Packed.{HasSize}
-use Rattle.packing.specs.TakenLaws.{taken-part, taken-within}
+use Rattle.meaning.specs.TakenLaws.{polynomial-within}
+use Rattle.packing.specs.TakenLaws.{taken-part}
 use Rattle.report.specs.Text.{reportText}
 use Rattle.report.specs.Written.{Written}
 use Rattle.report.specs.Longest.{ReportWithin, report-fits}
@@ -37,7 +38,7 @@ module _ (p : ℕ) (output : List ℕ) (n : ℕ) (valid : ValidOutput p output) 
       lent-is
       (report-fits
       (accepted (least (takenPolynomial p output 0)))
-      (record { modulus = p; most = small; within = taken-within p positive output (valid .below) 0 }))
+      (record { modulus = p; most = small; within = polynomial-within p positive output 0 }))
 
   reported : {entry exit : List ℕ} {r : ℕ} → Written (reportText (accepted (least (take n output)))) entry exit r
       → Written (reportText (accepted (least (takenPolynomial p output 0)))) entry exit r
