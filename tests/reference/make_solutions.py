@@ -13,7 +13,7 @@ from draws import Draws
 from minors import least_denominator
 from reading import read_certificate
 from report import report_on
-from samples import STRUCTURES, chain, common_factor, generic, low_rank, outside, powers_of_x, prime, shapes
+from samples import STRUCTURES, chain, common_factor, generic, low_rank, of_rank, outside, powers_of_x, prime, shapes
 from says import says_report
 from searched import with_denominator
 from solve import solve_words
@@ -89,6 +89,21 @@ def slips(cases):
         add(cases, System(p, [[[0, 0, 1], [0, 0, 0, 1], [0, 1]]], [[1]]))
 
 
+def every_rank(cases, draws):
+    """Every shape with every rank that it can have, b in reach or drawn."""
+    for n, m in shapes():
+        for r in range(min(n, m) + 1):
+            add(cases, of_rank(draws, prime(draws), n, m, r, draws.between(2, 3), draws.once_in(2)))
+
+
+def long_and_low(cases, draws):
+    """Five to eight rows and columns, low ranks, polynomials up to degree 15; b in reach, and drawn."""
+    for n, m in ((8, 8), (5, 8), (8, 5), (6, 7)):
+        for r in range(1, 5):
+            for inside in (True, False):
+                add(cases, of_rank(draws, draws.choose([2, 257, 65521]), n, m, r, 16, inside))
+
+
 def refused(cases, draws):
     """Damaged systems: the report says what the reader says."""
     for _ in range(60):
@@ -107,6 +122,8 @@ def main():
     chains(cases)
     slips(cases)
     refused(cases, draws)
+    every_rank(cases, Draws(0x10))
+    long_and_low(cases, Draws(0x11))
     cases.store()
 
 

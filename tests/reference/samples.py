@@ -1,6 +1,7 @@
 """Random polynomials and systems with a chosen structure, all within document 01's bounds."""
 
 import polynomial as poly
+from matrix import nonsingular_part
 from residue import is_prime
 from words import System
 
@@ -69,6 +70,18 @@ def low_rank(draws, p, n, m, size):
     middle = triangular(draws, p, r, middle_size)
     matrix = product(left, product(middle, grid(draws, p, r, m, right_size), p), p)
     return System(p, matrix, image(left, vector(draws, p, r, size - left_size + 1), p))
+
+
+def of_rank(draws, p, n, m, r, size, inside):
+    """A product of two factors of rank r, drawn until it has that rank; b within the span of its columns, or drawn."""
+    left_size = draws.between(1, size)
+    while True:
+        left = grid(draws, p, n, r, left_size)
+        matrix = product(left, grid(draws, p, r, m, size - left_size + 1), p) if r else [[poly.ZERO] * m for _ in range(n)]
+        if len(nonsingular_part(matrix, p)[0]) == r:
+            break
+    right = image(left, vector(draws, p, r, size - left_size + 1), p) if inside else vector(draws, p, n, size)
+    return System(p, matrix, right)
 
 
 def triangular(draws, p, r, size):
