@@ -1,5 +1,5 @@
 // Makes the benchmark's systems, the same on every machine, as files LOAD-P-INDEX.system of a folder, and for each prime the
-// largest certificate, largest-P.system and largest-P.certificate: systems FOLDER.
+// largest certificate, largest-P.system and largest-P.certificate, and a system for the stack, falling-P.system: systems FOLDER.
 #include <stdio.h>
 #include <stdlib.h>
 #include <string.h>
@@ -64,11 +64,20 @@ static void put_entries(struct writer *o, const struct matrix *a)
         }
 }
 
+static size_t put_system(uint8_t *bytes, const struct matrix *a, const struct matrix *b, uint32_t p)
+{
+    struct writer o = {bytes, 0};
+    put(&o, SYSTEM_HEAD, p | a->n << 16 | a->m << 20);
+    put_entries(&o, a);
+    put_entries(&o, b);
+    put_end(&o);
+    return 4 * o.words;
+}
+
 // the bytes of the next system of a load: A is the product of its factors, b is drawn, or the first factor times what is drawn
 static size_t make_system(uint8_t *bytes, const struct load *l, uint32_t p, uint64_t *state)
 {
     struct matrix a, b, first, factor;
-    struct writer o = {bytes, 0};
     uint32_t rest = DEGREE;
     for (uint32_t t = 0; t < FACTORS && l->factor[t].columns > 0; t++) {
         draw_matrix(&factor, t == 0 ? l->rows : a.m, l->factor[t].columns, l->factor[t].degree, state, p);
@@ -82,11 +91,7 @@ static size_t make_system(uint8_t *bytes, const struct load *l, uint32_t p, uint
     draw_matrix(&b, l->solvable ? first.m : l->rows, 1, rest, state, p);
     if (l->solvable)
         b = product(&first, &b, p);
-    put(&o, SYSTEM_HEAD, p | a.n << 16 | a.m << 20);
-    put_entries(&o, &a);
-    put_entries(&o, &b);
-    put_end(&o);
-    return 4 * o.words;
+    return put_system(bytes, &a, &b, p);
 }
 
 static void store(const char *folder, const char *name, const uint8_t *bytes, size_t count)
@@ -162,6 +167,20 @@ static void make_largest(const char *folder, uint32_t p)
     store(folder, name, certificate, certificate_bytes);
 }
 
+// One row x^15, x^14, .. and b = 1: each column but the first is shorter than what it meets, and makes a level of its own. No system
+// has more levels, so that none goes deeper.
+static void make_falling(const char *folder, uint32_t p)
+{
+    static uint8_t bytes[4 * LONGEST_SYSTEM];
+    char name[64];
+    struct matrix a = {.n = 1, .m = MOST}, b = {.n = 1, .m = 1};
+    for (uint32_t j = 0; j < MOST; j++)
+        a.entry[0][j][DEGREE - j] = 1;
+    b.entry[0][0][0] = 1;
+    snprintf(name, sizeof name, "falling-%u.system", p);
+    store(folder, name, bytes, put_system(bytes, &a, &b, p));
+}
+
 int main(int count, char **argument)
 {
     static uint8_t bytes[4 * LONGEST_SYSTEM];
@@ -179,6 +198,7 @@ int main(int count, char **argument)
             }
         }
         make_largest(argument[1], primes[i]);
+        make_falling(argument[1], primes[i]);
     }
     return 0;
 }

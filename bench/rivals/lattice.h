@@ -97,6 +97,23 @@ static void exchange(struct modulus k, struct hand *hand, struct slot *slot, uin
     slot->inverse = inverse(k, lead);
 }
 
+// What a step will leave at the last place but one of the hand, 0 where the slot has no such place. In most cases it is the next
+// leading coefficient: known before the loop over the words, the processor works out the next factor during the loop.
+static inline uint64_t word_before(struct modulus k, const struct hand *hand, const struct slot *slot, uint32_t c)
+{
+    uint32_t last = slot->length - 1;
+    return last == 0 ? 0 : reduce(k, hand->block[hand->length - 2] + (uint64_t)c * (uint32_t)slot->block[last - 1]);
+}
+
+// the coefficient at the pivot behind a step, which is that word where it is not 0; where it is, it is not looked at again
+static inline uint64_t leading_after(struct modulus k, struct hand *hand, const struct slot *slot, uint64_t word)
+{
+    if (word != 0)
+        return word;
+    hand->length -= slot->length > 1;
+    return leading(k, hand);
+}
+
 // block and tail of the hand += c · x^e · slot, e such that the pivots meet; a tail has width words a degree
 static inline void step(struct hand *hand, const struct slot *slot, uint32_t width, uint32_t c)
 {
@@ -112,8 +129,8 @@ static inline void step(struct hand *hand, const struct slot *slot, uint32_t wid
 // the lane of the empty slot where the hand is stuck, or LANES where its block became 0
 static uint32_t insert(struct modulus k, struct level *level, struct hand *hand, uint32_t width)
 {
-    uint64_t lead;
-    while ((lead = leading(k, hand)) != 0) {
+    uint64_t lead = leading(k, hand);
+    while (lead != 0) {
         uint32_t lane = (hand->length - 1) % LANES;
         struct slot *slot = &level->slot[lane];
         if (slot->length == 0)
@@ -122,7 +139,10 @@ static uint32_t insert(struct modulus k, struct level *level, struct hand *hand,
             exchange(k, hand, slot, lead);
             lead = hand->block[hand->length - 1];
         }
-        step(hand, slot, width, k.p - (uint32_t)reduce(k, lead * slot->inverse));
+        uint32_t c = k.p - (uint32_t)reduce(k, lead * slot->inverse);
+        uint64_t word = word_before(k, hand, slot, c);
+        step(hand, slot, width, c);
+        lead = leading_after(k, hand, slot, word);
     }
     return LANES;
 }
@@ -131,16 +151,18 @@ static uint32_t insert(struct modulus k, struct level *level, struct hand *hand,
 // the factors, flat and 0 before, each in the lane of its slot. Whether nothing is left; tails play no part.
 static inline bool divide_column(struct modulus k, const struct level *level, struct hand *hand, uint64_t *factors)
 {
-    uint64_t lead;
-    while ((lead = leading(k, hand)) != 0) {
+    uint64_t lead = leading(k, hand);
+    while (lead != 0) {
         uint32_t lane = (hand->length - 1) % LANES;
         const struct slot *slot = &level->slot[lane];
         if (slot->length == 0 || hand->length < slot->length)
             return false;
         uint32_t at = hand->length - slot->length, a = (uint32_t)reduce(k, lead * slot->inverse);
+        uint64_t word = word_before(k, hand, slot, k.p - a);
         factors[at + lane] = a;
         add_scaled(hand->block + at, slot->block, whole_rows(slot->length), k.p - a);
         hand->length--;
+        lead = leading_after(k, hand, slot, word);
     }
     return true;
 }

@@ -139,6 +139,8 @@ static void remainder_by(struct modulus k, struct coefficients *f, uint64_t *sum
     uint64_t scale = inverse(k, g->word[g->size - 1]);
     for (; size >= g->size; size--) {
         uint64_t c = negative(k, reduce(k, reduce(k, sum[size - 1]) * scale));
+        if (c == 0)
+            continue;
         for (uint32_t i = 0; i + 1 < g->size; i++)
             sum[size - g->size + i] += (uint64_t)(uint32_t)c * (uint32_t)g->word[i];
     }
@@ -155,7 +157,7 @@ static void combine_tails(struct work *w, uint32_t j)
         if (s->tail_size == 0 || w->q.size[lane] == 0)
             continue;
         for (uint32_t e = 0; e < s->tail_size; e++)
-            for (uint32_t i = 0; i < w->q.size[lane]; i++)
+            for (uint32_t i = 0; s->tail[e] != 0 && i < w->q.size[lane]; i++)
                 sum[e + i] += (uint64_t)(uint32_t)s->tail[e] * (uint32_t)w->q.coefficient[lane][i];
         size = greater(size, s->tail_size + w->q.size[lane] - 1);
     }

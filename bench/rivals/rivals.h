@@ -1,4 +1,4 @@
-// The rivals: the same jobs as the product's, written independently in C. Every call takes the bytes of files, four to a word,
+// The rivals: the same jobs as the product's, in C and without code of the product's. Every call takes the bytes of files, four to a word,
 // lowest first, and gives place × 64 + refusal number; where nothing is refused the number is 0.
 #ifndef RIVALS_H
 #define RIVALS_H

@@ -82,7 +82,7 @@ static void put_denominator(struct work *w, struct writer *o)
     uint64_t sum[HAND_TAIL] = {0};
     struct coefficients product;
     for (uint32_t e = 0; e < w->factor.size; e++)
-        for (uint32_t i = 0; i < w->d.size; i++)
+        for (uint32_t i = 0; w->factor.word[e] != 0 && i < w->d.size; i++)
             sum[e + i] += (uint64_t)(uint32_t)w->factor.word[e] * (uint32_t)w->d.word[i];
     reduce_sums(w->k, &product, sum, w->factor.size + w->d.size - 1);
     put_polynomial(o, product.word, product.size);
