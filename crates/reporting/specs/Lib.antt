@@ -1,3 +1,4 @@
 pub mod Reporting
 pub mod ReportingLaws
+pub mod RefusalReported
 pub mod Cases
