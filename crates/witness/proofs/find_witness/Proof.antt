@@ -23,7 +23,7 @@ slice-aggregate-insert-right-4 c = search needs
 insert-right-requires : tie.Need-insert-right-requires
 insert-right-requires c κs =
     let S = c .before .before .before .before .before .before .before .before .before .before in
-    ((S .pre .0 .0, S .pre .0 .2, S .pre .0 .3), (S .pre .1 .0, ((refl, refl, refl, refl), (zeros-none 2048, zeros-none 16))))
+    ((S .pre .0 .0, S .pre .0 .2, S .pre .0 .3), (S .pre .1 .0, ((refl, refl, refl, refl), (zeros-none 2048, zeros-none 16, zeros-none 256))))
 
 slice-aggregate-find-solution : tie.Need-slice-aggregate-find-solution
 slice-aggregate-find-solution c = search needs
