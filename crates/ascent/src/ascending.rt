@@ -1,13 +1,13 @@
 // Up over the columns, one after another, the right side at the top, and down again.
 use crate::descending::descend;
 use crate::dropping::leave_out;
-use crate::top::reach_top;
 use filling::divide_column;
 use filling::empty_slot;
 use filling::fill_slot;
 use levels::next::next_level;
 use quotients::lower_quotients;
 use residue::modulus::Modulus;
+use witness::find_witness;
 ghost use mathlib.Core.Path.{_≡_};
 ghost use Prim.Native.Nat.{_*_, _<_, _≤_};
 ghost use lib.ListN.{length};
@@ -46,7 +46,7 @@ pub fn ascend(
         ≡ level (now (slots .entry)) (now (sizes .entry)) (now (inverses .entry)) ⌝ }
 {
     if j == m {
-        return reach_top(input, n, m, slots, sizes, inverses, quotients, out, modulus);
+        return find_witness(input, n, m, slots, sizes, inverses, quotients, out, modulus);
     }
     let mut rest = [0u64; 128];
     let mut factors = [0u64; 128];

@@ -14,7 +14,7 @@ use Rattle.lattice.specs.Sums.{sums-room}
 use Rattle.filling.specs.Filled.{emptied, filled-valid, emptied-filled}
 use Rattle.ascent.specs.Ascended.{HasLevels, Ascended}
 use Rattle.ascent.specs.Undoing.{has-extended, ascended-undone, ascended-none}
-use Rattle.ascent.specs.Top.{levels-top, ascended-top}
+use Rattle.ascent.specs.Top.{has-last, ascended-top}
 use Rattle.ascent.specs.Dropping.{dropping, ascended-drop}
 use Rattle.ascent.specs.Filling.{left-leading, filling, undone-filling}
 use Rattle.ascent.specs.Rising.{rising}
@@ -24,9 +24,9 @@ use Rattle.filling.proofs.empty_slot.Reads as empty-slot-reads
 use Rattle.filling.proofs.fill_slot.Reads as fill-slot-reads
 use Rattle.levels.proofs.next.next_level.Reads as next-level-reads
 use Rattle.quotients.proofs.lower_quotients.Reads as lower-quotients-reads
+use Rattle.witness.proofs.find_witness.Reads as find-witness-reads
 use Rattle.ascent.proofs.descending.descend.Reads as descend-reads
 use Rattle.ascent.proofs.dropping.leave_out.Reads as leave-out-reads
-use Rattle.ascent.proofs.top.reach_top.Reads as reach-top-reads
 use Rattle.ascent.proofs.ascending.ascend.Reads as ascend
 use Rattle.ascent.proofs.ascending.ascend.Kinds as ascend-kinds
 use Rattle.ascent.proofs.ascending.+ascend+drop_column+fill_column+insert_column.Lts-ascend as ascend-lts
@@ -81,8 +81,8 @@ insert-column-below t = and 7 insert-column-kinds.ps (falls 7 insert-column-kind
 -- what their callees ask and ensure
 abbrev ascend-claims : ℕ → ascend-lts.Claims
 ascend-claims t = (
-  reach-top-reads.Asked,
-  reach-top-reads.Learnt,
+  find-witness-reads.Asked,
+  find-witness-reads.Learnt,
   divide-column-reads.Asked,
   divide-column-reads.Learnt,
   drop-column-below t,
@@ -127,11 +127,11 @@ insert-column-claims t = (
 column-left : (t : ℕ) (c : ascend-lts.Else1 (ascend-claims t) (ascend-at t) ascend.Post) → c .before .before .before .before .before .before .before .args .j < c .before .before .before .before .before .before .before .args .m
 column-left t c = omega (arith, c .before .before .before .before .before .before .before .pre .1 .0 .3, c .if1 .left)
 
-ascend-reach-top-requires : (t : ℕ) → ascend-lts.Need-reach-top-requires (ascend-claims t) (ascend-at t) ascend.Post
-ascend-reach-top-requires t c κs =
+ascend-find-witness-requires : (t : ℕ) → ascend-lts.Need-find-witness-requires (ascend-claims t) (ascend-at t) ascend.Post
+ascend-find-witness-requires t c κs =
     let given = c .before .before .before .before .before .before .before .before .before .before .before .before .pre .1 in
     let have = given .0 in
-    ((have .0, have .1, have .2, have .4), (given .1 .0, (levels-top (omega arith) (given .1 .1 .0), given .1 .1 .1)))
+    ((have .0, have .1, have .2, have .4), (given .1 .0, (has-last (omega arith) (given .1 .1 .0), given .1 .1 .1)))
 
 ascend-same-length : (t : ℕ) → ascend-lts.Need-same-length (ascend-claims t) (ascend-at t) ascend.Post
 ascend-same-length t c = search needs
@@ -149,7 +149,7 @@ ascend-same-length-5 : (t : ℕ) → ascend-lts.Need-same-length-5 (ascend-claim
 ascend-same-length-5 t c = search needs
 
 ascend-returns : (t : ℕ) → ascend-lts.Need-returns (ascend-claims t) (ascend-at t) ascend.Post
-ascend-returns t c = (ascended-top (omega arith) (c .before .before .before .before .reach-top .ensures), refl)
+ascend-returns t c = (ascended-top (omega arith) (c .before .before .before .before .find-witness .ensures), refl)
 
 ascend-mul-divide-column : (t : ℕ) → ascend-lts.Need-mul-divide-column (ascend-claims t) (ascend-at t) ascend.Post
 ascend-mul-divide-column t c = search needs
@@ -677,7 +677,7 @@ pub +ascend+drop-column+fill-column+insert-column-spec : {M : Type 1} → statem
 +ascend+drop-column+fill-column+insert-column-spec =
     close μ-ascend μ-drop-column μ-fill-column μ-insert-column
     (λ t. ascend-lts.spec (ascend-claims t) (ascend-at t) ascend.Post
-    (ascend-reach-top-requires t)
+    (ascend-find-witness-requires t)
     (ascend-same-length t)
     (ascend-same-length-2 t)
     (ascend-same-length-3 t)
