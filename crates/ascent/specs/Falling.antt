@@ -38,7 +38,7 @@ pub record Fallen (p : ℕ) (L L′ : Level) (n : ℕ) (kernel input : List ℕ)
 
 module _ {p : ℕ} {n m j : ℕ} (few : n ≤ 8) {input : List ℕ} {L L′ : Level} {rest factors kernel : List ℕ} {left found : ℕ}
     (inside : j < m) (C : ColumnDivided p L input (128 * j) rest factors left) (some : 0 < left)
-    (next : NextLevel p L rest 0 L′ kernel found) {quotients output quotients′ output′ : List ℕ}
+    (next : NextLevel p L rest L′ kernel found) {quotients output quotients′ output′ : List ℕ}
     (F : Fallen p L L′ n kernel input (128 * j) quotients output (128 * (1 + j)) quotients′ output′) (prime : Prime p)
     (X : Equations p prime n m) (H : HoldsLevels p prime n m X j input L)
     (D : HoldsDescended p prime n m (extended (rising inside C some next prime H)) quotients output) where

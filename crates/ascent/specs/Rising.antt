@@ -3,7 +3,6 @@ use Prim.Native.Nat.{ℕ, suc, _*_, _<_, _≤_}
 use mathlib.Core.Path.{_≡_, refl}
 use mathlib.Core.List.{List}
 use native.Mathlib.Omega.{arith}
-use lib.ListN.{getD}
 use Rattle.algebra.specs.Size.{size, sized}
 use Rattle.modular.specs.Prime.{Prime}
 use Rattle.modular.specs.Residue.{residues}
@@ -19,16 +18,14 @@ use Rattle.areas.specs.Input.{Equations}
 use Rattle.ascent.specs.Ascended.{HoldsLevels}
 use Rattle.ascent.specs.Extending.{Extension}
 
--- something is left of column j, in `rest`, reduced
-pub record Leaves (p : ℕ) (L : Level) (input : List ℕ) (j : ℕ) (rest : List ℕ) : Type 0 where
+-- so many words are left of column j, in `rest`
+pub record Leaves (p : ℕ) (L : Level) (input : List ℕ) (j : ℕ) (rest : List ℕ) (left : ℕ) : Type 0 where
   pub factors : List ℕ
-  pub left : ℕ
   pub divided : ColumnDivided p L input (128 * j) rest factors left
-  pub below : (i : ℕ) → getD rest i 0 < p
   pub some : 0 < left
 
 module _ {p : ℕ} {n m j : ℕ} {input : List ℕ} {L L′ : Level} {rest factors kernel : List ℕ} {left found : ℕ} (inside : j < m)
-    (C : ColumnDivided p L input (128 * j) rest factors left) (some : 0 < left) (next : NextLevel p L rest 0 L′ kernel found) where
+    (C : ColumnDivided p L input (128 * j) rest factors left) (some : 0 < left) (next : NextLevel p L rest L′ kernel found) where
   module _ (prime : Prime p) {X : Equations p prime n m} (H : HoldsLevels p prime n m X j input L) where
     abbrev Q : HoldsLeft p prime n (H .slots) (λ i. X .matrix i j) rest factors
     Q = C .divides prime n (H .slots) (λ i. X .matrix i j) (H .holds) (H .system .column j inside)

@@ -1,14 +1,13 @@
 // Up over the columns, one after another, the right side at the top, and down again.
 use crate::descending::descend;
 use crate::dropping::leave_out;
-use crate::top::reach_top;
 use filling::divide_column;
 use filling::empty_slot;
 use filling::fill_slot;
 use levels::next::next_level;
 use quotients::lower_quotients;
 use residue::modulus::Modulus;
-use vector::reduce_range;
+use witness::find_witness;
 ghost use mathlib.Core.Path.{_≡_};
 ghost use Prim.Native.Nat.{_*_, _<_, _≤_};
 ghost use lib.ListN.{length};
@@ -47,7 +46,7 @@ pub fn ascend(
         ≡ level (now (slots .entry)) (now (sizes .entry)) (now (inverses .entry)) ⌝ }
 {
     if j == m {
-        return reach_top(input, n, m, slots, sizes, inverses, quotients, out, modulus);
+        return find_witness(input, n, m, slots, sizes, inverses, quotients, out, modulus);
     }
     let mut rest = [0u64; 128];
     let mut factors = [0u64; 128];
@@ -92,7 +91,6 @@ pub fn ascend(
             modulus,
         );
     }
-    reduce_range(&mut rest, 128, modulus);
     insert_column(
         input,
         n,
@@ -101,7 +99,8 @@ pub fn ascend(
         slots,
         sizes,
         inverses,
-        &rest,
+        &mut rest,
+        left,
         quotients,
         out,
         modulus,
@@ -199,8 +198,8 @@ fn fill_column(
     found
 }
 
-// `ascend`, where something is left of column j, in `rest`, and its slot is longer: it is inserted into a copy of the level, with a kernel
-// of k words.
+// `ascend`, where `left` words are left of column j, in `rest`, and their slot is longer: they are inserted into a copy of the level, with
+// a kernel of k words.
 fn insert_column(
     input: &[u64],
     n: usize,
@@ -209,7 +208,8 @@ fn insert_column(
     slots: &[u64],
     sizes: &[usize],
     inverses: &[u64],
-    rest: &[u64],
+    rest: &mut [u64],
+    left: usize,
     quotients: &mut [u64],
     out: &mut [u64],
     modulus: Modulus,
@@ -218,7 +218,7 @@ fn insert_column(
     requires level { ⌜ ValidLevel (modulus .p) (level (now slots) (now sizes) (now inverses)) ⌝ }
     requires levels { ⌜ HasLevels (modulus .p) n m j (now input) (level (now slots) (now sizes) (now inverses)) ⌝ }
     requires areas { ⌜ (length (now quotients) ≡ 1088) × AtMost 0 (now quotients) × ValidOutput (modulus .p) (now out) ⌝ }
-    requires column { ⌜ Leaves (modulus .p) (level (now slots) (now sizes) (now inverses)) (now input) j (now rest) ⌝ }
+    requires column { ⌜ Leaves (modulus .p) (level (now slots) (now sizes) (now inverses)) (now input) j (now rest) left ⌝ }
     requires room { ⌜ length (now rest) ≡ 128 ⌝ }
     ensures { λ r. ⌜ Ascended (modulus .p) n m j (now (input .entry))
         (level (now (slots .entry)) (now (sizes .entry)) (now (inverses .entry))) (now (quotients .exit)) (now (out .exit)) r ⌝ }
@@ -232,7 +232,7 @@ fn insert_column(
         sizes,
         inverses,
         rest,
-        0,
+        left,
         &mut up,
         &mut ends,
         &mut inv,

@@ -1,7 +1,7 @@
 // The solver's loops as a whole: from a system in memory to its certificate.
 use crate::ascending::ascend;
-use crate::top::reach_top;
 use residue::modulus::Modulus;
+use witness::find_witness;
 ghost use Prim.Native.Nat.{_≤_};
 ghost use Rattle.residue.specs.Modulus.{ValidModulus};
 ghost use Rattle.areas.specs.Input.{ValidInput};
@@ -11,7 +11,6 @@ ghost use Rattle.ascent.specs.Certifies.{HasSystem, Certifies};
 pub mod ascending;
 pub mod descending;
 pub mod dropping;
-pub mod top;
 
 // The certificate of a system of n rows and m columns, to the output. Returns whether it is a solution.
 pub fn certify(input: &[u64], n: usize, m: usize, output: &mut [u64], modulus: Modulus) -> bool
@@ -24,9 +23,9 @@ pub fn certify(input: &[u64], n: usize, m: usize, output: &mut [u64], modulus: M
     let mut sizes = [0usize; 16];
     let mut inverses = [0u64; 8];
     let mut quotients = [0u64; 1088];
-    // with this second call the compiler keeps `reach_top`, which has large arrays, out of `ascend`, of which each column has one
+    // with this second call the compiler keeps `find_witness`, which has large arrays, out of `ascend`, of which each column has one
     if m == 0 {
-        return reach_top(
+        return find_witness(
             input,
             n,
             m,

@@ -3,7 +3,7 @@ use Prim.Native.Nat.{ℕ, _+_, _-_, _%_, _<_, _≤_}
 use mathlib.Core.Path.{_≡_, refl, sym, _∙_, ap}
 use mathlib.Core.Logic.{inr, ⊎-elim}
 use mathlib.Core.List.{List, [], _∷_}
-use native.Mathlib.Nat.{zero-mod, zero-add, mod-lt, mod-eq-of-lt}
+use native.Mathlib.Nat.{zero-mod}
 use native.Mathlib.Omega.{arith}
 use native.Mathlib.Decide.{decLe}
 use lib.ListN.{length, getD, List·getD-eq-default}
@@ -13,7 +13,7 @@ use Rattle.ring.specs.Combination.{given, combination}
 use Rattle.algebra.specs.Polynomial.{Polynomial, polynomials}
 use Rattle.modular.specs.Prime.{Prime}
 use Rattle.modular.specs.Residue.{residues}
-use Rattle.vector.specs.Stored.{stored, length-stored, stored-inside, stored-outside, below-or-not}
+use Rattle.vector.specs.Stored.{stored, stored-inside, stored-outside, below-or-not}
 use Rattle.vector.specs.Bound.{AtMost, at-most-stored}
 use Rattle.reduction.specs.Slots.{Slots, unweighted}
 use Rattle.reduction.specs.Span.{combined, InSpan}
@@ -22,7 +22,7 @@ use Rattle.reduction.specs.Flat.{Flat}
 use Rattle.lattice.specs.Word.{residue, words, words-inside, words-behind}
 use Rattle.lattice.specs.Memory.{Level, ZeroFrom, Ends, Sums}
 use Rattle.lattice.specs.Holding.{HoldsSlots}
-use Rattle.lattice.specs.Range.{words-same, words-zero, words-shorter, ends-same}
+use Rattle.lattice.specs.Range.{words-zero, words-shorter, ends-same}
 use Rattle.lattice.specs.Reading.{flat-same}
 use Rattle.lattice.specs.Quotients.{Divides, Dividend, Divided}
 use Rattle.lattice.specs.Coefficients.{HoldsCoefficients}
@@ -36,7 +36,7 @@ pub record HoldsLeft (p : ℕ) (prime : Prime p) (n : ℕ) (U : Slots (Polynomia
       (λ k. polynomials (residues p prime) .add (column k) (polynomials (residues p prime) .neg (vector k))) factors
 
 pub record ColumnDivided (p : ℕ) (L : Level) (input : List ℕ) (at : ℕ) (rest factors : List ℕ) (left : ℕ) : Type 0 where
-  pub sums : Sums p 0 rest
+  pub sums : Sums p (1024 + left) rest
   pub factors-below : (i : ℕ) → getD factors i 0 < p
   pub ends : Ends p rest 0 128 left
   -- of a column in the span nothing is left
@@ -137,43 +137,3 @@ module _ (p : ℕ) (input : List ℕ) (at : ℕ) (zeros : List ℕ) (long : leng
       whole = λ prime n U column slots flat s. done .whole prime n unweighted (dividend prime n U column slots flat) s;
       divides = left-of;
     }
-
--- reduced as a whole, it is left of the column too
-module _ {p : ℕ} (prime₀ : Prime p) {L : Level} {input : List ℕ} {at : ℕ} {rest factors : List ℕ} {left : ℕ}
-    (C : ColumnDivided p L input at rest factors left) (room : length rest ≡ 128) {rest′ : List ℕ}
-    (reduces : rest′ ≡ stored (λ j. getD rest j 0 % p) rest 0 128) where
-  positive : 0 < p
-  positive = let large = prime₀ .large in omega arith
-
-  reduced-word : (j : ℕ) → j < 128 → getD rest′ j 0 ≡ getD rest j 0 % p
-  reduced-word j lt =
-      ap (λ i. getD rest′ i 0) (sym (zero-add j))
-      ∙ ap (λ l. getD l (0 + j) 0) reduces
-      ∙ stored-inside (λ j. getD rest j 0 % p) rest 0 128 j (omega arith) lt
-
-  pub reduced-below : (i : ℕ) → getD rest′ i 0 < p
-  reduced-below i =
-      ⊎-elim
-      (λ lt. omega (arith, reduced-word i lt, mod-lt (getD rest i 0) positive))
-      (λ past.
-      let none : getD rest′ i 0 ≡ 0 = List·getD-eq-default rest′ 0
-      (omega (arith, ap length reduces ∙ length-stored (λ j. getD rest j 0 % p) rest 0 128 ∙ room)) in
-      omega (arith, positive))
-      (below-or-not i 128)
-
-  same-words : (prime : Prime p) (x : ℕ) → words p prime rest 0 128 x ≡ words p prime rest′ 0 128 x
-  same-words prime x = words-same p prime rest rest′ 0 0 128 x (λ lt.
-      ap (λ i. getD rest i 0 % p) (zero-add x)
-      ∙ sym (ap (λ i. getD rest′ i 0 % p) (zero-add x) ∙ ap (λ w. w % p) (reduced-word x lt)
-      ∙ mod-eq-of-lt (mod-lt (getD rest x 0) positive)))
-
-  pub column-reduced : ColumnDivided p L input at rest′ factors left
-  column-reduced = record {
-    sums = λ i. omega (arith, reduced-below i);
-    factors-below = C .factors-below;
-    ends = ends-same p prime₀ rest rest′ 0 0 128 128 (same-words prime₀) left (C .ends .within) (C .ends);
-    whole = C .whole;
-    divides = λ prime n U column slots flat.
-        let Q = C .divides prime n U column slots flat in
-        record { vector = Q .vector; holds = flat-same (same-words prime) (Q .holds); coefficients = Q .coefficients };
-  }

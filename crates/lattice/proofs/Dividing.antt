@@ -41,7 +41,7 @@ pub record Dividing (p : ℕ) (L : Level) (block₀ quotients₀ block quotients
   pub places : k ≤ length quotients₀
   pub ends : Ends p block 0 1088 k
   pub leading : 0 < k → value ≡ getD block (k - 1) 0 % p
-  pub sums : Sums p k block
+  pub sums : Sums p (1024 + k) block
   pub below : (i : ℕ) → getD quotients i 0 < p
   pub divides : (prime : Prime p) (n : ℕ) (ω : ℕ → ℕ) (f : Dividend p prime n ω L block₀)
       → Divides p prime n ω (f .slots) (f .vector) block quotients
@@ -59,7 +59,7 @@ module _ {p : ℕ} (prime₀ : Prime p) {L : Level} {block₀ quotients₀ : Lis
     places = places;
     ends = ends;
     leading = leading;
-    sums = sums-fewer p block₀ 2112 k (omega (arith, ends .within)) sums;
+    sums = sums-fewer p block₀ 2112 (1024 + k) (omega (arith, ends .within)) sums;
     below = λ i. omega (arith, zeros i, prime₀ .large);
     divides = λ prime n ω f. record {
       rest = f .vector;
@@ -203,8 +203,8 @@ module _ {p : ℕ} (prime₀ : Prime p) {L : Level} {block₀ quotients₀ : Lis
       places = omega (arith, so-far .places, T .fewer);
       ends = T .ends;
       leading = T .leading;
-      sums = sums-fewer p block′ (k - 1) (r .size) (omega (arith, T .fewer))
-          (Stepping.step-sums p prime₀ S (r .factor) (T .factor) block′ (T .words) k (S .some)
+      sums = sums-fewer p block′ (1024 + k - 1) (1024 + r .size) (omega (arith, T .fewer))
+          (Stepping.step-sums p prime₀ S (r .factor) (T .factor) block′ (T .words) (1024 + k) (omega arith)
           (omega (arith, S .ends .within)) (so-far .sums));
       below = below-set;
       divides = divides;
@@ -241,7 +241,7 @@ module _ {p : ℕ} (prime₀ : Prime p) {L : Level} {block₀ quotients₀ : Lis
     pub dividing-end : (k ≡ 0) ⊎ ((slotSize L (row k) ≡ 0) ⊎ (k < slotSize L (row k))) → Divided p L block₀ block quotients k
     dividing-end stops = record {
       ends = so-far .ends;
-      sums = sums-fewer p block k 0 (omega arith) (so-far .sums);
+      sums = so-far .sums;
       below = so-far .below;
       divides = so-far .divides;
       whole = λ prime n ω f span. whole (goes-on prime n ω f span) stops;

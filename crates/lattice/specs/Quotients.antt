@@ -1,5 +1,5 @@
 -- What `divide` gives: a division of `reduction`, its rest in the block, and the quotient by slot q in lane 7 - q of a flat array.
-use Prim.Native.Nat.{ℕ, _<_}
+use Prim.Native.Nat.{ℕ, _+_, _<_}
 use mathlib.Core.Path.{_≡_}
 use mathlib.Core.List.{List}
 use lib.ListN.{getD}
@@ -35,10 +35,11 @@ module _ (p : ℕ) (prime : Prime p) (n : ℕ) (ω : ℕ → ℕ) where
     pub holds-slots : HoldsSlots p prime n ω L slots
     pub holds : Flat (residues p prime) n 8 ω (words p prime block 0 1088) vector
 
--- What is left of the block has so many words, none where the vector is in the span of the slots.
+-- What is left of the block has so many words, none where the vector is in the span of the slots. It may be inserted into them as it
+-- is: its sums have room for 1024 places of the slots and its own.
 pub record Divided (p : ℕ) (L : Level) (block block′ quotients : List ℕ) (left : ℕ) : Type 0 where
   pub ends : Ends p block′ 0 1088 left
-  pub sums : Sums p 0 block′
+  pub sums : Sums p (1024 + left) block′
   pub below : (i : ℕ) → getD quotients i 0 < p
   pub divides : (prime : Prime p) (n : ℕ) (ω : ℕ → ℕ) (f : Dividend p prime n ω L block)
       → Divides p prime n ω (f .slots) (f .vector) block′ quotients

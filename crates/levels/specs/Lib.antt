@@ -1,5 +1,4 @@
 pub mod Copied
-pub mod Laid
 pub mod Settled
 pub mod Linked
 pub mod Cleared

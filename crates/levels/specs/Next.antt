@@ -22,16 +22,15 @@ use Rattle.lattice.specs.Reading.{ends-pivot, holds-filled}
 use Rattle.levels.specs.Linked.{Linked, AfterColumn}
 use Rattle.levels.specs.Started.{Started}
 
-pub record NextLevel (p : ℕ) (L : Level) (input : List ℕ) (at : ℕ) (L′ : Level) (kernel : List ℕ) (found : ℕ) : Type 0 where
+pub record NextLevel (p : ℕ) (L : Level) (column : List ℕ) (L′ : Level) (kernel : List ℕ) (found : ℕ) : Type 0 where
   pub valid : ValidLevel p L′
   pub below : (i : ℕ) → getD kernel i 0 < p
   pub ends : Ends p kernel 0 128 found
   pub linked : (prime : Prime p) (n δ : ℕ) (U : Slots (Polynomial (residues p prime))) (a : ℕ → Polynomial (residues p prime))
       → ((i : ℕ) → i < n → size (residues p prime) (a i) ≤ suc δ) → HoldsSlots p prime n unweighted L U
-      → Flat (residues p prime) n 8 unweighted (words p prime input at 128) a → Linked p prime n δ a U L′ kernel
+      → Flat (residues p prime) n 8 unweighted (words p prime column 0 128) a → Linked p prime n δ a U L′ kernel
 
-module _ {p : ℕ} {L : Level} {input : List ℕ} {at : ℕ} {M : Memory} (started : Started p L input at M)
-    (valid : ValidLevel p L) where
+module _ {p : ℕ} {L : Level} {M : Memory} (started : Started p L M) (valid : ValidLevel p L) where
   -- the hand is no higher than the column
   height-small : (prime : Prime p) (n δ : ℕ) {s : State (Polynomial (residues p prime))} → HoldsState p prime n unweighted M s
       → ((i : ℕ) → i < n → size (residues p prime) (s .hand i) ≤ suc δ) → height (M .hand .size) ≤ suc δ
@@ -44,7 +43,7 @@ module _ {p : ℕ} {L : Level} {input : List ℕ} {at : ℕ} {M : Memory} (start
           omega (arith, P .reached, small (row (M .hand .size)) (P .inside))
 
   pub next-level : {L′ : Level} {kernel : List ℕ} {found : ℕ} → length kernel ≡ 128 → AfterColumn p M L′ kernel found
-      → NextLevel p L input at L′ kernel found
+      → NextLevel p L (M .block) L′ kernel found
   next-level {L′} {kernel} {found} room after = record {
     valid = after .valid;
     below = λ i. ⊎-elim (after .kernel-below i)

@@ -4,55 +4,49 @@ use crate::column::insert_column;
 use crate::copying::copy_level;
 use lattice::Hand;
 use residue::modulus::Modulus;
-use vector::copy;
-use vector::find_leading;
 ghost use mathlib.Core.Path.{_≡_};
-ghost use Prim.Native.Nat.{ℕ, _+_, _<_, _≤_};
-ghost use lib.ListN.{length, getD};
+ghost use lib.ListN.{length};
 ghost use Rattle.residue.specs.Modulus.{ValidModulus};
 ghost use Rattle.vector.specs.Bound.{AtMost};
 ghost use Rattle.lattice.specs.Memory.{level, memory, ValidLevel};
+ghost use Rattle.levels.specs.Begun.{ValidColumn};
 ghost use Rattle.levels.specs.Started.{Started};
 ghost use Rattle.levels.specs.Next.{NextLevel};
 
-// Copies the level, with tails 0, to cleared memory, and lays the column at `at` beside it, with tail 1.
+// Copies the level, with tails 0, to cleared memory, and makes a hand of the column of so many words, with tail 1.
 pub fn start_column(
     slots: &[u64],
     sizes: &[usize],
     inverses: &[u64],
-    input: &[u64],
-    at: usize,
+    column: &[u64],
+    size: usize,
     next: &mut [u64],
     next_sizes: &mut [usize],
     next_inverses: &mut [u64],
-    block: &mut [u64],
     tail: &mut [u64],
     modulus: Modulus,
 ) -> Hand
     requires { ⌜ ValidModulus modulus × ValidLevel (modulus .p) (level (now slots) (now sizes) (now inverses)) ⌝ }
-    requires column { ⌜ (at + 128 ≤ length (now input)) × ((i : ℕ) → getD (now input) i 0 < modulus .p) ⌝ }
+    requires column { ⌜ ValidColumn (modulus .p) (now column) size ⌝ }
     requires room { ⌜ (length (now next) ≡ 2048) × (length (now «next_sizes») ≡ 16) × (length (now «next_inverses») ≡ 8)
-        × (length (now block) ≡ 128) × (length (now tail) ≡ 256) ⌝ }
-    requires zeros { ⌜ AtMost 0 (now next) × AtMost 0 (now «next_sizes») ⌝ }
+        × (length (now tail) ≡ 256) ⌝ }
+    requires zeros { ⌜ AtMost 0 (now next) × AtMost 0 (now «next_sizes») × AtMost 0 (now tail) ⌝ }
     ensures { λ r. ⌜ Started (modulus .p) (level (now (slots .entry)) (now (sizes .entry)) (now (inverses .entry)))
-        (now (input .entry)) at
         (memory (level (now (next .exit)) (now («next_sizes» .exit)) (now («next_inverses» .exit)))
-        (now (block .exit)) (now (tail .exit)) r) ⌝ }
+        (now (column .entry)) (now (tail .exit)) r) ⌝ }
 {
     copy_level(slots, sizes, inverses, next, next_sizes, next_inverses);
-    let mut column = [0u64; 128];
-    copy(&mut column, 0, input, at, 128);
-    let found = find_leading(&column, 128, modulus);
-    lay_hand(&column, found.size, block, tail)
+    lay_hand(column, size, tail, modulus)
 }
 
-// Makes the next level in cleared memory, and the kernel of its column in 128 words. Returns the size of the kernel.
+// Makes the next level in cleared memory, and the kernel of its column in 128 words. What is then in the column is left open. Returns
+// the size of the kernel.
 pub fn next_level(
     slots: &[u64],
     sizes: &[usize],
     inverses: &[u64],
-    input: &[u64],
-    at: usize,
+    column: &mut [u64],
+    size: usize,
     next: &mut [u64],
     next_sizes: &mut [usize],
     next_inverses: &mut [u64],
@@ -60,26 +54,24 @@ pub fn next_level(
     modulus: Modulus,
 ) -> usize
     requires { ⌜ ValidModulus modulus × ValidLevel (modulus .p) (level (now slots) (now sizes) (now inverses)) ⌝ }
-    requires column { ⌜ (at + 128 ≤ length (now input)) × ((i : ℕ) → getD (now input) i 0 < modulus .p) ⌝ }
+    requires column { ⌜ ValidColumn (modulus .p) (now column) size ⌝ }
     requires room { ⌜ (length (now next) ≡ 2048) × (length (now «next_sizes») ≡ 16) × (length (now «next_inverses») ≡ 8)
         × (length (now kernel) ≡ 128) ⌝ }
     requires zeros { ⌜ AtMost 0 (now next) × AtMost 0 (now «next_sizes») ⌝ }
     ensures { λ r. ⌜ NextLevel (modulus .p) (level (now (slots .entry)) (now (sizes .entry)) (now (inverses .entry)))
-        (now (input .entry)) at (level (now (next .exit)) (now («next_sizes» .exit)) (now («next_inverses» .exit)))
+        (now (column .entry)) (level (now (next .exit)) (now («next_sizes» .exit)) (now («next_inverses» .exit)))
         (now (kernel .exit)) r ⌝ }
 {
-    let mut block = [0u64; 128];
     let mut tail = [0u64; 256];
     let hand = start_column(
         slots,
         sizes,
         inverses,
-        input,
-        at,
+        column,
+        size,
         next,
         next_sizes,
         next_inverses,
-        &mut block,
         &mut tail,
         modulus,
     );
@@ -87,7 +79,7 @@ pub fn next_level(
         next,
         next_sizes,
         next_inverses,
-        &mut block,
+        column,
         &mut tail,
         hand,
         kernel,

@@ -42,12 +42,12 @@ impl Modulus {
         self.wrap(a + b)
     }
 
-    // -a modulo p.
+    // -a modulo p. What is not 0 needs no reduction, and a compiler makes the test a choice without a branch.
     pub fn neg(self, a: u64) -> u64
         requires { ⌜ ValidModulus self × (a < self .p) ⌝ }
         ensures { λ r. ⌜ r ≡ modulo (self .p) .neg a ⌝ }
     {
-        self.wrap(self.p - a)
+        if a == 0 { 0 } else { self.p - a }
     }
 
     // a - b modulo p.

@@ -4,6 +4,7 @@ use mathlib.Core.Path.{_≡_}
 use mathlib.Core.Bool.{true, false}
 use mathlib.Core.List.{List}
 use native.Mathlib.Omega.{arith}
+use Rattle.modular.specs.Prime.{Prime}
 use Rattle.vector.specs.Bound.{AtMost}
 use Rattle.lattice.specs.Memory.{row, Level}
 use Rattle.witness.specs.Witnessed.{HasLast, HoldsWitness, Witnessed}
@@ -30,20 +31,20 @@ module _ {p n m : ℕ} {input : List ℕ} {L L′ : Level} {tail : List ℕ} {si
       stuck = inserted .stuck (has .prime) n (has .equations) (has .last) some;
     }
 
-  pub solution-witnessed : {t output : List ℕ} → size ≡ 0 → SolutionFound p n m input L′ tail t output
-      → Witnessed p n m input L t output true
+  pub solution-witnessed : {quotients output : List ℕ} → size ≡ 0 → SolutionFound p n m input L L′ tail quotients output
+      → Witnessed p n m input L quotients output true
   unfolding HoldsWitness
   solution-witnessed none found = record {
-    sums = found .sums;
+    below = found .below;
     valid = found .valid;
-    holds = λ prime X H. found .holds prime X (H .slots) (inserted .vanished prime n X H none);
+    holds = λ prime X H. found .holds prime X (H .slots) (H .holds) (inserted .vanished prime n X H none);
   }
 
-  pub absence-witnessed : {t output : List ℕ} → AtMost 0 t → 0 < size → AbsenceFound p n L (row size) output
-      → Witnessed p n m input L t output false
+  pub absence-witnessed : {quotients output : List ℕ} → Prime p → AtMost 0 quotients → 0 < size
+      → AbsenceFound p n L (row size) output → Witnessed p n m input L quotients output false
   unfolding HoldsWitness
-  absence-witnessed none some found = record {
-    sums = λ i. omega (arith, none i);
+  absence-witnessed prime₀ none some found = record {
+    below = λ i. omega (arith, none i, prime₀ .large);
     valid = found .valid;
     holds = λ prime X H. found .holds prime m X (H .slots) (inserted .stuck prime n X H some);
   }

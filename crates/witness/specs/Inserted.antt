@@ -1,13 +1,16 @@
 -- The right side of a system inserted into its last level: what memory holds where its block became zero, and where it got stuck.
-use Prim.Native.Nat.{ℕ, _*_, _<_, _≤_}
-use mathlib.Core.Path.{_≡_, refl}
+use Prim.Native.Nat.{ℕ, _+_, _*_, _<_, _≤_}
+use mathlib.Core.Path.{_≡_, refl, sym, _∙_, ap}
 use mathlib.Core.List.{List}
 use native.Mathlib.Omega.{arith}
-use lib.ListN.{length}
+use lib.ListN.{length, getD}
 use Rattle.algebra.specs.Polynomial.{Polynomial, polynomials}
 use Rattle.algebra.specs.Size.{size, sized}
 use Rattle.modular.specs.Prime.{Prime}
 use Rattle.modular.specs.Residue.{residues}
+use Rattle.vector.specs.Bound.{AtMost}
+use Rattle.vector.specs.Stored.{length-stored}
+use Rattle.vector.specs.Reduced.{polynomial}
 use Rattle.reduction.specs.Total.{rank, degrees, rank-le}
 use Rattle.reduction.specs.Pivot.{Vanishes}
 use Rattle.reduction.specs.Slots.{Slots, unweighted}
@@ -22,12 +25,16 @@ use Rattle.lattice.specs.Word.{words}
 use Rattle.lattice.specs.Memory.{row, height, ZeroFrom, Level, slotSize, ValidLevel, Sums, Memory, places}
 use Rattle.lattice.specs.Holding.{HoldsSlots, Reached}
 use Rattle.lattice.specs.Sums.{sums-fewer}
-use Rattle.lattice.specs.Reading.{holds-zero, holds-pivot}
+use Rattle.lattice.specs.Found.{found-ends}
+use Rattle.lattice.specs.Reading.{flat-same, holds-zero, holds-pivot}
 use Rattle.lattice.specs.Insertion.{Inserts}
 use Rattle.areas.specs.Input.{Equations, systemOf}
+use Rattle.levels.specs.Begun.{ValidColumn}
 use Rattle.levels.specs.Started.{Started}
 use Rattle.second.specs.Solved.{HasTops}
 use Rattle.witness.specs.Witnessed.{HoldsLast}
+use Rattle.witness.specs.Words.{words-copied}
+use Rattle.witness.specs.Denominator.{rightWords, right-below}
 
 module _ (p : ℕ) (prime : Prime p) (n m : ℕ) where
   -- the slots after the insertion into U, and the tail that is left
@@ -108,13 +115,30 @@ pub record Inserted (p m : ℕ) (input : List ℕ) (L L′ : Level) (tail : List
   pub stuck : (prime : Prime p) (n : ℕ) (X : Equations p prime n m) (H : HoldsLast p prime n m X input L) → 0 < size
       → HoldsStuck p prime n m X (H .slots) L (row size)
 
-module _ {p m : ℕ} {input : List ℕ} {L : Level} {M M′ : Memory} (started : Started p L input (128 * m) M)
-    (done : Inserts p M M′) where
+-- the right side copied to a block, whose size was found
+module _ {p : ℕ} (prime₀ : Prime p) (input : List ℕ) (m : ℕ) (below : (i : ℕ) → getD input i 0 < p) (zeros : List ℕ)
+    (room : length zeros ≡ 128) (none : AtMost 0 zeros) {block : List ℕ} (copied : block ≡ rightWords input m zeros) where
+  pub block-below : (i : ℕ) → getD block i 0 < p
+  block-below = right-below prime₀ input m zeros copied below none
+
+  pub right-column : {size : ℕ} → size ≡ length (polynomial p block 0 128) → ValidColumn p block size
+  right-column {size} found = record {
+    room = ap length copied ∙ length-stored (λ j. getD input (128 * m + j) 0) zeros 0 128 ∙ room;
+    ends = found-ends p (omega (arith, prime₀ .large)) block 128 128 (omega arith) (λ j h lt. absurd (omega arith)) size found;
+    sums = λ i. omega (arith, block-below i);
+  }
+
+module _ {p m : ℕ} {input : List ℕ} {L : Level} {M M′ : Memory} (started : Started p L M) (zeros : List ℕ)
+    (room : length zeros ≡ 128) (copied : M .block ≡ rightWords input m zeros) (done : Inserts p M M′) where
   module _ (prime : Prime p) (n : ℕ) (X : Equations p prime n m) (H : HoldsLast p prime n m X input L) where
+    same : (x : ℕ) → words p prime input (128 * m) 128 x ≡ words p prime (M .block) 0 128 x
+    same x = words-copied p prime input zeros (128 * m) 0 128 (128 * m) 0 128 (omega arith) (omega arith) (omega arith) (omega arith) x
+        ∙ ap (λ w. words p prime w 0 128 x) (sym copied)
+
     abbrev R : Reached p prime n unweighted
         (begin (polynomials (residues p prime)) n (H .slots) (X .right) (height (M .hand .size))) M′
     R = done .leads prime n unweighted (begin (polynomials (residues p prime)) n (H .slots) (X .right) (height (M .hand .size)))
-        (started .holds prime n (H .slots) (X .right) (H .holds) (H .system .right))
+        (started .holds prime n (H .slots) (X .right) (H .holds) (flat-same same (H .system .right)))
 
     abbrev made : Inserting (sized (residues p prime)) n unweighted (H .slots) (X .right)
     made = record { size = height (M .hand .size); now = R .now; trace = R .trace }

@@ -1,5 +1,5 @@
 -- The certificate of a solution, but for its numerators: d, w = d·w′ and Z, with w′ and Z of the second system of the slots after
--- the insertion.
+-- the insertion. With it d·b as coefficients of the blocks of the slots before.
 use Prim.Native.Nat.{ℕ, suc, _+_, _-_, _*_, _<_, _≤_}
 use mathlib.Core.Path.{_≡_, sym, _∙_, subst}
 use mathlib.Core.Logic.{inl}
@@ -13,14 +13,17 @@ use Rattle.modular.specs.Prime.{Prime}
 use Rattle.modular.specs.Residue.{residues}
 use Rattle.vector.specs.Stored.{stored, length-stored}
 use Rattle.reduction.specs.Total.{rank, degrees}
-use Rattle.reduction.specs.Slots.{Slots}
+use Rattle.reduction.specs.Slots.{Slots, unweighted}
 use Rattle.reduction.specs.Euclidean.{associate-nonzero}
 use Rattle.reduction.specs.Polynomials.{associate, euclidean}
 use Rattle.reduction.specs.Solution.{solution-tops}
 use Rattle.reduction.specs.Unfinished.{Unfinished, unfinished}
 use Rattle.reduction.specs.Holds.{Holds}
 use Rattle.lattice.specs.Word.{words}
-use Rattle.lattice.specs.Memory.{Level, ValidLevel, Sums}
+use Rattle.lattice.specs.Memory.{Level, ValidLevel}
+use Rattle.lattice.specs.Holding.{HoldsSlots}
+use Rattle.lattice.specs.Quotients.{Divided}
+use Rattle.lattice.specs.Coefficients.{divided-coefficients}
 use Rattle.lattice.specs.Range.{words-apart, ends-most}
 use Rattle.areas.specs.Input.{Equations, systemOf}
 use Rattle.areas.specs.Output.{ValidOutput}
@@ -31,11 +34,12 @@ use Rattle.witness.specs.Words.{stored-below, held-zero-from, held-fewer
 use Rattle.witness.specs.Inserted.{HoldsVanished, HasVanished, slots-high, last-degrees, vanished-some}
 use Rattle.witness.specs.Denominator.{HasTail, HasDenominator, HoldsDenominator}
 
-pub record SolutionFound (p n m : ℕ) (input : List ℕ) (L : Level) (tail t output : List ℕ) : Type 0 where
-  pub sums : Sums p 2112 t
+pub record SolutionFound (p n m : ℕ) (input : List ℕ) (L L′ : Level) (tail quotients output : List ℕ) : Type 0 where
+  pub below : (i : ℕ) → getD quotients i 0 < p
   pub valid : ValidOutput p output
   pub holds : (prime : Prime p) (X : Equations p prime n m) (U : Slots (Polynomial (residues p prime)))
-      → HoldsVanished p prime n m X U input L tail → HoldsUnfinished p prime n m X U t output
+      → HoldsSlots p prime n unweighted L U → HoldsVanished p prime n m X U input L′ tail
+      → HoldsUnfinished p prime n m X U quotients output
 
 -- L2: what is left of the tail is not zero
 pub vanished-tail : {p n m : ℕ} {input : List ℕ} {L : Level} {tail : List ℕ} → n ≤ 8 → HasVanished p n m input L tail
@@ -98,10 +102,11 @@ module _ (p : ℕ) (prime₀ : Prime p) (n m : ℕ) (lanes : n ≤ 8) (columns :
         (omega (arith, second-length)) (omega arith) (omega arith) (omega arith)
 
 -- the parts of the certificate
-module _ {p n m : ℕ} {input : List ℕ} {L : Level} {tail d t : List ℕ} {found : ℕ} {w rows : List ℕ} (lanes : n ≤ 8)
-    (level : ValidLevel p L) (has : HasDenominator p m input tail d t found) (solved : SecondSolved p n L w rows) where
+module _ {p n m : ℕ} {input : List ℕ} {L L′ : Level} {tail d t : List ℕ} {found : ℕ} {w rows : List ℕ} (lanes : n ≤ 8)
+    (level : ValidLevel p L′) (has : HasDenominator p m input tail d t found) (solved : SecondSolved p n L′ w rows)
+    {t′ quotients : List ℕ} {left : ℕ} (divided : Divided p L t t′ quotients left) where
   module _ (prime : Prime p) (X : Equations p prime n m) (U : Slots (Polynomial (residues p prime)))
-      (Q : HoldsVanished p prime n m X U input L tail) where
+      (Q : HoldsVanished p prime n m X U input L′ tail) where
     abbrev e : Polynomial (residues p prime)
     e = Q .inserting .now .hand n
 
@@ -145,12 +150,12 @@ module _ {p n m : ℕ} {input : List ℕ} {L : Level} {tail d t : List ℕ} {fou
             (held-zero-from p prime d 0 128 (size (residues p prime) x) (D .denominator) (omega arith))
 
   stored-found : {product output : List ℕ} → Prime p → m ≤ 8 → Multiplied p d found w (122 - found) product
-      → ValidOutput p output → SolutionFound p n m input L tail t (storedSolution n m d product rows output)
+      → ValidOutput p output → SolutionFound p n m input L L′ tail quotients (storedSolution n m d product rows output)
   stored-found {product} {output} prime₀ columns multiplied valid = record {
-    sums = has .vector-sums;
+    below = divided .below;
     valid = stored-valid p prime₀ n m lanes columns d product rows output valid
         (has .below) (multiplied .below) (solved .rows-below);
-    holds = λ prime X U Q. record {
+    holds = λ prime X U slots Q. record {
       d = x prime X U Q;
       w = polynomials (residues p prime) .mul (x prime X U Q) (S prime X U Q .polynomial);
       Z = S prime X U Q .Y;
@@ -168,12 +173,17 @@ module _ {p n m : ℕ} {input : List ℕ} {L : Level} {tail d t : List ℕ} {fou
       holds-Z = λ i h. record {
         at = λ j. S prime X U Q .holds-Y i h .at j ∙ stored-Z p prime₀ n m lanes columns d product rows output valid prime i h j;
       };
-      holds-vector = D prime X U Q .vector;
+      coefficients = divided-coefficients prime divided (record {
+        slots = U;
+        vector = λ k. polynomials (residues p prime) .mul (x prime X U Q) (X .right k);
+        holds-slots = slots;
+        holds = D prime X U Q .vector;
+      }) (made prime X U Q .span);
     };
   }
 
   -- L7 and L8
   pub solution-found : {product output output′ : List ℕ} → Prime p → m ≤ 8 → Multiplied p d found w (122 - found) product
-      → ValidOutput p output → output′ ≡ storedSolution n m d product rows output → SolutionFound p n m input L tail t output′
+      → ValidOutput p output → output′ ≡ storedSolution n m d product rows output → SolutionFound p n m input L L′ tail quotients output′
   solution-found prime₀ columns multiplied valid stores =
-      subst (SolutionFound p n m input L tail t) (sym stores) (stored-found prime₀ columns multiplied valid)
+      subst (SolutionFound p n m input L L′ tail quotients) (sym stores) (stored-found prime₀ columns multiplied valid)

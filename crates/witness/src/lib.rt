@@ -17,8 +17,9 @@ ghost use Rattle.areas.specs.Input.{ValidInput};
 ghost use Rattle.areas.specs.Output.{ValidOutput};
 ghost use Rattle.witness.specs.Witnessed.{HasLast, Witnessed};
 
-// Of a system of n rows and m columns whose last level is given, with t 0 at the start. Where there is a solution: d, w and Z to the
-// output, d b to t, and true. Where there is none: q to the output, and false.
+// Of a system of n rows and m columns whose last level is given, with quotients 0 at the start. Where there is a solution: d, w and Z to
+// the output, the coefficients of d b in the blocks of the level to the quotients, and true. Where there is none: q to the output, and
+// false.
 pub fn find_witness(
     input: &[u64],
     n: usize,
@@ -26,16 +27,16 @@ pub fn find_witness(
     slots: &[u64],
     sizes: &[usize],
     inverses: &[u64],
-    t: &mut [u64],
+    quotients: &mut [u64],
     output: &mut [u64],
     modulus: Modulus,
 ) -> bool
     requires { ⌜ ValidModulus modulus × (n ≤ 8) × (m ≤ 8) × ValidInput (modulus .p) (now input) ⌝ }
     requires level { ⌜ ValidLevel (modulus .p) (level (now slots) (now sizes) (now inverses)) ⌝ }
     requires last { ⌜ HasLast (modulus .p) n m (now input) (level (now slots) (now sizes) (now inverses)) ⌝ }
-    requires areas { ⌜ (length (now t) ≡ 1088) × AtMost 0 (now t) × ValidOutput (modulus .p) (now output) ⌝ }
+    requires areas { ⌜ (length (now quotients) ≡ 1088) × AtMost 0 (now quotients) × ValidOutput (modulus .p) (now output) ⌝ }
     ensures { λ r. ⌜ Witnessed (modulus .p) n m (now (input .entry))
-        (level (now (slots .entry)) (now (sizes .entry)) (now (inverses .entry))) (now (t .exit)) (now (output .exit)) r ⌝ }
+        (level (now (slots .entry)) (now (sizes .entry)) (now (inverses .entry))) (now (quotients .exit)) (now (output .exit)) r ⌝ }
 {
     let mut next = [0u64; 2048];
     let mut heights = [0usize; 16];
@@ -58,11 +59,14 @@ pub fn find_witness(
             input,
             n,
             m,
+            slots,
+            sizes,
+            inverses,
             &next,
             &heights,
             &reciprocals,
             &tail,
-            t,
+            quotients,
             output,
             modulus,
         );

@@ -1,4 +1,5 @@
 // Where there is a solution: all of its certificate but the numerators.
+use lattice::divide;
 use multiples::monic::make_monic;
 use multiples::product::multiply;
 use multiples::product::multiply_block;
@@ -51,8 +52,9 @@ pub fn store_solution(output: &mut [u64], n: usize, m: usize, d: &[u64], w: &[u6
     copy(output, 128 * (2 + m), rows, 0, 128 * n);
 }
 
-// Of the slots and the tail after an insertion whose block became zero: d, w and Z to the output, d b to t, which is 0 at the start.
-// By L8, d and the second system's w have together at most 122 coefficients.
+// Of a level, and of its copy and the tail after an insertion whose block became zero: d, w and Z to the output, the coefficients of d b
+// in the blocks of the level to the quotients, which are 0 at the start. By L8, d and the second system's w have together at most 122
+// coefficients.
 pub fn find_solution(
     input: &[u64],
     n: usize,
@@ -60,26 +62,33 @@ pub fn find_solution(
     slots: &[u64],
     sizes: &[usize],
     inverses: &[u64],
+    next: &[u64],
+    heights: &[usize],
+    reciprocals: &[u64],
     tail: &[u64],
-    t: &mut [u64],
+    quotients: &mut [u64],
     output: &mut [u64],
     modulus: Modulus,
 )
     requires { ⌜ ValidModulus modulus × (n ≤ 8) × (m ≤ 8) × ValidInput (modulus .p) (now input) ⌝ }
     requires level { ⌜ ValidLevel (modulus .p) (level (now slots) (now sizes) (now inverses)) ⌝ }
+    requires copy { ⌜ ValidLevel (modulus .p) (level (now next) (now heights) (now reciprocals)) ⌝ }
     requires tail { ⌜ (256 ≤ length (now tail)) × ZeroFrom (modulus .p) (now tail) 0 256 121 × Sums (modulus .p) 0 (now tail) ⌝ }
-    requires vanished { ⌜ HasVanished (modulus .p) n m (now input) (level (now slots) (now sizes) (now inverses)) (now tail) ⌝ }
-    requires areas { ⌜ (length (now t) ≡ 1088) × AtMost 0 (now t) × ValidOutput (modulus .p) (now output) ⌝ }
+    requires vanished { ⌜ HasVanished (modulus .p) n m (now input) (level (now next) (now heights) (now reciprocals)) (now tail) ⌝ }
+    requires areas { ⌜ (length (now quotients) ≡ 1088) × AtMost 0 (now quotients) × ValidOutput (modulus .p) (now output) ⌝ }
     ensures { λ _. ⌜ SolutionFound (modulus .p) n m (now (input .entry))
-        (level (now (slots .entry)) (now (sizes .entry)) (now (inverses .entry))) (now (tail .entry))
-        (now (t .exit)) (now (output .exit)) ⌝ }
+        (level (now (slots .entry)) (now (sizes .entry)) (now (inverses .entry)))
+        (level (now (next .entry)) (now (heights .entry)) (now (reciprocals .entry))) (now (tail .entry))
+        (now (quotients .exit)) (now (output .exit)) ⌝ }
 {
     let mut d = [0u64; 128];
+    let mut t = [0u64; 1088];
     let mut w = [0u64; 128];
     let mut rows = [0u64; 1024];
     let mut product = [0u64; 128];
-    let size = find_denominator(input, m, tail, &mut d, t, modulus);
-    solve_second(slots, sizes, inverses, n, &mut w, &mut rows, modulus);
+    let size = find_denominator(input, m, tail, &mut d, &mut t, modulus);
+    divide(slots, sizes, inverses, &mut t, 1088, quotients, modulus);
+    solve_second(next, heights, reciprocals, n, &mut w, &mut rows, modulus);
     multiply(&d, size, &w, 122 - size, &mut product, modulus);
     store_solution(output, n, m, &d, &product, &rows);
 }

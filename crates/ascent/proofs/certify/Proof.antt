@@ -6,7 +6,7 @@ use borrow.Author.Needs.{needs}
 use Rattle.lattice.specs.Memory.{Level, level}
 use Rattle.vector.specs.Bound.{zeros-none}
 use Rattle.ascent.specs.Empty.{empty-valid, has-empty}
-use Rattle.ascent.specs.Top.{levels-top, ascended-top}
+use Rattle.ascent.specs.Top.{has-last, ascended-top}
 use Rattle.ascent.specs.Bottom.{certifies}
 use Rattle.ascent.proofs.certify.Statement.{statement}
 use Rattle.ascent.proofs.certify.Tie as tie
@@ -15,27 +15,27 @@ use Rattle.ascent.proofs.certify.Tie as tie
 abbrev first : Level
 first = level (replicate 2048 0) (replicate 16 0) (replicate 8 0)
 
-slice-aggregate-reach-top : tie.Need-slice-aggregate-reach-top
-slice-aggregate-reach-top c = search needs
+slice-aggregate-find-witness : tie.Need-slice-aggregate-find-witness
+slice-aggregate-find-witness c = search needs
 
-slice-aggregate-reach-top-2 : tie.Need-slice-aggregate-reach-top-2
-slice-aggregate-reach-top-2 c = search needs
+slice-aggregate-find-witness-2 : tie.Need-slice-aggregate-find-witness-2
+slice-aggregate-find-witness-2 c = search needs
 
-slice-aggregate-reach-top-3 : tie.Need-slice-aggregate-reach-top-3
-slice-aggregate-reach-top-3 c = search needs
+slice-aggregate-find-witness-3 : tie.Need-slice-aggregate-find-witness-3
+slice-aggregate-find-witness-3 c = search needs
 
-slice-aggregate-reach-top-4 : tie.Need-slice-aggregate-reach-top-4
-slice-aggregate-reach-top-4 c = search needs
+slice-aggregate-find-witness-4 : tie.Need-slice-aggregate-find-witness-4
+slice-aggregate-find-witness-4 c = search needs
 
-reach-top-requires : tie.Need-reach-top-requires
-reach-top-requires c κs =
+find-witness-requires : tie.Need-find-witness-requires
+find-witness-requires c κs =
     let given = c .before .before .before .before .before .before .before .before .pre in
     let have = given .0 in (
       have,
       (
         empty-valid first (zeros-none 2048) (zeros-none 16) (have .0 .prime) refl refl refl,
         (
-          levels-top (omega arith) (has-empty first (zeros-none 2048) (zeros-none 16) (given .1 .0)),
+          has-last (omega arith) (has-empty first (zeros-none 2048) (zeros-none 16) (given .1 .0)),
           (refl, zeros-none 1088, given .1 .1),
         ),
       ),
@@ -46,7 +46,7 @@ same-length c = search needs
 
 returns : tie.Need-returns
 returns c = certifies (c .before .before .before .before .before .before .before .before .before .before .before .before .pre .0 .1) _ _ (zeros-none 2048) (zeros-none 16)
-    (ascended-top {L = first} (omega arith) (c .before .before .before .reach-top .ensures))
+    (ascended-top (omega arith) {L = first} (c .before .before .before .find-witness .ensures))
 
 slice-aggregate-ascend : tie.Need-slice-aggregate-ascend
 slice-aggregate-ascend c = search needs
@@ -81,11 +81,11 @@ pub certify-spec : {M : Type 1} → statement M
 certify-spec =
     tie.close
     (tie.spec
-    slice-aggregate-reach-top
-    slice-aggregate-reach-top-2
-    slice-aggregate-reach-top-3
-    slice-aggregate-reach-top-4
-    reach-top-requires
+    slice-aggregate-find-witness
+    slice-aggregate-find-witness-2
+    slice-aggregate-find-witness-3
+    slice-aggregate-find-witness-4
+    find-witness-requires
     same-length
     returns
     slice-aggregate-ascend

@@ -23,7 +23,7 @@ slice-aggregate-insert-right-4 c = search needs
 insert-right-requires : tie.Need-insert-right-requires
 insert-right-requires c κs =
     let S = c .before .before .before .before .before .before .before .before .before .before in
-    ((S .pre .0 .0, S .pre .0 .2, S .pre .0 .3), (S .pre .1 .0, ((refl, refl, refl, refl), (zeros-none 2048, zeros-none 16))))
+    ((S .pre .0 .0, S .pre .0 .2, S .pre .0 .3), (S .pre .1 .0, ((refl, refl, refl, refl), (zeros-none 2048, zeros-none 16, zeros-none 256))))
 
 slice-aggregate-find-solution : tie.Need-slice-aggregate-find-solution
 slice-aggregate-find-solution c = search needs
@@ -39,12 +39,15 @@ slice-aggregate-find-solution-4 c = search needs
 
 find-solution-requires : tie.Need-find-solution-requires
 find-solution-requires c κs =
-    let inserted = c .before .before .before .before .before .before .before .before .before .before .before in
-    let S = inserted .before .before .before .before .before .before .before .before .before .before .before in
-    let done = inserted .insert-right .ensures in
-    let none : inserted .insert-right .result ≡ 0 = omega arith in (
+    let S = c .before .before .before .before .before .before .before .before .before .before .before .before .before .before .before .before .before .before .before .before .before .before in
+    let inserted = c .before .before .before .before .before .before .before .before .before .before .before .insert-right in
+    let done = inserted .ensures in
+    let none : inserted .result ≡ 0 = omega arith in (
       S .pre .0,
-      (done .valid, ((done .room, done .small, done .sums), (last-vanished done (S .pre .1 .1 .0) none, S .pre .1 .1 .1))),
+      (
+        S .pre .1 .0,
+        (done .valid, ((done .room, done .small, done .sums), (last-vanished done (S .pre .1 .1 .0) none, S .pre .1 .1 .1))),
+      ),
     )
 
 same-length : tie.Need-same-length
@@ -55,10 +58,9 @@ same-length-2 c = search needs
 
 returns : tie.Need-returns
 returns c =
-    let found = c .before .before .before .before in
-    let inserted = found .before .before .before .before .before .before .before .before .before .before .before .before in
-    let none : inserted .insert-right .result ≡ 0 = omega arith in
-    solution-witnessed (inserted .insert-right .ensures) none (found .find-solution .ensures)
+    let inserted = c .before .before .before .before .before .before .before .before .before .before .before .before .before .before .before .before .insert-right in
+    let none : inserted .result ≡ 0 = omega arith in
+    solution-witnessed (inserted .ensures) none (c .before .before .before .before .find-solution .ensures)
 
 sub-h : tie.Need-sub-h
 sub-h c = search needs
@@ -68,11 +70,11 @@ sub-h-2 c = search needs
 
 find-absence-requires : tie.Need-find-absence-requires
 find-absence-requires c κs =
-    let inserted = c .before .before .before .before .before .before in
-    let S = inserted .before .before .before .before .before .before .before .before .before .before .before in
-    let some : 0 < inserted .insert-right .result = omega arith in (
+    let S = c .before .before .before .before .before .before .before .before .before .before .before .before .before .before .before .before .before in
+    let inserted = c .before .before .before .before .before .before .insert-right in
+    let some : 0 < inserted .result = omega arith in (
       (S .pre .0 .0, S .pre .0 .1, omega arith, S .pre .1 .0),
-      (last-stuck (inserted .insert-right .ensures) (S .pre .1 .1 .0) some, S .pre .1 .1 .1 .2),
+      (last-stuck (inserted .ensures) (S .pre .1 .1 .0) some, S .pre .1 .1 .1 .2),
     )
 
 same-length-3 : tie.Need-same-length-3
@@ -80,11 +82,10 @@ same-length-3 c = search needs
 
 returns-2 : tie.Need-returns-2
 returns-2 c =
-    let found = c .before .before in
-    let inserted = found .before .before .before .before .before .before .before in
-    let S = inserted .before .before .before .before .before .before .before .before .before .before .before in
-    let some : 0 < inserted .insert-right .result = omega arith in
-    absence-witnessed (inserted .insert-right .ensures) (S .pre .1 .1 .1 .1) some (found .find-absence .ensures)
+    let S = c .before .before .before .before .before .before .before .before .before .before .before .before .before .before .before .before .before .before .before .before in
+    let inserted = c .before .before .before .before .before .before .before .before .before .insert-right in
+    let some : 0 < inserted .result = omega arith in
+    absence-witnessed (inserted .ensures) (S .pre .0 .0 .prime) (S .pre .1 .1 .1 .1) some (c .before .before .find-absence .ensures)
 
 pub find-witness-spec : {M : Type 1} → statement M
 find-witness-spec =

@@ -11,11 +11,10 @@ use Rattle.vector.specs.Bound.{zeros-none}
 use Rattle.lattice.specs.Memory.{row, level, ValidLevel}
 use Rattle.residue.specs.Modulus.{ValidModulus}
 use Rattle.lattice.specs.Sums.{sums-room}
-use Rattle.filling.specs.Column.{column-reduced, reduced-below}
 use Rattle.filling.specs.Filled.{emptied, filled-valid, emptied-filled}
 use Rattle.ascent.specs.Ascended.{HasLevels, Ascended}
 use Rattle.ascent.specs.Undoing.{has-extended, ascended-undone, ascended-none}
-use Rattle.ascent.specs.Top.{levels-top, ascended-top}
+use Rattle.ascent.specs.Top.{has-last, ascended-top}
 use Rattle.ascent.specs.Dropping.{dropping, ascended-drop}
 use Rattle.ascent.specs.Filling.{left-leading, filling, undone-filling}
 use Rattle.ascent.specs.Rising.{rising}
@@ -25,10 +24,9 @@ use Rattle.filling.proofs.empty_slot.Reads as empty-slot-reads
 use Rattle.filling.proofs.fill_slot.Reads as fill-slot-reads
 use Rattle.levels.proofs.next.next_level.Reads as next-level-reads
 use Rattle.quotients.proofs.lower_quotients.Reads as lower-quotients-reads
-use Rattle.vector.proofs.reduce_range.Reads as reduce-range-reads
+use Rattle.witness.proofs.find_witness.Reads as find-witness-reads
 use Rattle.ascent.proofs.descending.descend.Reads as descend-reads
 use Rattle.ascent.proofs.dropping.leave_out.Reads as leave-out-reads
-use Rattle.ascent.proofs.top.reach_top.Reads as reach-top-reads
 use Rattle.ascent.proofs.ascending.ascend.Reads as ascend
 use Rattle.ascent.proofs.ascending.ascend.Kinds as ascend-kinds
 use Rattle.ascent.proofs.ascending.+ascend+drop_column+fill_column+insert_column.Lts-ascend as ascend-lts
@@ -83,16 +81,14 @@ insert-column-below t = and 7 insert-column-kinds.ps (falls 7 insert-column-kind
 -- what their callees ask and ensure
 abbrev ascend-claims : ℕ → ascend-lts.Claims
 ascend-claims t = (
-  reach-top-reads.Asked,
-  reach-top-reads.Learnt,
+  find-witness-reads.Asked,
+  find-witness-reads.Learnt,
   divide-column-reads.Asked,
   divide-column-reads.Learnt,
   drop-column-below t,
   drop-column.Post,
   fill-column-below t,
   fill-column.Post,
-  reduce-range-reads.Asked,
-  reduce-range-reads.Learnt,
   insert-column-below t,
   insert-column.Post,
 )
@@ -131,11 +127,11 @@ insert-column-claims t = (
 column-left : (t : ℕ) (c : ascend-lts.Else1 (ascend-claims t) (ascend-at t) ascend.Post) → c .before .before .before .before .before .before .before .args .j < c .before .before .before .before .before .before .before .args .m
 column-left t c = omega (arith, c .before .before .before .before .before .before .before .pre .1 .0 .3, c .if1 .left)
 
-ascend-reach-top-requires : (t : ℕ) → ascend-lts.Need-reach-top-requires (ascend-claims t) (ascend-at t) ascend.Post
-ascend-reach-top-requires t c κs =
+ascend-find-witness-requires : (t : ℕ) → ascend-lts.Need-find-witness-requires (ascend-claims t) (ascend-at t) ascend.Post
+ascend-find-witness-requires t c κs =
     let given = c .before .before .before .before .before .before .before .before .before .before .before .before .pre .1 in
     let have = given .0 in
-    ((have .0, have .1, have .2, have .4), (given .1 .0, (levels-top (omega arith) (given .1 .1 .0), given .1 .1 .1)))
+    ((have .0, have .1, have .2, have .4), (given .1 .0, (has-last (omega arith) (given .1 .1 .0), given .1 .1 .1)))
 
 ascend-same-length : (t : ℕ) → ascend-lts.Need-same-length (ascend-claims t) (ascend-at t) ascend.Post
 ascend-same-length t c = search needs
@@ -153,7 +149,7 @@ ascend-same-length-5 : (t : ℕ) → ascend-lts.Need-same-length-5 (ascend-claim
 ascend-same-length-5 t c = search needs
 
 ascend-returns : (t : ℕ) → ascend-lts.Need-returns (ascend-claims t) (ascend-at t) ascend.Post
-ascend-returns t c = (ascended-top (omega arith) (c .before .before .before .before .reach-top .ensures), refl)
+ascend-returns t c = (ascended-top (omega arith) (c .before .before .before .before .find-witness .ensures), refl)
 
 ascend-mul-divide-column : (t : ℕ) → ascend-lts.Need-mul-divide-column (ascend-claims t) (ascend-at t) ascend.Post
 ascend-mul-divide-column t c = search needs
@@ -284,30 +280,16 @@ ascend-same-length-15 t c = search needs
 ascend-returns-3 : (t : ℕ) → ascend-lts.Need-returns-3 (ascend-claims t) (ascend-at t) ascend.Post
 ascend-returns-3 t c = c .before .before .before .before .before .before .before .before .before .before .before .before .fill-column .ensures
 
-ascend-slice-aggregate-reduce-range : (t : ℕ) → ascend-lts.Need-slice-aggregate-reduce-range (ascend-claims t) (ascend-at t) ascend.Post
-ascend-slice-aggregate-reduce-range t c = search needs
-
-ascend-reduce-range-requires : (t : ℕ) → ascend-lts.Need-reduce-range-requires (ascend-claims t) (ascend-at t) ascend.Post
-ascend-reduce-range-requires t c κs =
-    let S = c .before .before .before .before .before .before .before .before .before .before .before .before .before .before .before .before .before .before .before in
-    let m : ValidModulus (S .args .modulus) = S .pre .1 .0 .0 in
-    let positive : 0 < S .args .modulus .p = let large = m .prime .large in omega arith in
-    let divided = c .before .before .before .before .before .before .divide-column in (
-      (m, omega (arith, divided .kept .1 .1 .1 .1 .1 .0)),
-      λ i lt. omega (arith, sums-room (S .args .modulus .p) (divided .last .1 .1 .1 .1 .1 .0) 0 positive (divided .ensures .sums) i),
-    )
-
 ascend-slice-aggregate-insert-column : (t : ℕ) → ascend-lts.Need-slice-aggregate-insert-column (ascend-claims t) (ascend-at t) ascend.Post
 ascend-slice-aggregate-insert-column t c = search needs
 
 ascend-insert-column-requires : (t : ℕ) → ascend-lts.Need-insert-column-requires (ascend-claims t) (ascend-at t) ascend.Post
 ascend-insert-column-requires t c κs =
-    let S = c .before .before .before .before .before .before .before .before .before .before .before .before .before .before .before .before .before .before .before .before .before .before .before .before .before .before .before in
+    let S = c .before .before .before .before .before .before .before .before .before .before .before .before .before .before .before .before .before .before .before .before .before .before .before .before in
     let given = S .pre .1 in
     let have = given .0 in
-    let divided = c .before .before .before .before .before .before .before .before .before .before .before .before .before .before .divide-column in
-    let reduced = c .before .before .before .before .before .before .before .reduce-range in
-    let left = column-left t (c .before .before .before .before .before .before .before .before .before .before .before .before .before .before .before .before .before .before .before .before) in (
+    let divided = c .before .before .before .before .before .before .before .before .before .before .before .divide-column in
+    let left = column-left t (c .before .before .before .before .before .before .before .before .before .before .before .before .before .before .before .before .before) in (
       omega (arith, S .pre .0, left),
       (
         (have .0, have .1, have .2, left, have .4),
@@ -320,12 +302,10 @@ ascend-insert-column-requires t c κs =
               (
                 record {
                   factors = divided .last .1 .1 .1 .1 .1 .1 .0;
-                  left = divided .result;
-                  divided = column-reduced (have .0 .prime) (divided .ensures) (divided .kept .1 .1 .1 .1 .1 .0) (reduced .ensures);
-                  below = reduced-below (have .0 .prime) (divided .ensures) (divided .kept .1 .1 .1 .1 .1 .0) (reduced .ensures);
-                  some = omega (arith, c .before .before .before .before .before .before .before .before .before .before .before .if2 .left);
+                  divided = divided .ensures;
+                  some = omega (arith, c .before .before .before .before .before .before .before .before .if2 .left);
                 },
-                reduced .kept .0 ∙ divided .kept .1 .1 .1 .1 .1 .0,
+                divided .kept .1 .1 .1 .1 .1 .0,
               ),
             ),
           ),
@@ -349,7 +329,7 @@ ascend-same-length-20 : (t : ℕ) → ascend-lts.Need-same-length-20 (ascend-cla
 ascend-same-length-20 t c = search needs
 
 ascend-returns-4 : (t : ℕ) → ascend-lts.Need-returns-4 (ascend-claims t) (ascend-at t) ascend.Post
-ascend-returns-4 t c = (c .before .before .before .before .insert-column .ensures, refl)
+ascend-returns-4 t c = (c .before .before .before .before .before .insert-column .ensures, refl)
 
 drop-column-add-ascend : (t : ℕ) → drop-column-lts.Need-add-ascend (drop-column-claims t) (drop-column-at t) drop-column.Post
 drop-column-add-ascend t c = search needs
@@ -425,7 +405,7 @@ fill-column-fill-slot-requires t c κs =
         (
           column .1 .0 .1,
           column .0 .ends .within,
-          λ i lt. omega (arith, sums-room (S .args .modulus .p) (S .args .rest .now) 0 positive (column .0 .sums) i),
+          λ i lt. omega (arith, sums-room (S .args .modulus .p) (S .args .rest .now) (1024 + S .args .left) positive (column .0 .sums) i),
         ),
         (column .1 .0 .0, left-leading (column .0) (column .1 .0 .0)),
       ),
@@ -578,11 +558,11 @@ insert-column-slice-aggregate-next-level-4 t c = search needs
 
 insert-column-next-level-requires : (t : ℕ) → insert-column-lts.Need-next-level-requires (insert-column-claims t) (insert-column-at t) insert-column.Post
 insert-column-next-level-requires t c κs =
-    let given = c .before .before .before .before .before .before .before .before .before .before .before .pre .1 in
+    let given = c .before .before .before .before .before .before .before .before .before .before .before .before .pre .1 in
     let column = given .1 .1 .1 .1 in (
       (given .0 .0, given .1 .0),
       (
-        (omega (arith, column .1), column .0 .below),
+        record { room = column .1; ends = column .0 .divided .ends; sums = column .0 .divided .sums },
         ((refl, refl, refl, refl), (zeros-none 2048, zeros-none 16)),
       ),
     )
@@ -601,11 +581,11 @@ insert-column-slice-aggregate-ascend-3 t c = search needs
 
 insert-column-ascend-requires : (t : ℕ) → insert-column-lts.Need-ascend-requires (insert-column-claims t) (insert-column-at t) insert-column.Post
 insert-column-ascend-requires t c κs =
-    let S = c .before .before .before .before .before .before .before .before .before .before .before .before .before .before .before .before .before .before .before .before .before in
+    let S = c .before .before .before .before .before .before .before .before .before .before .before .before .before .before .before .before .before .before .before .before .before .before .before .before in
     let given = S .pre .1 in
     let have = given .0 in
     let column = given .1 .1 .1 .1 in
-    let next = c .before .before .before .before .before .before .before .before .before .next-level .ensures in (
+    let next = c .before .before .before .before .before .before .before .before .before .before .before .next-level .ensures in (
       omega (arith, S .pre .0, have .3),
       (
         (have .0, have .1, have .2, omega (arith, have .3), have .4),
@@ -633,10 +613,10 @@ insert-column-slice-aggregate-descend-4 t c = search needs
 
 insert-column-descend-requires : (t : ℕ) → insert-column-lts.Need-descend-requires (insert-column-claims t) (insert-column-at t) insert-column.Post
 insert-column-descend-requires t c κs =
-    let S = c .before .before .before .before .before .before .before .before .before .before .before .before .before .before .before .before .before .before .before .before .before .before .before .before .before .before .before .before .before .before .before .before .before .before .before .before in
+    let S = c .before .before .before .before .before .before .before .before .before .before .before .before .before .before .before .before .before .before .before .before .before .before .before .before .before .before .before .before .before .before .before .before .before .before .before .before .before .before .before in
     let given = S .pre .1 in
     let have = given .0 in
-    let N = c .before .before .before .before .before .before .before .before .before .before .before .before .before .before .before .before .before .before .before .before .before .before .before .before .next-level in
+    let N = c .before .before .before .before .before .before .before .before .before .before .before .before .before .before .before .before .before .before .before .before .before .before .before .before .before .before .next-level in
     let A = c .before .before .before .before .before .before .before .before .before .before .before .before .before .before .ascend in (
       (have .0, have .1, omega (arith, have .2, have .3), have .4),
       (
@@ -652,46 +632,52 @@ insert-column-descend-requires t c κs =
     )
 
 insert-column-same-length : (t : ℕ) → insert-column-lts.Need-same-length (insert-column-claims t) (insert-column-at t) insert-column.Post
-insert-column-same-length t c = search needs
+insert-column-same-length t c = c .before .before .before .before .before .before .before .before .before .before .before .before .before .before .before .before .before .before .before .before .before .before .before .before .before .before .before .before .before .before .before .next-level .kept .1 .1 .1 .0
 
 insert-column-same-length-2 : (t : ℕ) → insert-column-lts.Need-same-length-2 (insert-column-claims t) (insert-column-at t) insert-column.Post
 insert-column-same-length-2 t c = search needs
 
+insert-column-same-length-3 : (t : ℕ) → insert-column-lts.Need-same-length-3 (insert-column-claims t) (insert-column-at t) insert-column.Post
+insert-column-same-length-3 t c = search needs
+
 insert-column-returns : (t : ℕ) → insert-column-lts.Need-returns (insert-column-claims t) (insert-column-at t) insert-column.Post
 insert-column-returns t c =
-    let S = c .before .before .before .before .before .before .before .before .before .before .before .before .before .before .before .before .before .before .before .before .before .before .before .before .before .before .before .before .before .before .before .before .before .before .before .before .before .before .before .before .before in
+    let S = c .before .before .before .before .before .before .before .before .before .before .before .before .before .before .before .before .before .before .before .before .before .before .before .before .before .before .before .before .before .before .before .before .before .before .before .before .before .before .before .before .before .before .before .before in
     let given = S .pre .1 in
     let have = given .0 in
     let column = given .1 .1 .1 .1 in
-    let next = c .before .before .before .before .before .before .before .before .before .before .before .before .before .before .before .before .before .before .before .before .before .before .before .before .before .before .before .before .before .next-level .ensures in
+    let next = c .before .before .before .before .before .before .before .before .before .before .before .before .before .before .before .before .before .before .before .before .before .before .before .before .before .before .before .before .before .before .before .next-level .ensures in
     let A = c .before .before .before .before .before .before .before .before .before .before .before .before .before .before .before .before .before .before .before .ascend .ensures in
     let down = c .before .before .before .before .descend in
     let F = subst (λ l. Fallen (S .args .modulus .p) (level (S .args .slots .now) (S .args .sizes .now) (S .args .inverses .now)) l (S .args .n)
-    (c .before .before .before .before .before .before .before .before .before .before .before .before .before .before .before .before .before .before .before .before .before .before .before .before .before .before .before .before .before .next-level .last .1 .1 .1 .1 .1 .1 .1 .1 .0) (S .args .input .now) (128 * S .args .j)
+    (c .before .before .before .before .before .before .before .before .before .before .before .before .before .before .before .before .before .before .before .before .before .before .before .before .before .before .before .before .before .before .before .next-level .last .1 .1 .1 .1 .1 .1 .1 .1 .0) (S .args .input .now) (128 * S .args .j)
     (c .before .before .before .before .before .before .before .before .before .before .before .before .before .before .before .before .before .before .before .ascend .last .1 .1 .1 .1 .1 .1 .1 .0) (c .before .before .before .before .before .before .before .before .before .before .before .before .before .before .before .before .before .before .before .ascend .last .1 .1 .1 .1 .1 .1 .1 .1 .0) (128 * (1 + S .args .j))
     (down .last .1 .1 .1 .1 .1 .1 .1 .1 .1 .1 .1 .0) (down .last .1 .1 .1 .1 .1 .1 .1 .1 .1 .1 .1 .1 .0)) (A .1) (down .ensures) in
     ascended-undone (λ prime X H. rising (have .3) (column .0 .divided) (column .0 .some) next prime H) (A .0) (c .before .before .before .before .before .before .before .before .before .before .before .if1 .taken)
     (F .divided .below) (record { room = F .turned .same-coordinates ∙ A .0 .valid .room; below = F .turned .coordinates-below })
     (λ prime X H D. fallen (have .1) (have .3) (column .0 .divided) (column .0 .some) next F prime X H D)
 
-insert-column-same-length-3 : (t : ℕ) → insert-column-lts.Need-same-length-3 (insert-column-claims t) (insert-column-at t) insert-column.Post
-insert-column-same-length-3 t c = search needs
-
 insert-column-same-length-4 : (t : ℕ) → insert-column-lts.Need-same-length-4 (insert-column-claims t) (insert-column-at t) insert-column.Post
-insert-column-same-length-4 t c = search needs
+insert-column-same-length-4 t c = c .before .before .before .before .before .before .before .before .before .before .before .before .before .before .before .before .before .before .before .before .next-level .kept .1 .1 .1 .0
+
+insert-column-same-length-5 : (t : ℕ) → insert-column-lts.Need-same-length-5 (insert-column-claims t) (insert-column-at t) insert-column.Post
+insert-column-same-length-5 t c = search needs
+
+insert-column-same-length-6 : (t : ℕ) → insert-column-lts.Need-same-length-6 (insert-column-claims t) (insert-column-at t) insert-column.Post
+insert-column-same-length-6 t c = search needs
 
 insert-column-returns-2 : (t : ℕ) → insert-column-lts.Need-returns-2 (insert-column-claims t) (insert-column-at t) insert-column.Post
 insert-column-returns-2 t c =
-    let given = c .before .before .before .before .before .before .before .before .before .before .before .before .before .before .before .before .before .before .before .before .before .before .before .before .before .before .before .before .before .before .pre .1 in
+    let given = c .before .before .before .before .before .before .before .before .before .before .before .before .before .before .before .before .before .before .before .before .before .before .before .before .before .before .before .before .before .before .before .before .before .pre .1 in
     let column = given .1 .1 .1 .1 in
-    ascended-none (λ prime X H. rising (given .0 .3) (column .0 .divided) (column .0 .some) (c .before .before .before .before .before .before .before .before .before .before .before .before .before .before .before .before .before .before .next-level .ensures) prime H)
+    ascended-none (λ prime X H. rising (given .0 .3) (column .0 .divided) (column .0 .some) (c .before .before .before .before .before .before .before .before .before .before .before .before .before .before .before .before .before .before .before .before .next-level .ensures) prime H)
     (c .before .before .before .before .before .before .before .before .ascend .ensures .0) (c .if1 .left)
 
 pub +ascend+drop-column+fill-column+insert-column-spec : {M : Type 1} → statement M
 +ascend+drop-column+fill-column+insert-column-spec =
     close μ-ascend μ-drop-column μ-fill-column μ-insert-column
     (λ t. ascend-lts.spec (ascend-claims t) (ascend-at t) ascend.Post
-    (ascend-reach-top-requires t)
+    (ascend-find-witness-requires t)
     (ascend-same-length t)
     (ascend-same-length-2 t)
     (ascend-same-length-3 t)
@@ -722,8 +708,6 @@ pub +ascend+drop-column+fill-column+insert-column-spec : {M : Type 1} → statem
     (ascend-same-length-14 t)
     (ascend-same-length-15 t)
     (ascend-returns-3 t)
-    (ascend-slice-aggregate-reduce-range t)
-    (ascend-reduce-range-requires t)
     (ascend-slice-aggregate-insert-column t)
     (ascend-insert-column-requires t)
     (ascend-same-length-16 t)
@@ -787,7 +771,9 @@ pub +ascend+drop-column+fill-column+insert-column-spec : {M : Type 1} → statem
     (insert-column-descend-requires t)
     (insert-column-same-length t)
     (insert-column-same-length-2 t)
-    (insert-column-returns t)
     (insert-column-same-length-3 t)
+    (insert-column-returns t)
     (insert-column-same-length-4 t)
+    (insert-column-same-length-5 t)
+    (insert-column-same-length-6 t)
     (insert-column-returns-2 t))

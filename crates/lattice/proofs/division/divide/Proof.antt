@@ -1,5 +1,5 @@
 -- The loop keeps a `Dividing`; its measure is what is left of the block.
-use Prim.Native.Nat.{_<_}
+use Prim.Native.Nat.{_+_, _<_}
 use mathlib.Core.Path.{_≡_, subst}
 use mathlib.Core.Logic.{inl, inr}
 use native.Mathlib.Nat.{le-of-lt, le-trans, le-add-right, pos-of-ne-zero}
@@ -88,7 +88,7 @@ take-multiple-requires c κs =
     let some = on .before .before .before .if1 .taken in
     let filled = pos-of-ne-zero (on .before .if2 .left) in
     let step = dividing-step (S .pre .0 .0 .prime) I (S .pre .0 .1) some filled (on .if3 .left) in
-    (S .pre .0 .0, (step, sums-fewer _ (L .loop .block) _ 1 some (I .sums)))
+    (S .pre .0 .0, (step, sums-fewer _ (L .loop .block) (1024 + L .loop .found .size) 1 (omega arith) (I .sums)))
 
 sub-place : tie.Need-sub-place Inv-loop μ-loop
 sub-place c = search needs

@@ -1,17 +1,11 @@
--- `lay_hand` meets its contract: two calls and a store.
-use mathlib.Core.Path.{ap}
-use mathlib.Core.List.{List}
-use Prim.Native.Nat.{ℕ}
-use lib.ListN.{getD, set}
+-- `lay_hand` meets its contract: a store, and the last word reduced.
+use mathlib.Core.Path.{refl, _∙_, ap}
+use Prim.Native.Nat.{ℕ, _%_}
+use native.Mathlib.Omega.{arith}
+use lib.ListN.{getD}
 use borrow.Author.Needs.{needs}
 use Rattle.levels.proofs.beginning.lay_hand.Statement.{statement}
 use Rattle.levels.proofs.beginning.lay_hand.Tie as tie
-
-copy-requires : tie.Need-copy-requires
-copy-requires c κs = search needs
-
-clear-requires : tie.Need-clear-requires
-clear-requires c κs = search needs
 
 slice-write-tail : tie.Need-slice-write-tail
 slice-write-tail c = search needs
@@ -19,38 +13,35 @@ slice-write-tail c = search needs
 last-place-requires : tie.Need-last-place-requires
 last-place-requires c κs = search needs
 
-mul-t12 : tie.Need-mul-t12
-mul-t12 c = search needs
+mul-reduce : tie.Need-mul-reduce
+mul-reduce c = search needs
 
-shared-slice-read-t14 : tie.Need-shared-slice-read-t14
-shared-slice-read-t14 c = search needs
+shared-slice-read-reduce : tie.Need-shared-slice-read-reduce
+shared-slice-read-reduce c = search needs
+
+reduce-requires : tie.Need-reduce-requires
+reduce-requires c κs = let S = c .before .before .before .before in (S .pre .0 .0, S .pre .1 _ (omega (arith, S .pre .0 .2)))
 
 same-length : tie.Need-same-length
 same-length c = search needs
 
-same-length-2 : tie.Need-same-length-2
-same-length-2 c = search needs
-
 returns : tie.Need-returns
 returns c =
-    let S = c .before .before .before .before .before .before .before .before .before .before .before .before .before in (
-      c .before .before .before .before .before .before .before .before .copy .ensures,
-      (
-        ap (λ (w : List ℕ). set w 0 1) (c .before .before .before .before .clear .ensures),
-        ap (λ (i : ℕ). record { size = S .args .size; leading = getD (S .args .column .now) i 0; tail = 1 }) (c .before .last-place .ensures),
-      ),
+    let S = c .before .before .before .before .before in
+    let p = S .args .modulus .p in (
+      refl,
+      ap (λ (v : ℕ). record { size = S .args .size; leading = v; tail = 1 })
+          (c .reduce .ensures ∙ ap (λ (i : ℕ). getD (S .args .column .now) i 0 % p) (c .before .before .last-place .ensures)),
     )
 
 pub lay-hand-spec : {M : Type 1} → statement M
 lay-hand-spec =
     tie.close
     (tie.spec
-    copy-requires
-    clear-requires
     slice-write-tail
     last-place-requires
-    mul-t12
-    shared-slice-read-t14
+    mul-reduce
+    shared-slice-read-reduce
+    reduce-requires
     same-length
-    same-length-2
     returns)

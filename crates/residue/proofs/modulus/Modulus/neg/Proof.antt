@@ -1,18 +1,22 @@
--- The difference is at most p.
+-- p - a is below p, but where a is 0.
+use mathlib.Core.Path.{sym}
+use native.Mathlib.Nat.{sub-zero, mod-self, mod-eq-of-lt}
+use native.Mathlib.Omega.{arith}
 use borrow.Author.Needs.{needs}
 use Rattle.modular.specs.Modulo.{modulo}
 use Rattle.residue.proofs.modulus.Modulus.neg.Statement.{statement}
 use Rattle.residue.proofs.modulus.Modulus.neg.Tie as tie
 
-sub-wrap : tie.Need-sub-wrap
-sub-wrap c = search needs
-
-wrap-requires : tie.Need-wrap-requires
-wrap-requires c κs = search needs
+sub-result : tie.Need-sub-result
+sub-result c = search needs
 
 returns : tie.Need-returns
 unfolding modulo
-returns c = c .wrap .ensures
+returns c = rw (c .if1 .taken, sub-zero, mod-self)
+
+returns-2 : tie.Need-returns-2
+unfolding modulo
+returns-2 c = sym (mod-eq-of-lt (omega arith))
 
 pub neg-spec : {M : Type 1} → statement M
-neg-spec = tie.close (tie.spec sub-wrap wrap-requires returns)
+neg-spec = tie.close (tie.spec sub-result returns returns-2)
