@@ -1,7 +1,7 @@
 // The second system of a level solved: its right side inserted, made monic, and divided.
 use crate::denominator::find_denominator;
 use crate::rows::store_rows;
-use lattice::division::divide;
+use lattice::divide;
 use multiples::product::multiply_block;
 use residue::modulus::Modulus;
 use transposed::layout::lay_second;

@@ -1,13 +1,13 @@
 -- The words of the second system of a level with slots s and sizes z, of n rows. Its coordinate i is coordinate n - 1 - i of the
 -- level, lifted by so many degrees that the block of slot n - 1 - i of the level would be as high as the highest.
-use Prim.Native.Nat.{ℕ, suc, _+_, _-_, _*_, _/_, _%_, _<_, _≤_}
-use mathlib.Core.Path.{_≡_, refl, sym, _∙_, ap}
+use Prim.Native.Nat.{ℕ, _+_, _-_, _*_, _/_, _%_, _<_, _≤_}
+use mathlib.Core.Path.{_≡_, refl, _∙_}
 use mathlib.Core.List.{List}
 use native.Mathlib.Omega.{arith}
 use native.Mathlib.Decide.{decLt, decLe}
 use lib.ListN.{length, getD}
 use Rattle.lattice.specs.Memory.{height}
-use Rattle.transposed.specs.Greatest.{greatest}
+use Rattle.transposed.specs.Greatest.{Low, greatest}
 
 -- v where d holds, else 0
 unfoldable pub when : {P : Type 0} → Dec P → ℕ → ℕ
@@ -28,7 +28,7 @@ when-no (no h) v x = refl
 pub record InRoom (s z : List ℕ) : Type 0 where
   pub slots : 2048 ≤ length s
   pub sizes : 16 ≤ length z
-  pub low : (q : ℕ) → q < 8 → getD z q 0 ≤ 128
+  pub low : Low z
 
 -- coordinate i in reversed order
 abbrev pub reversed : (n i : ℕ) → ℕ
@@ -56,13 +56,6 @@ module _ (z : List ℕ) (n k : ℕ) where
 
     pub size-filled : 0 < getD z (reversed n k) 0 → transposedSize z n k ≡ 8 * greatest z n - k
     size-filled some = when-yes (decLt k n) _ slot ∙ when-yes (decLt 0 (getD z (reversed n k) 0)) (8 * greatest z n - k) some
-
-  size-within : Dec (k < n) → 0 < transposedSize z n k → k < n
-  size-within (yes h) some = h
-  size-within (no h) some = absurd (omega (arith, size-beyond h))
-
-  pub size-inside : 0 < transposedSize z n k → k < n
-  size-inside = size-within (decLt k n)
 
 -- slot k has at coordinate i what slot n - 1 - i of the level has at coordinate n - 1 - k; empty slots and tails are 0
 abbrev pub transposedWord : (s z : List ℕ) (n x : ℕ) → ℕ

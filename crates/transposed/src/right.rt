@@ -9,7 +9,7 @@ ghost use Rattle.transposed.specs.Words.{InRoom, rightWord};
 ghost use Rattle.transposed.specs.RightFilling.{TailsEnd, Righting};
 
 // Where the block has coefficient d of row i.
-pub fn place_in_right(i: usize, d: usize) -> usize
+fn place_in_right(i: usize, d: usize) -> usize
     requires { ⌜ (i < 8) × (d < 136) ⌝ }
     ensures place { λ x. ⌜ x ≡ 8 * d + (7 - i) ⌝ }
     ensures inside { λ x. ⌜ x < 1088 ⌝ }
@@ -18,7 +18,7 @@ pub fn place_in_right(i: usize, d: usize) -> usize
 }
 
 // Stores lane i: the tail of slot n - 1 - i of the level, where that is filled.
-pub fn right_lane(slots: &[u64], sizes: &[usize], n: usize, top: usize, i: usize, out: &mut [u64])
+fn right_lane(slots: &[u64], sizes: &[usize], n: usize, top: usize, i: usize, out: &mut [u64])
     requires { ⌜ InRoom (now slots) (now sizes) × TailsEnd (now slots) (now sizes) × (n ≤ 8) × (i < n) ⌝ }
     requires height { ⌜ top ≡ greatest (now sizes) n ⌝ }
     requires before { ⌜ Righting (now slots) (now sizes) n (length (now out)) (now out) (136 * i) ⌝ }

@@ -19,7 +19,7 @@ pub fn place_in_block(q: usize, r: usize, e: usize) -> usize
 }
 
 // The size of slot k of the transposed slots.
-pub fn transposed_size(sizes: &[usize], n: usize, top: usize, k: usize) -> usize
+fn transposed_size(sizes: &[usize], n: usize, top: usize, k: usize) -> usize
     requires { ⌜ (16 ≤ length (now sizes)) × (n ≤ 8) × (top ≤ 16) ⌝ }
     requires height { ⌜ top ≡ greatest (now sizes) n ⌝ }
     ensures { λ r. ⌜ r ≡ transposedSize (now (sizes .entry)) n k ⌝ }
@@ -33,7 +33,7 @@ pub fn transposed_size(sizes: &[usize], n: usize, top: usize, k: usize) -> usize
 }
 
 // Stores lane i of slot k: coordinate n - 1 - k of the block of slot n - 1 - i of the level.
-pub fn transpose_lane(
+fn transpose_lane(
     slots: &[u64],
     sizes: &[usize],
     n: usize,
@@ -60,14 +60,7 @@ pub fn transpose_lane(
 }
 
 // Stores slot k, lane by lane, where it is filled.
-pub fn transpose_slot(
-    slots: &[u64],
-    sizes: &[usize],
-    n: usize,
-    top: usize,
-    k: usize,
-    out: &mut [u64],
-)
+fn transpose_slot(slots: &[u64], sizes: &[usize], n: usize, top: usize, k: usize, out: &mut [u64])
     requires { ⌜ InRoom (now slots) (now sizes) × (n ≤ 8) × (k < n) ⌝ }
     requires height { ⌜ top ≡ greatest (now sizes) n ⌝ }
     requires before { ⌜ Transposing (now slots) (now sizes) n (length (now out)) (now out) (256 * k) ⌝ }

@@ -9,11 +9,9 @@ use Rattle.tails.proofs.row_size.Tie as tie
 use Rattle.tails.proofs.row_size.Reads as reads
 use Rattle.tails.proofs.row_size.Lts as lts
 
--- src/lib.rt:29:9
 returns : tie.Need-returns
 returns c = let S = c .before in sym (when-yes (decLt 0 (S .args .size)) 16 (omega arith))
 
--- src/lib.rt:25:1
 returns-2 : tie.Need-returns-2
 returns-2 c = let S = c .before in sym (when-no (decLt 0 (S .args .size)) 16 (λ (h : 0 < S .args .size). omega arith))
 

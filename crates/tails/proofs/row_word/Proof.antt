@@ -11,33 +11,27 @@ use Rattle.tails.proofs.row_word.Reads as reads
 use Rattle.tails.proofs.row_word.Lts as lts
 use Rattle.transposed.proofs.transpose.place_in_block.Reads as place-in-block-reads
 
--- src/lib.rt:17:17
 place-in-block-requires : tie.Need-place-in-block-requires
 place-in-block-requires c κs = search needs
 
--- src/lib.rt:18:20
 mul-result : tie.Need-mul-result
 mul-result c = search needs
 
--- src/lib.rt:18:20
 shared-slice-read-result : tie.Need-shared-slice-read-result
 shared-slice-read-result c = search needs
 
--- src/lib.rt:18:13
 returns : tie.Need-returns
 returns c =
     let S = c .before .before .before .before .before in
     ap (λ x. getD (S .args .slots .now) x 0) (c .before .place-in-block .ensures .0)
     ∙ sym (row-value (S .args .slots .now) (S .args .size) (S .args .q) (S .args .h) (S .args .e) (omega arith) (omega arith))
 
--- src/lib.rt:11:1
 returns-2 : tie.Need-returns-2
 returns-2 c =
     let S = c .before .before .before in
     sym (row-far (S .args .slots .now) (S .args .size) (S .args .q) (S .args .h) (S .args .e) (omega arith)
     (λ (h : S .args .e < 16). omega arith))
 
--- src/lib.rt:11:1
 returns-3 : tie.Need-returns-3
 returns-3 c =
     let S = c .before .before in

@@ -19,58 +19,45 @@ Inv-loop slots₀ sizes₀ h q₀ slots sizes q = TakesRow h q slots₀ sizes₀
 abbrev μ-loop : tie.MeasureT-loop
 μ-loop slots₀ sizes₀ h q₀ slots sizes q = 8 - q
 
--- src/lib.rt:53:5
 loop-holds : tie.Need-loop-holds Inv-loop μ-loop
 loop-holds c = takes-start _ _ _
 
--- src/lib.rt:54:26
 mul-take-tail : tie.Need-mul-take-tail Inv-loop μ-loop
 mul-take-tail c = omega arith
 
--- src/lib.rt:54:26
 slice-read-take-tail : tie.Need-slice-read-take-tail Inv-loop μ-loop
 slice-read-take-tail c = omega arith
 
--- src/lib.rt:54:9
 take-tail-requires : tie.Need-take-tail-requires Inv-loop μ-loop
 take-tail-requires c κs =
     let S = c .before .before .before .before .before .before in
     let L = c .before .before .before in
     (omega (arith, L .loop .inv .same-length, S .pre .0), omega arith, S .pre .2)
 
--- src/lib.rt:55:33
 mul-row-size : tie.Need-mul-row-size Inv-loop μ-loop
 mul-row-size c = omega arith
 
--- src/lib.rt:55:33
 slice-read-row-size : tie.Need-slice-read-row-size Inv-loop μ-loop
 slice-read-row-size c = omega arith
 
--- src/lib.rt:55:24
 row-size-requires : tie.Need-row-size-requires Inv-loop μ-loop
 row-size-requires c κs = tt
 
--- src/lib.rt:55:15
 add-sizes : tie.Need-add-sizes Inv-loop μ-loop
 add-sizes c = omega arith
 
--- src/lib.rt:55:9
 mul-sizes : tie.Need-mul-sizes Inv-loop μ-loop
 mul-sizes c = omega arith
 
--- src/lib.rt:55:9
 slice-write-sizes : tie.Need-slice-write-sizes Inv-loop μ-loop
 slice-write-sizes c = omega arith
 
--- src/lib.rt:56:9
 add-q : tie.Need-add-q Inv-loop μ-loop
 add-q c = omega arith
 
--- src/lib.rt:53:5
 loop-less : tie.Need-loop-less Inv-loop μ-loop
 loop-less c = omega arith
 
--- src/lib.rt:53:5
 loop-again : tie.Need-loop-again Inv-loop μ-loop
 loop-again c =
     let T = c .before .before .before .before in
@@ -78,15 +65,12 @@ loop-again c =
     let S = L .before .before .before in
     takes-turn (L .loop .inv) (S .pre .0) (S .pre .1) (omega arith) _ (T .take-tail .ensures) _ (c .row-size .ensures)
 
--- src/lib.rt:48:1
 same-length : tie.Need-same-length Inv-loop μ-loop
 same-length c = c .before .loop .inv .same-length
 
--- src/lib.rt:48:1
 same-length-2 : tie.Need-same-length-2 Inv-loop μ-loop
 same-length-2 c = c .before .loop .inv .same-sizes
 
--- src/lib.rt:48:1
 returns : tie.Need-returns Inv-loop μ-loop
 returns c =
     let S = c .before .before .before .before in

@@ -19,46 +19,36 @@ Inv-loop slots₀ size q h e₀ slots e = Storing (rowWord slots₀ size q h) sl
 abbrev μ-loop : tie.MeasureT-loop
 μ-loop slots₀ size q h e₀ slots e = 128 - e
 
--- src/lib.rt:40:5
 loop-holds : tie.Need-loop-holds Inv-loop μ-loop
 loop-holds c = storing-start _ _ _ _
 
--- src/lib.rt:41:13
 row-word-requires : tie.Need-row-word-requires Inv-loop μ-loop
 row-word-requires c κs =
     let S = c .before .before .before .before in
     let L = c .before .before in
     (omega (arith, L .loop .inv .same-length, S .pre .0), S .pre .1, S .pre .2)
 
--- src/lib.rt:42:15
 mul-slots : tie.Need-mul-slots Inv-loop μ-loop
 mul-slots c = omega arith
 
--- src/lib.rt:42:15
 add-slots : tie.Need-add-slots Inv-loop μ-loop
 add-slots c = omega arith
 
--- src/lib.rt:42:15
 add-slots-2 : tie.Need-add-slots-2 Inv-loop μ-loop
 add-slots-2 c = omega arith
 
--- src/lib.rt:42:9
 mul-slots-2 : tie.Need-mul-slots-2 Inv-loop μ-loop
 mul-slots-2 c = omega arith
 
--- src/lib.rt:42:9
 slice-write-slots : tie.Need-slice-write-slots Inv-loop μ-loop
 slice-write-slots c = omega arith
 
--- src/lib.rt:43:9
 add-e : tie.Need-add-e Inv-loop μ-loop
 add-e c = omega arith
 
--- src/lib.rt:40:5
 loop-less : tie.Need-loop-less Inv-loop μ-loop
 loop-less c = omega arith
 
--- src/lib.rt:40:5
 loop-again : tie.Need-loop-again Inv-loop μ-loop
 loop-again c =
     let L = c .before .before .before in
@@ -71,11 +61,9 @@ loop-again c =
     (λ j lt. ap (λ l. getD l (place + j) 0) (L .loop .inv .words)
     ∙ stored-outside f (S .args .slots .now) (place + 128) (L .loop .e) (place + j) (inl (omega arith))))
 
--- src/lib.rt:35:1
 same-length : tie.Need-same-length Inv-loop μ-loop
 same-length c = c .before .loop .inv .same-length
 
--- src/lib.rt:35:1
 returns : tie.Need-returns Inv-loop μ-loop
 returns c = storing-end (c .before .loop .inv) (c .loop-test .left)
 

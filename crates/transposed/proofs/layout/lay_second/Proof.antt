@@ -2,51 +2,34 @@
 use borrow.Author.Needs.{needs}
 use Rattle.transposed.proofs.layout.lay_second.Statement.{statement}
 use Rattle.transposed.proofs.layout.lay_second.Tie as tie
-use Rattle.transposed.proofs.layout.lay_second.Reads as reads
-use Rattle.transposed.proofs.layout.lay_second.Lts as lts
-use Rattle.transposed.proofs.height.greatest_height.Reads as greatest-height-reads
-use Rattle.transposed.proofs.right.right_side.Reads as right-side-reads
-use Rattle.transposed.proofs.transpose.transpose_inverses.Reads as transpose-inverses-reads
-use Rattle.transposed.proofs.transpose.transpose_sizes.Reads as transpose-sizes-reads
-use Rattle.transposed.proofs.transpose.transpose_slots.Reads as transpose-slots-reads
 
--- src/layout.rt:33:9
 greatest-height-requires : tie.Need-greatest-height-requires
 greatest-height-requires c κs = search needs
 
--- src/layout.rt:34:5
 transpose-slots-requires : tie.Need-transpose-slots-requires
 transpose-slots-requires c κs = search needs
 
--- src/layout.rt:35:5
 transpose-sizes-requires : tie.Need-transpose-sizes-requires
 transpose-sizes-requires c κs = search needs
 
--- src/layout.rt:36:5
 transpose-inverses-requires : tie.Need-transpose-inverses-requires
 transpose-inverses-requires c κs = search needs
 
--- src/layout.rt:37:5
 right-side-requires : tie.Need-right-side-requires
 right-side-requires c κs = search needs
 
--- src/layout.rt:16:1
 same-length : tie.Need-same-length
 same-length c = search needs
 
--- src/layout.rt:16:1
 same-length-2 : tie.Need-same-length-2
 same-length-2 c = search needs
 
--- src/layout.rt:16:1
 same-length-3 : tie.Need-same-length-3
 same-length-3 c = search needs
 
--- src/layout.rt:16:1
 same-length-4 : tie.Need-same-length-4
 same-length-4 c = search needs
 
--- src/layout.rt:16:1
 returns : tie.Need-returns
 returns c =
     let R = c .before .before in

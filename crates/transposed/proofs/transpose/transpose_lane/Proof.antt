@@ -8,9 +8,6 @@ use Rattle.transposed.specs.Greatest.{greatest-high, greatest-small}
 use Rattle.transposed.specs.TransposeFilling.{LaneGoing, lane-start, lane-end, lane-turn, fewer}
 use Rattle.transposed.proofs.transpose.transpose_lane.Statement.{statement}
 use Rattle.transposed.proofs.transpose.transpose_lane.Tie as tie
-use Rattle.transposed.proofs.transpose.transpose_lane.Reads as reads
-use Rattle.transposed.proofs.transpose.transpose_lane.Lts as lts
-use Rattle.transposed.proofs.transpose.place_in_block.Reads as place-in-block-reads
 
 abbrev Inv-loop : tie.InvT-loop
 Inv-loop slots sizes n top k i out₀ q lift e₀ out e = LaneGoing slots sizes n k i (length out₀) out e
@@ -18,35 +15,28 @@ Inv-loop slots sizes n top k i out₀ q lift e₀ out e = LaneGoing slots sizes 
 abbrev μ-loop : tie.MeasureT-loop
 μ-loop slots sizes n top k i out₀ q lift e₀ out e = top - e
 
--- src/transpose.rt:39:13
 sub-q : tie.Need-sub-q Inv-loop μ-loop
 sub-q c = omega arith
 
--- src/transpose.rt:39:13
 sub-q-2 : tie.Need-sub-q-2 Inv-loop μ-loop
 sub-q-2 c = omega arith
 
--- src/transpose.rt:40:22
 mul-lift : tie.Need-mul-lift Inv-loop μ-loop
 mul-lift c = omega arith
 
--- src/transpose.rt:40:22
 shared-slice-read-lift : tie.Need-shared-slice-read-lift Inv-loop μ-loop
 shared-slice-read-lift c = omega arith
 
--- src/transpose.rt:40:22
 add-lift : tie.Need-add-lift Inv-loop μ-loop
 add-lift c =
     let S = c .before .before .before .before in
     omega (arith, S .pre .0 .0 .low (S .args .n - 1 - S .args .i) (omega arith))
 
--- src/transpose.rt:40:16
 sub-lift : tie.Need-sub-lift Inv-loop μ-loop
 sub-lift c =
     let S = c .before .before .before .before in
     omega (arith, S .pre .1 .0, greatest-high (S .args .sizes .now) (S .args .n) (S .args .n - 1 - S .args .i) (omega arith))
 
--- src/transpose.rt:42:5
 loop-holds : tie.Need-loop-holds Inv-loop μ-loop
 loop-holds c =
     let S = c .before .before .before .before in
@@ -54,21 +44,17 @@ loop-holds c =
     (greatest-small (S .args .sizes .now) (S .args .n) (S .pre .0 .1) (S .pre .0 .0 .low)) (S .args .i) (S .pre .0 .3) (S .pre .1 .1) _
     (ap (λ t. t - height (getD (S .args .sizes .now) (S .args .n - 1 - S .args .i) 0)) (S .pre .1 .0))
 
--- src/transpose.rt:43:38
 sub-place-in-block : tie.Need-sub-place-in-block Inv-loop μ-loop
 sub-place-in-block c = omega arith
 
--- src/transpose.rt:43:38
 sub-place-in-block-2 : tie.Need-sub-place-in-block-2 Inv-loop μ-loop
 sub-place-in-block-2 c = omega arith
 
--- src/transpose.rt:43:49
 sub-place-in-block-3 : tie.Need-sub-place-in-block-3 Inv-loop μ-loop
 sub-place-in-block-3 c =
     let S = c .before .before .before .before .before .before in
     omega (arith, c .before .loop .inv .low, S .pre .1 .0)
 
--- src/transpose.rt:43:13
 place-in-block-requires : tie.Need-place-in-block-requires Inv-loop μ-loop
 place-in-block-requires c κs =
     let inv = c .before .loop .inv in
@@ -76,38 +62,30 @@ place-in-block-requires c κs =
     let small = greatest-small (S .args .sizes .now) (S .args .n) (S .pre .0 .1) (S .pre .0 .0 .low) in
     (omega arith, omega arith, omega (arith, inv .low, inv .high, small, S .pre .1 .0))
 
--- src/transpose.rt:44:13
 place-in-block-requires-2 : tie.Need-place-in-block-requires-2 Inv-loop μ-loop
 place-in-block-requires-2 c κs =
     let S = c .before .before .before .before .before .before .before in
     let small = greatest-small (S .args .sizes .now) (S .args .n) (S .pre .0 .1) (S .pre .0 .0 .low) in
     (omega arith, omega arith, omega (arith, small, S .pre .1 .0))
 
--- src/transpose.rt:45:19
 mul-out : tie.Need-mul-out Inv-loop μ-loop
 mul-out c = omega arith
 
--- src/transpose.rt:45:19
 shared-slice-read-out : tie.Need-shared-slice-read-out Inv-loop μ-loop
 shared-slice-read-out c = omega arith
 
--- src/transpose.rt:45:9
 mul-out-2 : tie.Need-mul-out-2 Inv-loop μ-loop
 mul-out-2 c = omega arith
 
--- src/transpose.rt:45:9
 slice-write-out : tie.Need-slice-write-out Inv-loop μ-loop
 slice-write-out c = omega arith
 
--- src/transpose.rt:46:9
 add-e : tie.Need-add-e Inv-loop μ-loop
 add-e c = omega arith
 
--- src/transpose.rt:42:5
 loop-less : tie.Need-loop-less Inv-loop μ-loop
 loop-less c = fewer _ _ (omega arith)
 
--- src/transpose.rt:42:5
 loop-again : tie.Need-loop-again Inv-loop μ-loop
 loop-again c =
     let L = c .before .before .before .before in
@@ -119,11 +97,9 @@ loop-again c =
     + 8 * (L .loop .e - (t - height (getD (S .args .sizes .now) (S .args .n - 1 - S .args .i) 0)))
     + (7 - (S .args .n - 1 - S .args .k))) (S .pre .1 .0)))
 
--- src/transpose.rt:33:1
 same-length : tie.Need-same-length Inv-loop μ-loop
 same-length c = c .before .loop .inv .words .same-length
 
--- src/transpose.rt:33:1
 returns : tie.Need-returns Inv-loop μ-loop
 returns c =
     let S = c .before .before .before .before .before .before in
