@@ -144,7 +144,7 @@ module _ (p : ℕ) (prime : Prime p) {n : ℕ} (small : n ≤ 8) {L : Level} (va
         at zero = sym (words-first p prime (set ot 0 1) 256 0 (omega arith) ∙ residue-one p prime _ (first-starts .one))
         at (suc k) = sym (words-zero p prime (set ot 0 1) 0 256 1 (first-valid .hand .tail) (suc k) (omega arith))
 
-    pub first-holds : HoldsState p prime n (weights (polynomials (residues p prime)) n (greatest (L .sizes) n) U) firstMemory
+    first-holds : HoldsState p prime n (weights (polynomials (residues p prime)) n (greatest (L .sizes) n) U) firstMemory
         (begin (polynomials (residues p prime)) n (transposed (polynomials (residues p prime)) n (greatest (L .sizes) n) U)
         (rightSide (polynomials (residues p prime)) n (greatest (L .sizes) n) U) (height found))
     first-holds = record {

@@ -130,7 +130,7 @@ module _ (p : ℕ) (prime : Prime p) where
             subst (Holds F _) (sym (masked-filled (U .size (back n i)) _ (U .at (back n i) (back n k)) (omega arith)))
             (record { at = λ j. lane-of (back n i) (back n k) (omega arith) (omega arith) (omega arith) .at j ∙ lifted i l (omega arith) j })
 
-        pub transposed-held : Held (residues p prime) n 8 (weights (polynomials (residues p prime)) n (greatest (L .sizes) n) U)
+        transposed-held : Held (residues p prime) n 8 (weights (polynomials (residues p prime)) n (greatest (L .sizes) n) U)
             (words p prime (stored (transposedWord (L .slots) (L .sizes) n) o 0 2048) (256 * k) 128)
             (words p prime (stored (transposedWord (L .slots) (L .sizes) n) o 0 2048) (256 * k + 128) 128)
             (cleared (polynomials (residues p prime)) n (transposed (polynomials (residues p prime)) n (greatest (L .sizes) n) U) .at k)

@@ -3,26 +3,40 @@
 use Prim.Native.Nat.{ℕ, _+_, _-_, _*_, _/_, _%_, _<_, _≤_}
 use mathlib.Core.Path.{_≡_, refl, _∙_}
 use mathlib.Core.List.{List}
-use native.Mathlib.Omega.{arith}
 use native.Mathlib.Decide.{decLt, decLe}
 use lib.ListN.{length, getD}
 use Rattle.lattice.specs.Memory.{height}
 use Rattle.transposed.specs.Greatest.{Low, greatest}
 
+-- a where d holds, else b
+unfoldable pub either : {P : Type 0} → Dec P → ℕ → ℕ → ℕ
+either (yes h) a b = a
+either (no h) a b = b
+
+pub either-yes : {P : Type 0} (d : Dec P) (a b : ℕ) → P → either d a b ≡ a
+unfolding either
+either-yes (yes h) a b x = refl
+either-yes (no h) a b x = absurd (h x)
+
+pub either-no : {P : Type 0} (d : Dec P) (a b : ℕ) → ¬ P → either d a b ≡ b
+unfolding either
+either-no (yes h) a b x = absurd (x h)
+either-no (no h) a b x = refl
+
 -- v where d holds, else 0
-unfoldable pub when : {P : Type 0} → Dec P → ℕ → ℕ
-when (yes h) v = v
-when (no h) v = 0
+abbrev pub when : {P : Type 0} → Dec P → ℕ → ℕ
+when d v = either d v 0
 
 pub when-yes : {P : Type 0} (d : Dec P) (v : ℕ) → P → when d v ≡ v
-unfolding when
-when-yes (yes h) v x = refl
-when-yes (no h) v x = absurd (h x)
+when-yes d v = either-yes d v 0
 
 pub when-no : {P : Type 0} (d : Dec P) (v : ℕ) → ¬ P → when d v ≡ 0
-unfolding when
-when-no (yes h) v x = absurd (x h)
-when-no (no h) v x = refl
+when-no d v = either-no d v 0
+
+pub when-same : {P : Type 0} (d : Dec P) (v v′ : ℕ) → (P → v ≡ v′) → when d v ≡ when d v′
+unfolding either
+when-same (yes h) v v′ same = same h
+when-same (no h) v v′ same = refl
 
 -- a level's slots and sizes are there, and no block is higher than 16 degrees
 pub record InRoom (s z : List ℕ) : Type 0 where

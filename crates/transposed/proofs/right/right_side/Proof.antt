@@ -1,6 +1,6 @@
 -- The loop keeps what `Righting` says of the lanes so far.
 use mathlib.Core.Path.{refl, sym}
-use Prim.Native.Nat.{_-_, _*_, _≤_}
+use Prim.Native.Nat.{_-_, _≤_}
 use native.Mathlib.Omega.{arith}
 use lib.ListN.{length}
 use Rattle.transposed.specs.Filling.{filling-same}
@@ -9,7 +9,7 @@ use Rattle.transposed.proofs.right.right_side.Statement.{statement}
 use Rattle.transposed.proofs.right.right_side.Tie as tie
 
 abbrev Inv-loop : tie.InvT-loop
-Inv-loop slots sizes n top out₀ i₀ out i = (i ≤ n) × Righting slots sizes n (length out₀) out (136 * i)
+Inv-loop slots sizes n top out₀ i₀ out i = (i ≤ n) × Righting slots sizes n (length out₀) out i
 
 abbrev μ-loop : tie.MeasureT-loop
 μ-loop slots sizes n top out₀ i₀ out i = n - i

@@ -9,7 +9,7 @@ use Rattle.transposed.proofs.transpose.transpose_slots.Statement.{state
 use Rattle.transposed.proofs.transpose.transpose_slots.Tie as tie
 
 abbrev Inv-loop : tie.InvT-loop
-Inv-loop slots sizes n top out₀ k₀ out k = (k ≤ n) × Transposing slots sizes n (length out₀) out (256 * k)
+Inv-loop slots sizes n top out₀ k₀ out k = (k ≤ n) × Transposing slots sizes n (length out₀) out (8 * k)
 
 abbrev μ-loop : tie.MeasureT-loop
 μ-loop slots sizes n top out₀ k₀ out k = n - k
