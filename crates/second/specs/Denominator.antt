@@ -55,7 +55,7 @@ pub record DenominatorFound (p n : ℕ) (L : Level) (w : List ℕ) (count : ℕ)
 pub tail-reducible : {p : ℕ} {M : Memory} → Valid p M → Sums p 0 (M .tail)
 tail-reducible {p} {M} valid = sums-fewer p (M .tail) (places M) 0 (omega arith) (valid .hand .tail-sums)
 
-pub denominator-found : {p n : ℕ} {L : Level} {M : Memory} {w : List ℕ} {count : ℕ} → RightInserted p n L M
+denominator-found : {p n : ℕ} {L : Level} {M : Memory} {w : List ℕ} {count : ℕ} → RightInserted p n L M
     → MadeMonic p (M .tail) w count → DenominatorFound p n L w count
 denominator-found {p} {n} {L} {M} {w} {count} done made = record {
   below = made .below;

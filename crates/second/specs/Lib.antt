@@ -2,7 +2,6 @@ pub mod RightInserted
 pub mod SecondReady
 pub mod SecondDual
 pub mod Solved
-pub mod Zeros
 pub mod Denominator
 pub mod Scaled
 pub mod DividedSecond

@@ -1,14 +1,13 @@
 -- The quotients by the transposed slots as the rows of the second system's solution: row k is 128 words of lane 7 - (n - 1 - k).
 use Prim.Native.Nat.{ℕ, _+_, _-_, _*_, _/_, _%_, _<_, _≤_}
-use mathlib.Core.Path.{_≡_, sym, _∙_, ap, ap₂, subst}
-use mathlib.Core.Logic.{⊎-elim}
+use mathlib.Core.Path.{_≡_, refl, sym, _∙_, ap, ap₂}
 use mathlib.Core.List.{List}
 use native.Mathlib.Omega.{arith}
 use native.Mathlib.Decide.{decLt}
 use lib.ListN.{length, getD, List·getD-eq-default}
 use Rattle.reduction.specs.Flat.{flat}
 use Rattle.reduction.specs.Transpose.{back}
-use Rattle.vector.specs.Stored.{stored, length-stored, below-or-not}
+use Rattle.vector.specs.Stored.{stored, stored-all-first}
 use Rattle.transposed.specs.Words.{when, when-yes, when-no, reversed}
 use Rattle.transposed.specs.ValidTransposed.{when-below}
 use Rattle.transposed.specs.First.{stored-first}
@@ -37,7 +36,7 @@ module _ (l : List ℕ) (n : ℕ) where
   pub no-row : (i : ℕ) → 0 ≡ quotientWord l n (128 * n + i)
   no-row i = sym (quotient-beyond l n (128 * n + i) (λ h. omega arith))
 
-module _ (l : List ℕ) (n : ℕ) (small : n ≤ 8) (o : List ℕ) (room : length o ≡ 1024) where
+module _ (l : List ℕ) (n : ℕ) (small : n ≤ 8) (o : List ℕ) (room : 1024 ≤ length o) where
   -- coefficient e of row k
   pub row-cell : (k e : ℕ) → k < n → e < 128
       → getD (stored (quotientWord l n) o 0 1024) (128 * k + e) 0 ≡ getD l (flat 8 (back n k) e) 0
@@ -46,13 +45,13 @@ module _ (l : List ℕ) (n : ℕ) (small : n ≤ 8) (o : List ℕ) (room : lengt
       ∙ sym (lane-row l n k e h lt)
       ∙ ap (λ i. getD l i 0) (omega arith)
 
-  pub rows-below : (p : ℕ) → ((i : ℕ) → getD l i 0 < p) → (i : ℕ) → getD (stored (quotientWord l n) o 0 1024) i 0 < p
-  rows-below p all i =
-      ⊎-elim
-      (λ lt. subst (λ v. v < p) (sym (stored-first (quotientWord l n) o 1024 i (omega arith) lt))
-      (when-below p (omega (arith, all 0)) _ _ (all _)))
-      (λ ge.
-      let none : getD (stored (quotientWord l n) o 0 1024) i 0 ≡ 0 =
-      List·getD-eq-default (stored (quotientWord l n) o 0 1024) 0 (omega (arith, length-stored (quotientWord l n) o 0 1024)) in
-      omega (arith, all 0))
-      (below-or-not i 1024)
+  pub rows-below : (p : ℕ) → ((i : ℕ) → getD l i 0 < p) → ((i : ℕ) → 1024 ≤ i → getD o i 0 < p) → (i : ℕ)
+      → getD (stored (quotientWord l n) o 0 1024) i 0 < p
+  rows-below p all = stored-all-first (λ i w. w < p) (quotientWord l n) o _ 1024 refl room
+      (λ j lt. when-below p (omega (arith, all 0)) _ _ (all _))
+
+-- there is nothing behind 1024 words
+pub nothing-behind : {p : ℕ} → 0 < p → (o : List ℕ) → length o ≡ 1024 → (i : ℕ) → 1024 ≤ i → getD o i 0 < p
+nothing-behind some o room i ge =
+    let none : getD o i 0 ≡ 0 = List·getD-eq-default o 0 (omega arith) in
+    omega arith

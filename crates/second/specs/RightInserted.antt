@@ -1,7 +1,7 @@
 -- The right side inserted into the transposed slots, in memory: how it begins, and that it ends with block zero.
-use Prim.Native.Nat.{ℕ, zero, suc, _+_, _-_, _*_, _/_, _%_, _<_, _≤_}
+use Prim.Native.Nat.{ℕ, zero, suc, _+_, _-_, _*_, _%_, _<_, _≤_}
 use mathlib.Core.Path.{_≡_, refl, sym, _∙_, ap, subst}
-use mathlib.Core.Logic.{⊎-elim, inl, inr}
+use mathlib.Core.Logic.{inl, inr}
 use mathlib.Core.List.{List}
 use native.Mathlib.Nat.{zero-add, zero-mod, mod-eq-of-lt}
 use native.Mathlib.Omega.{arith}
@@ -16,29 +16,28 @@ use Rattle.modular.specs.Modulo.{modulo}
 use Rattle.modular.specs.Prime.{Prime}
 use Rattle.modular.specs.Residue.{residues}
 use Rattle.reduction.specs.Total.{degrees, total-le, total-constant}
-use Rattle.reduction.specs.Replace.{extend, extend-below, extend-at}
+use Rattle.reduction.specs.Replace.{extend-below, extend-at}
 use Rattle.reduction.specs.Pivot.{Vanishes}
 use Rattle.reduction.specs.Slots.{Slots, unweighted}
 use Rattle.reduction.specs.Holds.{Holds, holds-size}
 use Rattle.reduction.specs.Flat.{Flat, flat}
 use Rattle.reduction.specs.Insert.{Stop, Inserted}
-use Rattle.reduction.specs.Inserting.{Inserting, cleared, begin}
+use Rattle.reduction.specs.Inserting.{Inserting, begin}
 use Rattle.reduction.specs.Transpose.{Tops, transposed, rightSide, weights}
 use Rattle.reduction.specs.Second.{not-stuck}
 use Rattle.vector.specs.Bound.{AtMost}
 use Rattle.vector.specs.Reduced.{polynomial}
-use Rattle.vector.specs.Stored.{stored, stored-inside, stored-outside, length-stored, below-or-not, stored-all-first}
-use Rattle.lattice.specs.declared.hand.Hand.{Hand}
+use Rattle.vector.specs.Stored.{stored, length-stored, stored-all-first}
 use Rattle.lattice.specs.Word.{words, words-first, residue-one}
-use Rattle.lattice.specs.Memory.{height, ZeroFrom, Ends, Level, slotSize, tailSize, ValidLevel, Sums, Memory, memory, places, Valid}
+use Rattle.lattice.specs.Memory.{height, ZeroFrom, Ends, Level, tailSize, ValidLevel, Sums, Memory, memory, Valid}
 use Rattle.lattice.specs.Holding.{HoldsSlots, HoldsState}
 use Rattle.lattice.specs.Range.{words-zero}
 use Rattle.lattice.specs.Reading.{holds-filled}
 use Rattle.lattice.specs.Found.{found-ends, found-leading}
 use Rattle.lattice.specs.Insertion.{Starts, Inserts, inserts-inserted}
 use Rattle.transposed.specs.Greatest.{greatest, greatest-high}
-use Rattle.transposed.specs.Words.{when, when-yes, when-no, rightWord}
-use Rattle.transposed.specs.Transposed.{size-stored, transposed-slots, right-held}
+use Rattle.transposed.specs.Words.{rightWord}
+use Rattle.transposed.specs.Transposed.{transposed-slots, right-held}
 use Rattle.transposed.specs.ValidTransposed.{transposedLevel, when-below, transposed-valid, transposed-tails}
 
 -- of slots U of n rows, D high: memory holds the last state of the insertion, with block zero
@@ -145,7 +144,7 @@ module _ (p : ℕ) (prime : Prime p) {n : ℕ} (small : n ≤ 8) {L : Level} (va
         at zero = sym (words-first p prime (set ot 0 1) 256 0 (omega arith) ∙ residue-one p prime _ (first-starts .one))
         at (suc k) = sym (words-zero p prime (set ot 0 1) 0 256 1 (first-valid .hand .tail) (suc k) (omega arith))
 
-    pub first-holds : HoldsState p prime n (weights (polynomials (residues p prime)) n (greatest (L .sizes) n) U) firstMemory
+    first-holds : HoldsState p prime n (weights (polynomials (residues p prime)) n (greatest (L .sizes) n) U) firstMemory
         (begin (polynomials (residues p prime)) n (transposed (polynomials (residues p prime)) n (greatest (L .sizes) n) U)
         (rightSide (polynomials (residues p prime)) n (greatest (L .sizes) n) U) (height found))
     first-holds = record {

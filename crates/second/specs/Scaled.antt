@@ -82,7 +82,7 @@ module _ {p n : ℕ} {L T : Level} {w : List ℕ} {count : ℕ} (fits : ScalesWi
       }
 
 -- an array of so many words up to the last that is not 0 holds a polynomial of that size
-pub ends-size : (p : ℕ) (prime : Prime p) {l : List ℕ} {N k : ℕ} {x : Polynomial (residues p prime)} → Ends p l 0 N k → 0 < k
+ends-size : (p : ℕ) (prime : Prime p) {l : List ℕ} {N k : ℕ} {x : Polynomial (residues p prime)} → Ends p l 0 N k → 0 < k
     → Holds (residues p prime) (words p prime l 0 N) x → size (residues p prime) x ≡ k
 ends-size p prime {l} {N} {k} {x} ends some holds =
     holds-size-exact (residues p prime) holds (k - 1) nonzero (λ j h. words-zero p prime l 0 N k (ends .behind) j (omega arith))

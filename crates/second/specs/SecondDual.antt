@@ -29,18 +29,18 @@ use Rattle.second.specs.RightInserted.{InsertedRight}
 
 -- tails do not matter for the span of blocks
 module _ {A : Type 0} (R : Ring A) (n : ℕ) (U : Slots A) where
-  pub combined-cleared : (c : ℕ → A) (k : ℕ) → k < n → combined R n c (cleared R n U) k ≡ combined R n c U k
+  combined-cleared : (c : ℕ → A) (k : ℕ) → k < n → combined R n c (cleared R n U) k ≡ combined R n c U k
   combined-cleared c k h = sum-ext R n (λ q. R .mul (c q) (cleared R n U .at q k)) (λ q. R .mul (c q) (U .at q k))
       (λ q g. ap (R .mul (c q)) (extend-below n (U .at q) (R .zero) k h))
 
-  pub span-cleared : {x : ℕ → A} → InSpan R n n U x → InSpan R n n (cleared R n U) x
+  span-cleared : {x : ℕ → A} → InSpan R n n U x → InSpan R n n (cleared R n U) x
   span-cleared s = record {
     coefficient = s .coefficient;
     empty = s .empty;
     equal = λ k h. s .equal k h ∙ sym (combined-cleared (s .coefficient) k h);
   }
 
-  abbrev pub span-uncleared : {x : ℕ → A} → InSpan R n n (cleared R n U) x → InSpan R n n U x
+  abbrev span-uncleared : {x : ℕ → A} → InSpan R n n (cleared R n U) x → InSpan R n n U x
   span-uncleared s = record {
     coefficient = s .coefficient;
     empty = s .empty;

@@ -33,8 +33,8 @@ use Rattle.second.specs.QuotientRows.{quotientWord, row-cell, rows-below
 
 module _ {p n : ℕ} (small : n ≤ 8) {L : Level} (valid : ValidLevel p L) {w : List ℕ} {count : ℕ}
     (found : DenominatorFound p n L w count) {block : List ℕ} (scaled : RightScaled p n L w count block)
-    {quotients : List ℕ} (divided : DividedSecond p n L block quotients) (o : List ℕ) (room : length o ≡ 1024) (rows : List ℕ)
-    (er : rows ≡ stored (quotientWord quotients n) o 0 1024) where
+    {quotients : List ℕ} (divided : DividedSecond p n L block quotients) (o : List ℕ) (room : 1024 ≤ length o)
+    (behind : (i : ℕ) → 1024 ≤ i → getD o i 0 < p) (rows : List ℕ) (er : rows ≡ stored (quotientWord quotients n) o 0 1024) where
   -- a quotient of at most 121 coefficients is in the 128 words of its row
   row-holds : (prime : Prime p) (k : ℕ) → k < n → (y : Polynomial (residues p prime)) → size (residues p prime) y ≤ 121
       → HoldsQuotient p prime quotients (back n k) y → Holds (residues p prime) (words p prime rows (128 * k) 128) y
@@ -82,6 +82,6 @@ module _ {p n : ℕ} (small : n ≤ 8) {L : Level} (valid : ValidLevel p L) {w :
   pub second-solved : SecondSolved p n L w rows
   second-solved = record {
     w-below = found .below;
-    rows-below = subst (λ l. (i : ℕ) → getD l i 0 < p) (sym er) (rows-below quotients n small o room p (divided .divided .below));
+    rows-below = subst (λ l. (i : ℕ) → getD l i 0 < p) (sym er) (rows-below quotients n small o room p (divided .divided .below) behind);
     solved = holds-second;
   }

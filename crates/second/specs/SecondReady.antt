@@ -1,15 +1,15 @@
 -- The second system laid out, when the code inserts its right side: memory is in order, and after the insertion it is as promised.
-use Prim.Native.Nat.{ℕ, _*_, _<_, _≤_}
+use Prim.Native.Nat.{ℕ, _≤_}
 use mathlib.Core.Path.{_≡_, refl, sym, _∙_, ap, subst}
 use mathlib.Core.List.{List}
+use native.Mathlib.Nat.{le-refl}
 use native.Mathlib.Omega.{arith}
-use lib.ListN.{length, getD, set, replicate}
+use lib.ListN.{length, replicate}
 use Rattle.algebra.specs.Coefficients.{leading}
 use Rattle.modular.specs.Modulo.{modulo}
 use Rattle.modular.specs.Prime.{Prime}
 use Rattle.residue.specs.Sum.{residue-small}
-use Rattle.vector.specs.Bound.{AtMost, Reducible, at-most-reducible, zeros-none}
-use Rattle.second.specs.Zeros.{zeros-room}
+use Rattle.vector.specs.Bound.{Reducible, at-most-reducible, zeros-none}
 use Rattle.vector.specs.Reduced.{polynomial}
 use Rattle.vector.specs.Stored.{stored}
 use Rattle.vector.specs.declared.leading.Leading.{Leading}
@@ -32,7 +32,7 @@ module _ (p : ℕ) (prime : Prime p) {n : ℕ} (small : n ≤ 8) {L : Level} (va
   block-reducible = subst (λ l. Reducible p l 1088) (sym (laid .right))
       (at-most-reducible p p b′ 1088 (residue-small p p (omega (arith, prime .large)) (omega arith))
       (block-small p prime small valid (laid .o) (laid .oz) (laid .oi) (laid .ob) (replicate 256 0) (laid .room) (laid .room-sizes)
-      (laid .room-inverses) (laid .room-block) (zeros-room 256) (laid .none) (laid .none-block) (zeros-none 256) _ _ refl refl))
+      (laid .room-inverses) (laid .room-block) (le-refl 256) (laid .none) (laid .none-block) (zeros-none 256) _ _ refl refl))
 
   module _ (found : Leading) (size : found .size ≡ length (polynomial p b 0 1088))
       (last : found .value ≡ leading (modulo p) (polynomial p b 0 1088)) where
@@ -44,7 +44,7 @@ module _ (p : ℕ) (prime : Prime p) {n : ℕ} (small : n ≤ 8) {L : Level} (va
 
     abbrev first : Memory
     first = firstMemory p prime small valid (laid .o) (laid .oz) (laid .oi) (laid .ob) (replicate 256 0) (laid .room) (laid .room-sizes)
-        (laid .room-inverses) (laid .room-block) (zeros-room 256) (laid .none) (laid .none-block) (zeros-none 256)
+        (laid .room-inverses) (laid .room-block) (le-refl 256) (laid .none) (laid .none-block) (zeros-none 256)
         (found .size) (found .value) size′ last′
 
     same : startingMemory (level s z i) b found ≡ first
@@ -53,13 +53,13 @@ module _ (p : ℕ) (prime : Prime p) {n : ℕ} (small : n ≤ 8) {L : Level} (va
     pub ready-valid : Valid p (startingMemory (level s z i) b found)
     ready-valid = subst (Valid p) (sym same)
         (first-valid p prime small valid (laid .o) (laid .oz) (laid .oi) (laid .ob) (replicate 256 0) (laid .room) (laid .room-sizes)
-        (laid .room-inverses) (laid .room-block) (zeros-room 256) (laid .none) (laid .none-block) (zeros-none 256)
+        (laid .room-inverses) (laid .room-block) (le-refl 256) (laid .none) (laid .none-block) (zeros-none 256)
         (found .size) (found .value) size′ last′)
 
     pub ready-starts : Starts p (startingMemory (level s z i) b found)
     ready-starts = subst (Starts p) (sym same)
         (first-starts p prime small valid (laid .o) (laid .oz) (laid .oi) (laid .ob) (replicate 256 0) (laid .room) (laid .room-sizes)
-        (laid .room-inverses) (laid .room-block) (zeros-room 256) (laid .none) (laid .none-block) (zeros-none 256)
+        (laid .room-inverses) (laid .room-block) (le-refl 256) (laid .none) (laid .none-block) (zeros-none 256)
         (found .size) (found .value) size′ last′)
 
     pub ready-inserted : (M′ : Memory) → Inserts p (startingMemory (level s z i) b found) M′ → RightInserted p n L M′
@@ -67,6 +67,6 @@ module _ (p : ℕ) (prime : Prime p) {n : ℕ} (small : n ≤ 8) {L : Level} (va
       valid = done .valid;
       tail = done .tail;
       inserted = λ prime′ U holds. right-ends p prime′ small valid (laid .o) (laid .oz) (laid .oi) (laid .ob) (replicate 256 0)
-          (laid .room) (laid .room-sizes) (laid .room-inverses) (laid .room-block) (zeros-room 256) (laid .none) (laid .none-block)
+          (laid .room) (laid .room-sizes) (laid .room-inverses) (laid .room-block) (le-refl 256) (laid .none) (laid .none-block)
           (zeros-none 256) (found .size) (found .value) size′ last′ holds (subst (λ M. Inserts p M M′) same done);
     }

@@ -12,8 +12,9 @@ use Rattle.reduction.specs.Transpose.{Tops}
 use Rattle.reduction.specs.Dual.{Dual}
 use Rattle.reduction.specs.Holds.{Holds}
 use Rattle.lattice.specs.Word.{words}
-use Rattle.lattice.specs.Memory.{Level}
+use Rattle.lattice.specs.Memory.{Level, ValidLevel}
 use Rattle.lattice.specs.Holding.{HoldsSlots}
+use Rattle.transposed.specs.Laid.{Laid}
 
 -- slots that have a second system within the room, B being the bound of its row
 pub record HasTops (p : ℕ) (n : ℕ) (L : Level) : Type 0 where
@@ -23,6 +24,13 @@ pub record HasTops (p : ℕ) (n : ℕ) (L : Level) : Type 0 where
   pub slots : Slots (Polynomial (residues p prime))
   pub holds : HoldsSlots p prime n unweighted L slots
   pub tops : Tops (sized (residues p prime)) n bound 16 slots
+
+-- it is laid out in memory, b being its right side
+pub record HasLaid (p n : ℕ) (T : Level) (b : List ℕ) : Type 0 where
+  pub of : Level
+  pub valid : ValidLevel p of
+  pub laid : Laid n of T b
+  pub tops : HasTops p n of
 
 -- w in 128 words, Y k in the 128 words from 128·k on
 pub record HoldsSecond (p : ℕ) (prime : Prime p) (n B : ℕ) (U : Slots (Polynomial (residues p prime))) (w rows : List ℕ) : Type 0 where

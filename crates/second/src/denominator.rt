@@ -1,6 +1,6 @@
 // The denominator of the second system's solution.
-use lattice::hand::Hand;
-use lattice::insertion::insert;
+use lattice::Hand;
+use lattice::insert;
 use multiples::monic::make_monic;
 use residue::modulus::Modulus;
 use vector::Leading;

@@ -1,16 +1,17 @@
--- Cleared memory into which the words of f are stored in some order, those that are 0 left out: `rank x` is the turn of the place x.
-use Prim.Native.Nat.{ℕ, _+_, _<_, _≤_}
-use mathlib.Core.Path.{_≡_, refl, sym, _∙_, subst, subst₂}
+-- Cleared memory into which the words of f are stored lane by lane, those that are 0 left out: `rank x` is the turn of the place x.
+use Prim.Native.Nat.{ℕ, _+_, _*_, _<_, _≤_}
+use mathlib.Core.Path.{_≡_, refl, sym, _∙_, ap, subst₂}
 use mathlib.Core.Logic.{_⊎_, inl, inr}
 use mathlib.Core.List.{List}
 use native.Mathlib.Omega.{arith}
 use native.Mathlib.Decide.{decLt, ℕ-discrete}
-use lib.ListN.{length, getD, set, length-set}
-use lib.Seq.{getD-set-same, getD-set-other, ext-getD}
+use lib.ListN.{length, getD}
+use lib.Seq.{ext-getD}
 use Rattle.vector.specs.Bound.{AtMost}
 use Rattle.vector.specs.Stored.{stored, stored-outside, length-stored, below-or-not}
 use Rattle.transposed.specs.Words.{when, when-yes, when-no}
 use Rattle.transposed.specs.First.{stored-first}
+use Rattle.transposed.specs.Spread.{Spread}
 
 -- of N words those of the turns below r are there, and all others are 0
 pub record Filling (rank : ℕ → ℕ) (f : ℕ → ℕ) (N size : ℕ) (w : List ℕ) (r : ℕ) : Type 0 where
@@ -18,6 +19,11 @@ pub record Filling (rank : ℕ → ℕ) (f : ℕ → ℕ) (N size : ℕ) (w : Li
   pub same-length : length w ≡ size
   pub words : (x : ℕ) → x < N → getD w x 0 ≡ when (decLt (rank x) r) (f x)
   pub beyond : (x : ℕ) → N ≤ x → getD w x 0 ≡ 0
+
+-- the word of f at x is the one that a lane has there, or it is 0 and no place of the lane
+pub data LaneWord (f g : ℕ → ℕ) (to count x : ℕ) : Type 0 where
+  stored-at : (e : ℕ) → e < count → x ≡ to + 8 * e → f x ≡ g e → LaneWord f g to count x
+  left-out : ((e : ℕ) → e < count → ¬ (x ≡ to + 8 * e)) → f x ≡ 0 → LaneWord f g to count x
 
 module _ {rank : ℕ → ℕ} {f : ℕ → ℕ} {N : ℕ} where
   pub filling-start : (o : List ℕ) → N ≤ length o → AtMost 0 o → Filling rank f N (length o) o 0
@@ -43,27 +49,31 @@ module _ {rank : ℕ → ℕ} {f : ℕ → ℕ} {N : ℕ} where
         same x h (no a) (yes b) = when-no (no a) (f x) a ∙ sym (when-yes (yes b) (f x) b ∙ none x h (omega arith) b)
         same x h (no a) (no b) = when-no (no a) (f x) a ∙ sym (when-no (no b) (f x) b)
 
-    -- the word of turn r, where no other place has this turn
-    pub filling-put : (x : ℕ) → x < N → rank x ≡ r → ((y : ℕ) → y < N → rank y ≡ r → y ≡ x) → (v : ℕ) → v ≡ f x
-        → Filling rank f N size (set w x v) (r + 1)
-    filling-put x h turn only v e = record {
+    -- turn r: the words of a lane, and no others but zeros
+    pub filling-lane : {g : ℕ → ℕ} {to count : ℕ} {w′ : List ℕ} → Spread g to count w w′
+        → ((e : ℕ) → e < count → (to + 8 * e < N) × (rank (to + 8 * e) ≡ r))
+        → ((x : ℕ) → x < N → rank x ≡ r → LaneWord f g to count x) → Filling rank f N size w′ (r + 1)
+    filling-lane {g} {to} {count} {w′} spread places all = record {
       room = so-far .room;
-      same-length = length-set w x v ∙ so-far .same-length;
-      words = λ y l. at y l (ℕ-discrete y x);
-      beyond = λ y l. getD-set-other w x y v 0 (λ g. omega arith) ∙ so-far .beyond y l;
+      same-length = spread .same-length ∙ so-far .same-length;
+      words = λ x h. at x h (ℕ-discrete (rank x) r);
+      beyond = λ x h. spread .outside x (λ e lt same. omega (arith, places e lt .0)) ∙ so-far .beyond x h;
     }
       where
-        other : (y : ℕ) → ¬ (rank y ≡ r) → (d : Dec (rank y < r)) (d′ : Dec (rank y < r + 1)) → when d (f y) ≡ when d′ (f y)
-        other y ne (yes a) d′ = when-yes (yes a) (f y) a ∙ sym (when-yes d′ (f y) (omega arith))
-        other y ne (no a) (yes b) = absurd (ne (omega arith))
-        other y ne (no a) (no b) = when-no (no a) (f y) a ∙ sym (when-no (no b) (f y) b)
+        other : (x : ℕ) → ¬ (rank x ≡ r) → (d : Dec (rank x < r)) (d′ : Dec (rank x < r + 1)) → when d (f x) ≡ when d′ (f x)
+        other x ne (yes a) d′ = when-yes (yes a) (f x) a ∙ sym (when-yes d′ (f x) (omega arith))
+        other x ne (no a) (yes b) = absurd (ne (omega arith))
+        other x ne (no a) (no b) = when-no (no a) (f x) a ∙ sym (when-no (no b) (f x) b)
 
-        at : (y : ℕ) → y < N → Dec (y ≡ x) → getD (set w x v) y 0 ≡ when (decLt (rank y) (r + 1)) (f y)
-        at y l (yes here) = subst (λ z. getD (set w x v) z 0 ≡ when (decLt (rank z) (r + 1)) (f z)) (sym here)
-            (getD-set-same w x v 0 (omega (arith, so-far .room, so-far .same-length)) ∙ e
-            ∙ sym (when-yes (decLt (rank x) (r + 1)) (f x) (omega arith)))
-        at y l (no apart) = getD-set-other w x y v 0 apart ∙ so-far .words y l
-            ∙ other y (λ same. apart (only y l same)) (decLt (rank y) r) (decLt (rank y) (r + 1))
+        word : (x : ℕ) → x < N → rank x ≡ r → LaneWord f g to count x → getD w′ x 0 ≡ f x
+        word x h turn (stored-at e lt place same) = ap (λ y. getD w′ y 0) place ∙ spread .inside e lt ∙ sym same
+        word x h turn (left-out out none) = spread .outside x out ∙ so-far .words x h
+            ∙ when-no (decLt (rank x) r) (f x) (λ (l : rank x < r). omega arith) ∙ sym none
+
+        at : (x : ℕ) → x < N → Dec (rank x ≡ r) → getD w′ x 0 ≡ when (decLt (rank x) (r + 1)) (f x)
+        at x h (yes turn) = word x h turn (all x h turn) ∙ sym (when-yes (decLt (rank x) (r + 1)) (f x) (omega arith))
+        at x h (no apart) = spread .outside x (λ e lt same. apart (ap rank same ∙ places e lt .1)) ∙ so-far .words x h
+            ∙ other x apart (decLt (rank x) r) (decLt (rank x) (r + 1))
 
     pub filling-end : (o : List ℕ) → length o ≡ size → AtMost 0 o → ((x : ℕ) → x < N → rank x < r) → w ≡ stored f o 0 N
     filling-end o same none all =

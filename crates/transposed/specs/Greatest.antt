@@ -1,6 +1,6 @@
 -- The greatest height of a level's first n slots: the transposed slots need no more degrees.
-use Prim.Native.Nat.{ℕ, zero, suc, _+_, _-_, _/_, _<_, _≤_}
-use mathlib.Core.Path.{_≡_, refl, _∙_, ap}
+use Prim.Native.Nat.{ℕ, zero, suc, _+_, _-_, _<_, _≤_}
+use mathlib.Core.Path.{_≡_, refl, _∙_, ap, ap₂}
 use mathlib.Core.List.{List}
 use native.Mathlib.Omega.{arith}
 use native.Mathlib.Decide.{ℕ-discrete}
@@ -47,3 +47,9 @@ module _ (z : List ℕ) where
 
   pub greatest-positive : (n q : ℕ) → q < n → 0 < getD z q 0 → 0 < greatest z n
   greatest-positive n q h some = omega (arith, greatest-high n q h)
+
+pub greatest-same : (z z′ : List ℕ) (n : ℕ) → ((q : ℕ) → q < n → getD z′ q 0 ≡ getD z q 0) → greatest z′ n ≡ greatest z n
+unfolding greatest
+greatest-same z z′ zero same = refl
+greatest-same z z′ (suc n) same =
+    ap₂ (λ t m. larger t (height m)) (greatest-same z z′ n (λ q h. same q (omega arith))) (same n (omega arith))

@@ -6,7 +6,6 @@ use lib.ListN.{length, getD, set, replicate}
 use Rattle.vector.specs.Bound.{AtMost}
 use Rattle.vector.specs.Stored.{stored}
 use Rattle.vector.specs.declared.leading.Leading.{Leading}
-use Rattle.lattice.specs.declared.hand.Hand.{Hand}
 use Rattle.lattice.specs.Memory.{Level, level, Memory, memory}
 use Rattle.transposed.specs.Words.{reversed, transposedWord, transposedSize, rightWord}
 use Rattle.transposed.specs.ValidTransposed.{transposedLevel}

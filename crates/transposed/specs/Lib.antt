@@ -5,6 +5,9 @@ pub mod Transposed
 pub mod ValidTransposed
 pub mod Laid
 pub mod First
+pub mod Spread
 pub mod Filling
 pub mod TransposeFilling
 pub mod RightFilling
+pub mod WithRow
+pub mod RowLaid

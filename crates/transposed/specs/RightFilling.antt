@@ -1,17 +1,18 @@
 -- The right side stored lane by lane: what each loop has stored, and which words it may leave out.
 use Prim.Native.Nat.{ℕ, _+_, _-_, _*_, _/_, _%_, _<_, _≤_}
-use mathlib.Core.Path.{_≡_, sym, _∙_, ap, subst, subst₂}
+use mathlib.Core.Path.{_≡_, refl, sym, _∙_, ap, subst, subst₂}
 use mathlib.Core.List.{List}
 use native.Mathlib.Omega.{arith}
 use native.Mathlib.Decide.{decLt}
 use native.Mathlib.Nat.{mod-eq-of-lt}
-use lib.ListN.{length, getD, set}
+use lib.ListN.{length, getD}
 use Rattle.vector.specs.Bound.{AtMost}
 use Rattle.vector.specs.Stored.{stored}
-use Rattle.lattice.specs.Memory.{Level, ValidLevel}
+use Rattle.lattice.specs.Memory.{height, Level, ValidLevel}
 use Rattle.transposed.specs.Greatest.{greatest}
 use Rattle.transposed.specs.Words.{reversed, lift, tailWord, rightWord, right-beside, right-empty, right-low, right-far, right-value}
-use Rattle.transposed.specs.Filling.{Filling, filling-start, filling-skip, filling-put, filling-end}
+use Rattle.transposed.specs.Spread.{Spread, spread-same}
+use Rattle.transposed.specs.Filling.{Filling, LaneWord, stored-at, left-out, filling-start, filling-skip, filling-lane, filling-end}
 
 -- behind their sizes the tails of a level are 0
 pub record TailsEnd (s z : List ℕ) : Type 0 where
@@ -24,30 +25,15 @@ tails-end {p} {L} valid = record {
   zero = λ q j h ge lt. sym (mod-eq-of-lt (valid .below (256 * q + 128 + j))) ∙ valid .slot q h .tail j ge lt;
 }
 
--- lane, degree
+-- a lane a turn
 abbrev pub rightRank : ℕ → ℕ
-rightRank x = (7 - x % 8) * 136 + x / 8
+rightRank x = 7 - x % 8
 
 abbrev pub Righting : (s z : List ℕ) (n size : ℕ) (w : List ℕ) (r : ℕ) → Type 0
 Righting s z n = Filling rightRank (rightWord s z n) 1088
 
--- lane i up to coefficient e of its tail
-pub record RightGoing (s z : List ℕ) (n i size : ℕ) (w : List ℕ) (e : ℕ) : Type 0 where
-  pub high : e ≤ getD z (8 + reversed n i) 0
-  pub words : Righting s z n size w (136 * i + lift z n i + e)
-
 pub righting-start : (s z : List ℕ) (n : ℕ) (o : List ℕ) → 1088 ≤ length o → AtMost 0 o → Righting s z n (length o) o 0
 righting-start s z n = filling-start
-
--- the lane that a turn is in
-turn-lane : (x i : ℕ) → x < 1088 → 136 * i ≤ rightRank x → rightRank x < 136 * (i + 1) → 7 - x % 8 ≡ i
-turn-lane x i h low high = go (x / 8) (7 - x % 8) (omega arith) low high
-  where
-    go : (c b : ℕ) → c < 136 → 136 * i ≤ b * 136 + c → b * 136 + c < 136 * (i + 1) → b ≡ i
-    go c b hc l t = omega arith
-
-place-of : (x i d : ℕ) → 7 - x % 8 ≡ i → x / 8 ≡ d → x ≡ 8 * d + (7 - i)
-place-of x i d lane degree = omega arith
 
 -- the words of lane i, where its slot is filled
 module _ (s z : List ℕ) (n i : ℕ) (lane : i < n) (some : 0 < getD z (reversed n i) 0) where
@@ -72,84 +58,56 @@ module _ (s z : List ℕ) (n i : ℕ) (lane : i < n) (some : 0 < getD z (reverse
         ∙ ap (λ j. tailWord s (reversed n j) (x / 8 - lift z n (7 - x % 8))) here
         ∙ ap (tailWord s (reversed n i)) behind
 
+-- slot n - 1 - i of the level is empty
+none-there : (s z : List ℕ) (n i : ℕ) → i < n → ¬ (0 < getD z (reversed n i) 0) → (x : ℕ) → rightRank x ≡ i → rightWord s z n x ≡ 0
+none-there s z n i lane none x here = right-empty s z n x (omega arith)
+    (λ (g : 0 < getD z (reversed n (7 - x % 8)) 0). none (subst (λ j. 0 < getD z (reversed n j) 0) here g))
+
 module _ (s z : List ℕ) (n : ℕ) {size : ℕ} {w : List ℕ} where
   -- the lanes from n on are 0
-  pub righting-end : Righting s z n size w (136 * n) → (o : List ℕ) → length o ≡ size → AtMost 0 o → n ≤ 8
+  pub righting-end : Righting s z n size w n → (o : List ℕ) → length o ≡ size → AtMost 0 o → n ≤ 8
       → w ≡ stored (rightWord s z n) o 0 1088
   righting-end so-far o same none small =
-      filling-end (filling-skip so-far 1088 (omega arith) rest) o same none (λ x h. omega arith)
+      filling-end (filling-skip so-far 8 small rest) o same none (λ x h. omega arith)
     where
-      rest : (x : ℕ) → x < 1088 → 136 * n ≤ rightRank x → rightRank x < 1088 → rightWord s z n x ≡ 0
+      rest : (x : ℕ) → x < 1088 → n ≤ rightRank x → rightRank x < 8 → rightWord s z n x ≡ 0
       rest x h low high = right-beside s z n x (λ (g : 7 - x % 8 < n). omega arith)
 
   module _ (i : ℕ) (lane : i < n) where
-    -- slot n - 1 - i of the level is empty
-    pub righting-empty : Righting s z n size w (136 * i) → ¬ (0 < getD z (reversed n i) 0) → Righting s z n size w (136 * (i + 1))
-    righting-empty so-far none = filling-skip so-far (136 * (i + 1)) (omega arith) rest
+    pub righting-empty : ¬ (0 < getD z (reversed n i) 0) → Righting s z n size w i → Righting s z n size w (i + 1)
+    righting-empty none so-far = filling-skip so-far (i + 1) (omega arith) (λ x h low high. none-there s z n i lane none x (omega arith))
+
+    -- lane i: below the lift and behind the count it is 0
+    pub righting-lane : 0 < getD z (reversed n i) 0 → n ≤ 8 → greatest z n ≤ 16 → {count : ℕ} → count ≤ 121
+        → ((j : ℕ) → count ≤ j → j < 128 → tailWord s (reversed n i) j ≡ 0) → Righting s z n size w i → {t : ℕ}
+        → t ≡ greatest z n → {w′ : List ℕ} → Spread (λ e. tailWord s (reversed n i) e)
+        (7 - i + 8 * (t - height (getD z (reversed n i) 0))) count w w′ → Righting s z n size w′ (i + 1)
+    righting-lane some small top {count} short behind so-far et {w′} spread =
+        filling-lane so-far (spread-same spread (λ e. tailWord s (reversed n i) e) (λ e lt. refl)
+        (ap (λ t. 7 - i + 8 * (t - height (getD z (reversed n i) 0))) et) refl) places word
       where
-        rest : (x : ℕ) → x < 1088 → 136 * i ≤ rightRank x → rightRank x < 136 * (i + 1) → rightWord s z n x ≡ 0
-        rest x h low high =
-            let here : 7 - x % 8 ≡ i = turn-lane x i h low high in
-            right-empty s z n x (omega arith)
-            (λ (g : 0 < getD z (reversed n (7 - x % 8)) 0). none (subst (λ j. 0 < getD z (reversed n j) 0) here g))
+        places : (e : ℕ) → e < count → (7 - i + 8 * lift z n i + 8 * e < 1088) × (rightRank (7 - i + 8 * lift z n i + 8 * e) ≡ i)
+        places e lt = (omega arith, omega arith)
 
-    module _ (some : 0 < getD z (reversed n i) 0) (small : n ≤ 8) (top : greatest z n ≤ 16) where
-      -- the degrees below the lift are 0
-      pub right-start : Righting s z n size w (136 * i) → RightGoing s z n i size w 0
-      right-start so-far = record {
-        high = omega arith;
-        words = filling-skip so-far (136 * i + lift z n i + 0) (omega arith) rest;
-      }
-        where
-          rest : (x : ℕ) → x < 1088 → 136 * i ≤ rightRank x → rightRank x < 136 * i + lift z n i + 0 → rightWord s z n x ≡ 0
-          rest x h low high =
-              let here : 7 - x % 8 ≡ i = turn-lane x i h low (omega arith) in
-              let degree : x / 8 < lift z n i = omega arith in
-              right-low s z n x (omega arith) (filled s z n i lane some x here)
-              (λ (g : lift z n (7 - x % 8) ≤ x / 8). omega (arith, ap (lift z n) here))
+        word : (x : ℕ) → x < 1088 → rightRank x ≡ i
+            → LaneWord (rightWord s z n) (λ e. tailWord s (reversed n i) e) (7 - i + 8 * lift z n i) count x
+        word x h here = go (decLt (x / 8) (lift z n i)) (decLt (x / 8 - lift z n i) count) (decLt (x / 8 - lift z n i) 128)
+          where
+            go : Dec (x / 8 < lift z n i) → Dec (x / 8 - lift z n i < count) → Dec (x / 8 - lift z n i < 128)
+                → LaneWord (rightWord s z n) (λ e. tailWord s (reversed n i) e) (7 - i + 8 * lift z n i) count x
+            go (yes low) d d′ = left-out (λ e lt same. omega arith)
+                (right-low s z n x (omega arith) (filled s z n i lane some x here)
+                (λ (g : lift z n (7 - x % 8) ≤ x / 8). omega (arith, ap (lift z n) here)))
+            go (no from) (yes more) d = stored-at (x / 8 - lift z n i) more (omega arith)
+                (word-near s z n i lane some x (x / 8 - lift z n i) here (omega arith) (omega arith))
+            go (no from) (no past) (yes near) = left-out (λ e lt same. omega arith)
+                (word-near s z n i lane some x (x / 8 - lift z n i) here (omega arith) near
+                ∙ behind (x / 8 - lift z n i) (omega arith) near)
+            go (no from) (no past) (no far) = left-out (λ e lt same. omega arith)
+                (word-far s z n i lane some x (x / 8 - lift z n i) here (omega arith) (omega arith))
 
-      -- behind its size the tail is 0
-      pub right-end : TailsEnd s z → {e : ℕ} → RightGoing s z n i size w e → getD z (8 + reversed n i) 0 ≤ e
-          → Righting s z n size w (136 * (i + 1))
-      right-end tails {e} so-far past =
-          filling-skip (so-far .words) (136 * (i + 1))
-          (omega (arith, so-far .high, tails .short (reversed n i) (omega arith))) rest
-        where
-          rest : (x : ℕ) → x < 1088 → 136 * i + lift z n i + e ≤ rightRank x → rightRank x < 136 * (i + 1) → rightWord s z n x ≡ 0
-          rest x h low high = go (decLt (x / 8 - lift z n i) 128)
-            where
-              here : 7 - x % 8 ≡ i
-              here = turn-lane x i h (omega arith) high
-
-              beyond : lift z n i + e ≤ x / 8
-              beyond = omega (arith, here)
-
-              degree : x / 8 ≡ lift z n i + (x / 8 - lift z n i)
-              degree = omega (arith, beyond)
-
-              go : Dec (x / 8 - lift z n i < 128) → rightWord s z n x ≡ 0
-              go (yes near) = word-near s z n i lane some x (x / 8 - lift z n i) here degree near
-                  ∙ tails .zero (reversed n i) (x / 8 - lift z n i) (omega arith) (omega (arith, beyond)) near
-              go (no far) = word-far s z n i lane some x (x / 8 - lift z n i) here degree (omega arith)
-
-      pub right-turn : {e : ℕ} → RightGoing s z n i size w e → e < getD z (8 + reversed n i) 0 → e < 121 → (x : ℕ)
-          → x ≡ 8 * (lift z n i + e) + (7 - i) → (v : ℕ) → v ≡ tailWord s (reversed n i) e
-          → RightGoing s z n i size (set w x v) (e + 1)
-      right-turn {e} so-far more lt x place v ev = record {
-        high = omega arith;
-        words = subst (Filling rightRank (rightWord s z n) 1088 size (set w x v)) (omega arith)
-            (filling-put (so-far .words) x (omega arith) (omega (arith, at-lane, at-degree)) only v
-            (ev ∙ sym (word-near s z n i lane some x e at-lane at-degree (omega arith))));
-      }
-        where
-          at-lane : 7 - x % 8 ≡ i
-          at-lane = omega arith
-
-          at-degree : x / 8 ≡ lift z n i + e
-          at-degree = omega arith
-
-          only : (y : ℕ) → y < 1088 → rightRank y ≡ 136 * i + lift z n i + e → y ≡ x
-          only y l same =
-              let lane-of : 7 - y % 8 ≡ i = turn-lane y i l (omega arith) (omega arith) in
-              let degree-of : y / 8 ≡ lift z n i + e = omega arith in
-              place-of y i (lift z n i + e) lane-of degree-of ∙ sym place
+    -- nothing is put where nothing is
+    pub righting-none : ¬ (0 < getD z (reversed n i) 0) → Righting s z n size w i → {g : ℕ → ℕ} {to : ℕ} {w′ : List ℕ}
+        → Spread g to 0 w w′ → Righting s z n size w′ (i + 1)
+    righting-none none so-far spread = filling-lane so-far spread (λ e lt. absurd (omega arith))
+        (λ x h here. left-out (λ e lt same. omega arith) (none-there s z n i lane none x here))

@@ -1,18 +1,18 @@
 -- L8 in memory: the words that `transpose_slots`, `transpose_sizes` and `right_side` store hold the transposed slots of
 -- `reduction`, tails 0, and its right side. Every weighted size is the greatest height; the weights show only as lifted lanes.
-use Prim.Native.Nat.{ℕ, suc, _+_, _-_, _*_, _/_, _%_, _<_, _≤_}
-use mathlib.Core.Path.{_≡_, refl, sym, _∙_, ap, subst}
+use Prim.Native.Nat.{ℕ, _+_, _-_, _*_, _%_, _<_, _≤_}
+use mathlib.Core.Path.{_≡_, sym, _∙_, ap, subst}
 use mathlib.Core.List.{List}
 use native.Mathlib.Nat.{zero-add, zero-mod}
 use native.Mathlib.Omega.{arith}
-use native.Mathlib.Decide.{decLt, decLe, ℕ-discrete}
+use native.Mathlib.Decide.{decLt, ℕ-discrete}
 use lib.ListN.{length, getD}
 use Rattle.algebra.specs.Field.{Field}
 use Rattle.algebra.specs.Polynomial.{Polynomial, polynomials, coefficients-zero}
 use Rattle.algebra.specs.Expressions.{shift, shift-zero}
 use Rattle.modular.specs.Prime.{Prime}
 use Rattle.modular.specs.Residue.{Residue, residues}
-use Rattle.reduction.specs.Replace.{extend, extend-below, extend-at}
+use Rattle.reduction.specs.Replace.{extend-below, extend-at}
 use Rattle.reduction.specs.Slots.{Slots, unweighted}
 use Rattle.reduction.specs.Holds.{Holds, holds-shift}
 use Rattle.reduction.specs.Flat.{Flat, flat}
@@ -25,7 +25,7 @@ use Rattle.lattice.specs.Memory.{height, Level, slotSize, tailSize, ValidLevel}
 use Rattle.lattice.specs.Holding.{HoldsSlots}
 use Rattle.lattice.specs.Range.{words-zero}
 use Rattle.transposed.specs.Greatest.{greatest, greatest-high, greatest-small, greatest-positive}
-use Rattle.transposed.specs.Words.{reversed, transposedWord, rightWord, transposedSize, size-beyond, size-empty, size-filled}
+use Rattle.transposed.specs.Words.{reversed, transposedWord, rightWord, transposedSize, size-empty, size-filled}
 use Rattle.transposed.specs.Cells.{weight, cell-beside, cell-low, cell-value, cell-behind, cell-tail}
 use Rattle.transposed.specs.Cells.{right-cell-beside, right-cell-empty, right-cell-low, right-cell-far, right-cell-value}
 
@@ -130,7 +130,7 @@ module _ (p : ℕ) (prime : Prime p) where
             subst (Holds F _) (sym (masked-filled (U .size (back n i)) _ (U .at (back n i) (back n k)) (omega arith)))
             (record { at = λ j. lane-of (back n i) (back n k) (omega arith) (omega arith) (omega arith) .at j ∙ lifted i l (omega arith) j })
 
-        pub transposed-held : Held (residues p prime) n 8 (weights (polynomials (residues p prime)) n (greatest (L .sizes) n) U)
+        transposed-held : Held (residues p prime) n 8 (weights (polynomials (residues p prime)) n (greatest (L .sizes) n) U)
             (words p prime (stored (transposedWord (L .slots) (L .sizes) n) o 0 2048) (256 * k) 128)
             (words p prime (stored (transposedWord (L .slots) (L .sizes) n) o 0 2048) (256 * k + 128) 128)
             (cleared (polynomials (residues p prime)) n (transposed (polynomials (residues p prime)) n (greatest (L .sizes) n) U) .at k)

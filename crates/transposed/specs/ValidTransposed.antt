@@ -1,20 +1,20 @@
 -- The transposed slots in memory are in order: their pivots are in place, and the leading words are those of the level.
-use Prim.Native.Nat.{ℕ, suc, _+_, _-_, _*_, _/_, _%_, _<_, _≤_}
-use mathlib.Core.Path.{_≡_, refl, sym, _∙_, ap, subst}
+use Prim.Native.Nat.{ℕ, _+_, _-_, _*_, _/_, _%_, _<_, _≤_}
+use mathlib.Core.Path.{_≡_, sym, _∙_, ap, subst}
 use mathlib.Core.Logic.{⊎-elim, inr}
 use mathlib.Core.List.{List}
 use native.Mathlib.Nat.{zero-add, zero-mod}
 use native.Mathlib.Omega.{arith}
-use native.Mathlib.Decide.{decLt, ℕ-discrete}
+use native.Mathlib.Decide.{decLt}
 use lib.ListN.{length, getD}
 use Rattle.modular.specs.Modulo.{modulo}
 use Rattle.reduction.specs.Flat.{flat}
 use Rattle.reduction.specs.Transpose.{back}
 use Rattle.vector.specs.Stored.{stored, stored-inside, stored-outside, length-stored, below-or-not}
-use Rattle.lattice.specs.Memory.{row, height, ZeroFrom, Ends, Level, slotSize, tailSize, ValidSlot, ValidLevel}
+use Rattle.lattice.specs.Memory.{row, height, ZeroFrom, Level, slotSize, tailSize, ValidSlot, ValidLevel}
 use Rattle.transposed.specs.Greatest.{greatest, greatest-high, greatest-small, greatest-positive}
-use Rattle.transposed.specs.Words.{when, when-yes, when-no, reversed, lift, blockWord, transposedWord, transposedSize}
-use Rattle.transposed.specs.Words.{size-beyond, size-empty, size-filled, size-inside}
+use Rattle.transposed.specs.Words.{when, when-yes, when-no, reversed, transposedWord, transposedSize}
+use Rattle.transposed.specs.Words.{size-beyond, size-empty, size-filled}
 use Rattle.transposed.specs.Cells.{weight, cell-empty, cell-low, cell-value, cell-behind, cell-tail}
 use Rattle.transposed.specs.Transposed.{size-stored}
 

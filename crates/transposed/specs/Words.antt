@@ -1,34 +1,48 @@
 -- The words of the second system of a level with slots s and sizes z, of n rows. Its coordinate i is coordinate n - 1 - i of the
 -- level, lifted by so many degrees that the block of slot n - 1 - i of the level would be as high as the highest.
-use Prim.Native.Nat.{ℕ, suc, _+_, _-_, _*_, _/_, _%_, _<_, _≤_}
-use mathlib.Core.Path.{_≡_, refl, sym, _∙_, ap}
+use Prim.Native.Nat.{ℕ, _+_, _-_, _*_, _/_, _%_, _<_, _≤_}
+use mathlib.Core.Path.{_≡_, refl, _∙_}
 use mathlib.Core.List.{List}
-use native.Mathlib.Omega.{arith}
 use native.Mathlib.Decide.{decLt, decLe}
 use lib.ListN.{length, getD}
 use Rattle.lattice.specs.Memory.{height}
-use Rattle.transposed.specs.Greatest.{greatest}
+use Rattle.transposed.specs.Greatest.{Low, greatest}
+
+-- a where d holds, else b
+unfoldable pub either : {P : Type 0} → Dec P → ℕ → ℕ → ℕ
+either (yes h) a b = a
+either (no h) a b = b
+
+pub either-yes : {P : Type 0} (d : Dec P) (a b : ℕ) → P → either d a b ≡ a
+unfolding either
+either-yes (yes h) a b x = refl
+either-yes (no h) a b x = absurd (h x)
+
+pub either-no : {P : Type 0} (d : Dec P) (a b : ℕ) → ¬ P → either d a b ≡ b
+unfolding either
+either-no (yes h) a b x = absurd (x h)
+either-no (no h) a b x = refl
 
 -- v where d holds, else 0
-unfoldable pub when : {P : Type 0} → Dec P → ℕ → ℕ
-when (yes h) v = v
-when (no h) v = 0
+abbrev pub when : {P : Type 0} → Dec P → ℕ → ℕ
+when d v = either d v 0
 
 pub when-yes : {P : Type 0} (d : Dec P) (v : ℕ) → P → when d v ≡ v
-unfolding when
-when-yes (yes h) v x = refl
-when-yes (no h) v x = absurd (h x)
+when-yes d v = either-yes d v 0
 
 pub when-no : {P : Type 0} (d : Dec P) (v : ℕ) → ¬ P → when d v ≡ 0
-unfolding when
-when-no (yes h) v x = absurd (x h)
-when-no (no h) v x = refl
+when-no d v = either-no d v 0
+
+pub when-same : {P : Type 0} (d : Dec P) (v v′ : ℕ) → (P → v ≡ v′) → when d v ≡ when d v′
+unfolding either
+when-same (yes h) v v′ same = same h
+when-same (no h) v v′ same = refl
 
 -- a level's slots and sizes are there, and no block is higher than 16 degrees
 pub record InRoom (s z : List ℕ) : Type 0 where
   pub slots : 2048 ≤ length s
   pub sizes : 16 ≤ length z
-  pub low : (q : ℕ) → q < 8 → getD z q 0 ≤ 128
+  pub low : Low z
 
 -- coordinate i in reversed order
 abbrev pub reversed : (n i : ℕ) → ℕ
@@ -56,13 +70,6 @@ module _ (z : List ℕ) (n k : ℕ) where
 
     pub size-filled : 0 < getD z (reversed n k) 0 → transposedSize z n k ≡ 8 * greatest z n - k
     size-filled some = when-yes (decLt k n) _ slot ∙ when-yes (decLt 0 (getD z (reversed n k) 0)) (8 * greatest z n - k) some
-
-  size-within : Dec (k < n) → 0 < transposedSize z n k → k < n
-  size-within (yes h) some = h
-  size-within (no h) some = absurd (omega (arith, size-beyond h))
-
-  pub size-inside : 0 < transposedSize z n k → k < n
-  size-inside = size-within (decLt k n)
 
 -- slot k has at coordinate i what slot n - 1 - i of the level has at coordinate n - 1 - k; empty slots and tails are 0
 abbrev pub transposedWord : (s z : List ℕ) (n x : ℕ) → ℕ

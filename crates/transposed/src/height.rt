@@ -4,7 +4,7 @@ ghost use Prim.Native.Nat.{_≤_};
 ghost use lib.ListN.{length};
 ghost use Rattle.transposed.specs.Greatest.{Low, larger, greatest};
 
-pub fn larger_of(a: usize, b: usize) -> usize
+fn larger_of(a: usize, b: usize) -> usize
     ensures { λ r. ⌜ r ≡ larger a b ⌝ }
 {
     if a < b {

@@ -1,5 +1,6 @@
 // The slots of the second system: the blocks of a level transposed, coordinates in reversed order, every block as high as the
 // highest, `top` degrees.
+use crate::lane::transpose_lane;
 ghost use mathlib.Core.Path.{_≡_};
 ghost use Prim.Native.Nat.{_+_, _-_, _*_, _<_, _≤_};
 ghost use lib.ListN.{length, getD};
@@ -9,17 +10,8 @@ ghost use Rattle.transposed.specs.Greatest.{greatest};
 ghost use Rattle.transposed.specs.Words.{InRoom, reversed, transposedWord, transposedSize};
 ghost use Rattle.transposed.specs.TransposeFilling.{Transposing};
 
-// Where a level has coefficient e of row r in the block of slot q.
-pub fn place_in_block(q: usize, r: usize, e: usize) -> usize
-    requires { ⌜ (q < 8) × (r < 8) × (e < 16) ⌝ }
-    ensures place { λ x. ⌜ x ≡ 256 * q + 8 * e + (7 - r) ⌝ }
-    ensures inside { λ x. ⌜ x < 2048 ⌝ }
-{
-    256 * q + 8 * e + (7 - r)
-}
-
 // The size of slot k of the transposed slots.
-pub fn transposed_size(sizes: &[usize], n: usize, top: usize, k: usize) -> usize
+fn transposed_size(sizes: &[usize], n: usize, top: usize, k: usize) -> usize
     requires { ⌜ (16 ≤ length (now sizes)) × (n ≤ 8) × (top ≤ 16) ⌝ }
     requires height { ⌜ top ≡ greatest (now sizes) n ⌝ }
     ensures { λ r. ⌜ r ≡ transposedSize (now (sizes .entry)) n k ⌝ }
@@ -32,54 +24,29 @@ pub fn transposed_size(sizes: &[usize], n: usize, top: usize, k: usize) -> usize
     0
 }
 
-// Stores lane i of slot k: coordinate n - 1 - k of the block of slot n - 1 - i of the level.
-pub fn transpose_lane(
-    slots: &[u64],
-    sizes: &[usize],
-    n: usize,
-    top: usize,
-    k: usize,
-    i: usize,
-    out: &mut [u64],
-)
-    requires { ⌜ InRoom (now slots) (now sizes) × (n ≤ 8) × (k < n) × (i < n) × (0 < getD (now sizes) (reversed n k) 0) ⌝ }
-    requires height { ⌜ top ≡ greatest (now sizes) n ⌝ }
-    requires before { ⌜ Transposing (now slots) (now sizes) n (length (now out)) (now out) (256 * k + 32 * i) ⌝ }
-    ensures { λ _. ⌜ Transposing (now (slots .entry)) (now (sizes .entry)) n (length (now (out .entry))) (now (out .exit))
-        (256 * k + 32 * (i + 1)) ⌝ }
-{
-    let q = n - 1 - i;
-    let lift = top - (sizes[q] + 7) / 8;
-    let mut e = lift;
-    while e < top {
-        let from = place_in_block(q, n - 1 - k, e - lift);
-        let to = place_in_block(k, i, e);
-        out[to] = slots[from];
-        e += 1;
-    }
-}
-
 // Stores slot k, lane by lane, where it is filled.
-pub fn transpose_slot(
-    slots: &[u64],
-    sizes: &[usize],
-    n: usize,
-    top: usize,
-    k: usize,
-    out: &mut [u64],
-)
+fn transpose_slot(slots: &[u64], sizes: &[usize], n: usize, top: usize, k: usize, out: &mut [u64])
     requires { ⌜ InRoom (now slots) (now sizes) × (n ≤ 8) × (k < n) ⌝ }
     requires height { ⌜ top ≡ greatest (now sizes) n ⌝ }
-    requires before { ⌜ Transposing (now slots) (now sizes) n (length (now out)) (now out) (256 * k) ⌝ }
+    requires before { ⌜ Transposing (now slots) (now sizes) n (length (now out)) (now out) (8 * k) ⌝ }
     ensures { λ _. ⌜ Transposing (now (slots .entry)) (now (sizes .entry)) n (length (now (out .entry))) (now (out .exit))
-        (256 * (k + 1)) ⌝ }
+        (8 * (k + 1)) ⌝ }
 {
     if sizes[n - 1 - k] == 0 {
         return;
     }
     let mut i = 0;
     while i < n {
-        transpose_lane(slots, sizes, n, top, k, i, out);
+        // lane i is coordinate n - 1 - k of the block of slot n - 1 - i of the level
+        transpose_lane(
+            slots,
+            sizes,
+            n - 1 - i,
+            n - 1 - k,
+            top,
+            out,
+            256 * k + (7 - i),
+        );
         i += 1;
     }
 }

@@ -3,7 +3,7 @@ use Prim.Native.Nat.{ℕ, _+_, _-_, _%_, _<_, _≤_}
 use mathlib.Core.Path.{_≡_, sym, _∙_, ap}
 use mathlib.Core.Logic.{⊎-elim}
 use mathlib.Core.List.{List}
-use native.Mathlib.Nat.{mod-lt}
+use native.Mathlib.Nat.{mod-eq-of-lt}
 use native.Mathlib.Omega.{arith}
 use lib.ListN.{length, getD}
 use Rattle.ring.specs.Ring.{neg-zero}
@@ -58,14 +58,14 @@ module _ (p : ℕ) (prime : Prime p) where
         ∙ sym (ap (λ k. getD copied k 0 % p) target
         ∙ ap (λ w. w % p) (stored-inside (λ j. getD s (a + j) 0) l d m (c - d + x) room (omega arith))))
 
-  -- the first m words of s are negated, to the same places of l: n of them, from i on
-  module _ (s l : List ℕ) (m : ℕ) where
+  -- the first m words are negated where they stand: n of them, from i on
+  module _ (s : List ℕ) (below : (i : ℕ) → getD s i 0 < p) (m : ℕ) where
     abbrev opposite : List ℕ
-    opposite = stored (λ j. modulo p .neg (getD s j 0 % p)) l 0 m
+    opposite = stored (λ j. modulo p .neg (getD s j 0)) s 0 m
 
-    pub holds-negated : (i n : ℕ) {x : Polynomial (residues p prime)} → m ≤ length l → i + n ≤ m
+    pub holds-negated : (i n : ℕ) {x : Polynomial (residues p prime)} → m ≤ length s → i + n ≤ m
         → Holds (residues p prime) (words p prime s i n) x
-        → Holds (residues p prime) (words p prime (stored (λ j. modulo p .neg (getD s j 0 % p)) l 0 m) i n)
+        → Holds (residues p prime) (words p prime (stored (λ j. modulo p .neg (getD s j 0)) s 0 m) i n)
         (polynomials (residues p prime) .neg x)
     holds-negated i n {x} room inside A = record {
       at = λ j. coefficients-neg (residues p prime) x j ∙ ap (residues p prime .ring .neg) (A .at j) ∙ word j;
@@ -79,7 +79,8 @@ module _ (p : ℕ) (prime : Prime p) where
             ap (residues p prime .ring .neg) (words-inside p prime s i n j lt)
             ∙ sym (words-inside p prime opposite i n j lt
             ∙ ap (λ k. residue p prime (getD opposite k 0)) place
-            ∙ ap (residue p prime) (stored-inside (λ j. modulo p .neg (getD s j 0 % p)) l 0 m (i + j) (omega arith) (omega arith))
+            ∙ ap (residue p prime) (stored-inside (λ j. modulo p .neg (getD s j 0)) s 0 m (i + j) (omega arith) (omega arith)
+            ∙ ap (modulo p .neg) (sym (mod-eq-of-lt (below (i + j)))))
             ∙ residue-minus p prime (getD s (i + j) 0)))
             (λ ge.
             ap (residues p prime .ring .neg) (words-behind p prime s i n j ge)

@@ -3,28 +3,19 @@ use Rattle.second.specs.Denominator.{tail-reducible}
 use borrow.Author.Needs.{needs}
 use Rattle.second.proofs.denominator.find_denominator.Statement.{statement}
 use Rattle.second.proofs.denominator.find_denominator.Tie as tie
-use Rattle.second.proofs.denominator.find_denominator.Reads as reads
-use Rattle.second.proofs.denominator.find_denominator.Lts as lts
-use Rattle.lattice.proofs.insert.Reads as insert-reads
-use Rattle.multiples.proofs.monic.make_monic.Reads as make-monic-reads
 
--- src/denominator.rt:34:5
 array-write-tail : tie.Need-array-write-tail
 array-write-tail c = search needs
 
--- src/denominator.rt:40:43
 slice-aggregate-insert : tie.Need-slice-aggregate-insert
 slice-aggregate-insert c = search needs
 
--- src/denominator.rt:40:5
 insert-requires : tie.Need-insert-requires
 insert-requires c κs = search needs
 
--- src/denominator.rt:41:16
 slice-aggregate-make-monic : tie.Need-slice-aggregate-make-monic
 slice-aggregate-make-monic c = search needs
 
--- src/denominator.rt:41:5
 make-monic-requires : tie.Need-make-monic-requires
 make-monic-requires c κs =
     let I = c .before .before .before .before .before .before .before .before .before .before .before in
@@ -32,27 +23,21 @@ make-monic-requires c κs =
     let done = I .insert .ensures in
     ((S .pre .0 .0, done .valid .hand .tail-room, S .pre .0 .1), (done .tail, tail-reducible (done .valid)))
 
--- src/denominator.rt:17:1
 same-length : tie.Need-same-length
 same-length c = search needs
 
--- src/denominator.rt:17:1
 same-length-2 : tie.Need-same-length-2
 same-length-2 c = search needs
 
--- src/denominator.rt:17:1
 same-length-3 : tie.Need-same-length-3
 same-length-3 c = search needs
 
--- src/denominator.rt:17:1
 same-length-4 : tie.Need-same-length-4
 same-length-4 c = search needs
 
--- src/denominator.rt:17:1
 same-length-5 : tie.Need-same-length-5
 same-length-5 c = search needs
 
--- src/denominator.rt:17:1
 returns : tie.Need-returns
 returns c = search needs
 

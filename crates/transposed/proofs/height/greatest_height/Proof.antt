@@ -1,6 +1,6 @@
 -- The loop keeps the greatest height of the slots so far.
 use mathlib.Core.Path.{_≡_, sym, _∙_, ap}
-use Prim.Native.Nat.{_+_, _-_, _≤_}
+use Prim.Native.Nat.{_-_, _≤_}
 use native.Mathlib.Omega.{arith}
 use borrow.Author.Needs.{needs}
 use lib.ListN.{getD}
@@ -8,9 +8,6 @@ use Rattle.lattice.specs.Memory.{height}
 use Rattle.transposed.specs.Greatest.{larger, greatest, greatest-none, greatest-turn, greatest-small}
 use Rattle.transposed.proofs.height.greatest_height.Statement.{statement}
 use Rattle.transposed.proofs.height.greatest_height.Tie as tie
-use Rattle.transposed.proofs.height.greatest_height.Reads as reads
-use Rattle.transposed.proofs.height.greatest_height.Lts as lts
-use Rattle.transposed.proofs.height.larger_of.Reads as larger-of-reads
 
 abbrev Inv-loop : tie.InvT-loop
 Inv-loop sizes n top₀ q₀ top q = (q ≤ n) × (top ≡ greatest sizes q)
@@ -18,37 +15,29 @@ Inv-loop sizes n top₀ q₀ top q = (q ≤ n) × (top ≡ greatest sizes q)
 abbrev μ-loop : tie.MeasureT-loop
 μ-loop sizes n top₀ q₀ top q = n - q
 
--- src/height.rt:23:5
 loop-holds : tie.Need-loop-holds Inv-loop μ-loop
 loop-holds c = (omega arith, sym (greatest-none _))
 
--- src/height.rt:24:31
 mul-larger-of : tie.Need-mul-larger-of Inv-loop μ-loop
 mul-larger-of c = omega arith
 
--- src/height.rt:24:31
 shared-slice-read-larger-of : tie.Need-shared-slice-read-larger-of Inv-loop μ-loop
 shared-slice-read-larger-of c = omega arith
 
--- src/height.rt:24:31
 add-larger-of : tie.Need-add-larger-of Inv-loop μ-loop
 add-larger-of c =
     let S = c .before .before .before .before in
     omega (arith, S .pre .2 (c .before .before .loop .q) (omega arith))
 
--- src/height.rt:24:9
 larger-of-requires : tie.Need-larger-of-requires Inv-loop μ-loop
 larger-of-requires c κs = search needs
 
--- src/height.rt:25:9
 add-q : tie.Need-add-q Inv-loop μ-loop
 add-q c = omega arith
 
--- src/height.rt:23:5
 loop-less : tie.Need-loop-less Inv-loop μ-loop
 loop-less c = omega arith
 
--- src/height.rt:23:5
 loop-again : tie.Need-loop-again Inv-loop μ-loop
 loop-again c =
     let L = c .before .before .before in
@@ -59,7 +48,6 @@ loop-again c =
           ∙ sym (greatest-turn z (L .loop .q)),
     )
 
--- src/height.rt:17:1
 returns : tie.Need-returns Inv-loop μ-loop
 returns c =
     let inv = c .before .loop .inv in

@@ -1,6 +1,6 @@
 -- The loop keeps a `Storing`: one word a turn.
 use mathlib.Core.Path.{refl, sym}
-use Prim.Native.Nat.{ℕ, _+_, _-_}
+use Prim.Native.Nat.{_-_}
 use native.Mathlib.Nat.{zero-add}
 use native.Mathlib.Omega.{arith}
 use lib.ListN.{getD}
@@ -8,8 +8,6 @@ use Rattle.transposed.specs.Words.{reversed}
 use Rattle.vector.proofs.Storing.{Storing, storing-start, storing-turn-at, storing-end}
 use Rattle.transposed.proofs.transpose.transpose_inverses.Statement.{statement}
 use Rattle.transposed.proofs.transpose.transpose_inverses.Tie as tie
-use Rattle.transposed.proofs.transpose.transpose_inverses.Reads as reads
-use Rattle.transposed.proofs.transpose.transpose_inverses.Lts as lts
 
 abbrev Inv-loop : tie.InvT-loop
 Inv-loop inverses n out₀ k₀ out k = Storing (λ k. getD inverses (reversed n k) 0) out₀ 0 n out k
@@ -17,53 +15,41 @@ Inv-loop inverses n out₀ k₀ out k = Storing (λ k. getD inverses (reversed n
 abbrev μ-loop : tie.MeasureT-loop
 μ-loop inverses n out₀ k₀ out k = n - k
 
--- src/transpose.rt:83:5
 loop-holds : tie.Need-loop-holds Inv-loop μ-loop
 loop-holds c = storing-start _ _ _ _
 
--- src/transpose.rt:84:27
 sub-out : tie.Need-sub-out Inv-loop μ-loop
 sub-out c = omega arith
 
--- src/transpose.rt:84:27
 sub-out-2 : tie.Need-sub-out-2 Inv-loop μ-loop
 sub-out-2 c = omega arith
 
--- src/transpose.rt:84:18
 mul-out : tie.Need-mul-out Inv-loop μ-loop
 mul-out c = omega arith
 
--- src/transpose.rt:84:18
 shared-slice-read-out : tie.Need-shared-slice-read-out Inv-loop μ-loop
 shared-slice-read-out c = omega arith
 
--- src/transpose.rt:84:9
 mul-out-2 : tie.Need-mul-out-2 Inv-loop μ-loop
 mul-out-2 c = omega arith
 
--- src/transpose.rt:84:9
 slice-write-out : tie.Need-slice-write-out Inv-loop μ-loop
 slice-write-out c = omega arith
 
--- src/transpose.rt:85:9
 add-k : tie.Need-add-k Inv-loop μ-loop
 add-k c = omega arith
 
--- src/transpose.rt:83:5
 loop-less : tie.Need-loop-less Inv-loop μ-loop
 loop-less c = omega arith
 
--- src/transpose.rt:83:5
 loop-again : tie.Need-loop-again Inv-loop μ-loop
 loop-again c =
     let L = c .before .before in
     storing-turn-at (L .loop .inv) _ (sym (zero-add (L .loop .k))) _ (omega arith) refl
 
--- src/transpose.rt:78:1
 same-length : tie.Need-same-length Inv-loop μ-loop
 same-length c = c .before .loop .inv .same-length
 
--- src/transpose.rt:78:1
 returns : tie.Need-returns Inv-loop μ-loop
 returns c = storing-end (c .before .loop .inv) (c .loop-test .left)
 

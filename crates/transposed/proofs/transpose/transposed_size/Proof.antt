@@ -8,50 +8,39 @@ use Rattle.transposed.specs.Words.{reversed, size-beyond, size-empty, si
 use borrow.Author.Needs.{needs}
 use Rattle.transposed.proofs.transpose.transposed_size.Statement.{statement}
 use Rattle.transposed.proofs.transpose.transposed_size.Tie as tie
-use Rattle.transposed.proofs.transpose.transposed_size.Reads as reads
-use Rattle.transposed.proofs.transpose.transposed_size.Lts as lts
 
--- src/transpose.rt:58:22
 sub-if2 : tie.Need-sub-if2
 sub-if2 c = search needs
 
--- src/transpose.rt:58:22
 sub-if2-2 : tie.Need-sub-if2-2
 sub-if2-2 c = search needs
 
--- src/transpose.rt:58:16
 mul-if2 : tie.Need-mul-if2
 mul-if2 c = search needs
 
--- src/transpose.rt:58:16
 shared-slice-read-if2 : tie.Need-shared-slice-read-if2
 shared-slice-read-if2 c = search needs
 
--- src/transpose.rt:59:20
 mul-result : tie.Need-mul-result
 mul-result c = search needs
 
--- src/transpose.rt:59:20
 sub-result : tie.Need-sub-result
 sub-result c =
     let S = c .before .before .before in
     let tall = greatest-positive (S .args .sizes .now) (S .args .n) (S .args .n - 1 - S .args .k) (omega arith) (omega arith) in
     omega (arith, tall, S .pre .1)
 
--- src/transpose.rt:59:13
 returns : tie.Need-returns
 returns c =
     let S = c .before .before .before in
     ap (λ t. 8 * t - S .args .k) (S .pre .1)
     ∙ sym (size-filled (S .args .sizes .now) (S .args .n) (S .args .k) (omega arith) (omega arith))
 
--- src/transpose.rt:53:1
 returns-2 : tie.Need-returns-2
 returns-2 c =
     let S = c .before .before .before in
     sym (size-empty (S .args .sizes .now) (S .args .n) (S .args .k) (omega arith) (λ (h : 0 < getD (S .args .sizes .now) (reversed (S .args .n) (S .args .k)) 0). omega arith))
 
--- src/transpose.rt:53:1
 returns-3 : tie.Need-returns-3
 returns-3 c =
     let S = c .before in
