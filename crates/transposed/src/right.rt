@@ -1,8 +1,9 @@
-// The right side of the second system: the tails of a level's slots as one flat block, with the weights of the transposed slots.
+// The right side of the second system: the tails of a level's slots, or one coordinate of their blocks, as one flat block with the
+// weights of the transposed slots.
 use crate::lane::copy_lane;
 use crate::lane::transpose_lane;
 ghost use mathlib.Core.Path.{_≡_};
-ghost use Prim.Native.Nat.{_+_, _-_, _*_, _<_, _≤_};
+ghost use Prim.Native.Nat.{_+_, _<_, _≤_};
 ghost use lib.ListN.{length};
 ghost use Rattle.vector.specs.Bound.{AtMost};
 ghost use Rattle.vector.specs.Stored.{stored};

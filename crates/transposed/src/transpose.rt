@@ -2,7 +2,7 @@
 // highest, `top` degrees.
 use crate::lane::transpose_lane;
 ghost use mathlib.Core.Path.{_≡_};
-ghost use Prim.Native.Nat.{_+_, _-_, _*_, _<_, _≤_};
+ghost use Prim.Native.Nat.{_+_, _*_, _<_, _≤_};
 ghost use lib.ListN.{length, getD};
 ghost use Rattle.vector.specs.Bound.{AtMost};
 ghost use Rattle.vector.specs.Stored.{stored};
