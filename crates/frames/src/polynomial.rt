@@ -35,8 +35,9 @@ fn read_coefficients(words: &[u32], p: u16, count: u32) -> WordsRead
         if p as u32 <= coefficient {
             return WordsRead::Refused(7, at);
         }
-        if coefficient == 0 {
-            if at == last {
+        // the place is tried first: which coefficients are 0 the processor cannot foresee
+        if at == last {
+            if coefficient == 0 {
                 return WordsRead::Refused(8, at);
             }
         }

@@ -62,7 +62,7 @@ returns-4 c =
     sym
     (l .same
     ∙ due-last _ _ _ _ (e .before .loop-test .taken) (e .if1 .left) (sym (k .kind-of .ensures) ∙ x .before .if2 .left)
-    (omega (arith, x .payload-of .ensures)) (sym (x .payload-of .ensures) ∙ c .before .if4 .taken) (c .if5 .taken))
+    (omega (arith, x .payload-of .ensures)) (sym (x .payload-of .ensures) ∙ c .if5 .taken) (c .before .if4 .taken))
 
 add-at : tie.Need-add-at Inv-loop μ-loop
 add-at c = search needs
@@ -78,7 +78,7 @@ loop-again c =
     let l = e .before .before .loop .inv in
     reached-next _ _ _ _ l (e .before .loop-test .taken) (e .if1 .left) (sym (k .kind-of .ensures) ∙ x .before .if2 .left)
     (omega (arith, x .payload-of .ensures))
-    (λ last z. ⊎-elim (λ w. w .1 .left last) (λ w. w .left (x .payload-of .ensures ∙ z)) (c .if4 .came))
+    (λ last z. ⊎-elim (λ w. w .1 .left (x .payload-of .ensures ∙ z)) (λ w. w .left last) (c .if4 .came))
 
 returns-5 : tie.Need-returns-5 Inv-loop μ-loop
 returns-5 c = sym (reached-end _ _ _ _ (c .before .loop .inv) (omega arith))
