@@ -147,6 +147,8 @@ uint64_t NAME(const uint8_t *system, size_t system_bytes, const uint8_t *certifi
     struct system s;
     struct certificate c;
     uint64_t refusal = read_system(&s, system, system_bytes);
+    if (certificate_bytes % 4 != 0)
+        return refusal_of(10, 0);
     if (refusal == 0)
         refusal = read_certificate(&c, &s, certificate, certificate_bytes);
     if (refusal != 0)

@@ -49,7 +49,7 @@ impl Side {
 }
 
 impl Refusal {
-    /// The number in document 01's table. On a certificate, those of words are larger by 20.
+    /// The number in document 01's table. On a certificate all but 10 are larger by 20.
     pub fn number(&self) -> u32 {
         let number = match self.reason {
             Reason::Head { .. } => 1,
@@ -131,4 +131,3 @@ impl Refusal {
         }
     }
 }
-

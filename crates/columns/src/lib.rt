@@ -17,7 +17,7 @@ ghost use Rattle.columns.specs.HasWords.{HasWords};
 
 // The polynomials of an area as `load` leaves it: A row by row, then b. Column j goes to the 128 words from 128 j on, b behind the
 // last column.
-pub fn lay_area(input: &mut [u64], area: &[u64], rows: usize, columns: usize)
+fn lay_area(input: &mut [u64], area: &[u64], rows: usize, columns: usize)
     requires { ⌜ (rows ≤ 8) × (columns ≤ 8) × (length (now input) ≡ 1152) ⌝ }
     requires slots { ⌜ ((k : ℕ) → k < rows * columns + rows → FitsSlot (now area) k) ⌝ }
     ensures { λ _. ⌜ LaidOut (now (area .entry)) rows columns (now (input .entry)) (now (input .exit)) ⌝ }

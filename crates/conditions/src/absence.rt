@@ -22,7 +22,8 @@ fn product_wrong(system: &[u64], certificate: &[u64], layout: Layout, j: usize) 
 // 35: q·A not zero; first such column.
 fn try_products(system: &[u64], certificate: &[u64], layout: Layout) -> Verdict
     requires { ⌜ Loaded layout (layout .rows) (now system) (now certificate) ⌝ }
-    ensures { λ r. ⌜ verdictOutcome r ≡ tryProducts (systemIn layout (now (system .entry))) (vectorIn (layout .rows) 0 (now (certificate .entry))) ⌝ }
+    ensures { λ r. ⌜ verdictOutcome r ≡
+        tryProducts (systemIn layout (now (system .entry))) (vectorIn (layout .rows) 0 (now (certificate .entry))) ⌝ }
 {
     let mut j = 0;
     while j < layout.columns {
@@ -37,7 +38,8 @@ fn try_products(system: &[u64], certificate: &[u64], layout: Layout) -> Verdict
 // 36: q·b zero.
 fn try_side(system: &[u64], certificate: &[u64], layout: Layout) -> Verdict
     requires { ⌜ Loaded layout (layout .rows) (now system) (now certificate) ⌝ }
-    ensures { λ r. ⌜ verdictOutcome r ≡ trySide (systemIn layout (now (system .entry))) (vectorIn (layout .rows) 0 (now (certificate .entry))) ⌝ }
+    ensures { λ r. ⌜ verdictOutcome r ≡
+        trySide (systemIn layout (now (system .entry))) (vectorIn (layout .rows) 0 (now (certificate .entry))) ⌝ }
 {
     let sum = side(system, certificate, 0, layout);
     if sum.is_zero() {
@@ -49,7 +51,8 @@ fn try_side(system: &[u64], certificate: &[u64], layout: Layout) -> Verdict
 // 35, then 36.
 pub fn check_absence(system: &[u64], certificate: &[u64], layout: Layout) -> Verdict
     requires { ⌜ Loaded layout (layout .rows) (now system) (now certificate) ⌝ }
-    ensures { λ r. ⌜ verdictOutcome r ≡ absenceVerdict (systemIn layout (now (system .entry))) (vectorIn (layout .rows) 0 (now (certificate .entry))) ⌝ }
+    ensures { λ r. ⌜ verdictOutcome r ≡
+        absenceVerdict (systemIn layout (now (system .entry))) (vectorIn (layout .rows) 0 (now (certificate .entry))) ⌝ }
 {
     let products = try_products(system, certificate, layout);
     let Verdict::Accepted = products else {

@@ -16,7 +16,8 @@ ghost use lib.ListN.{length};
 ghost use Rattle.truth.specs.Verdict.{monic?, solutionVerdict};
 ghost use Rattle.conditions.specs.Answer.{verdictOutcome};
 ghost use Rattle.loader.specs.Slot.{slot, Filled};
-ghost use Rattle.products.specs.Areas.{ValidLayout, Loaded, CertificateLoaded, systemIn, denominatorIn, numeratorsIn, certifyingDenominatorIn, certifyingNumeratorsIn};
+ghost use Rattle.products.specs.Areas.{ValidLayout, Loaded, CertificateLoaded};
+ghost use Rattle.products.specs.Areas.{systemIn, denominatorIn, numeratorsIn, certifyingDenominatorIn, certifyingNumeratorsIn};
 ghost use Rattle.conditions.specs.Table.{tryMonic, rowWrong, tryRows, columnWrong, tryColumns, tryDenominators};
 
 // Whether polynomial k of the certificate is monic.
@@ -33,7 +34,8 @@ fn is_monic_at(certificate: &[u64], k: usize, layout: Layout) -> bool
 fn try_monic(certificate: &[u64], layout: Layout) -> Verdict
     requires { ⌜ CertificateLoaded layout (layout .columns + 2) (now certificate) ⌝ }
     ensures { λ r. ⌜ verdictOutcome r ≡
-        tryMonic (layout .modulus .p) (denominatorIn (now (certificate .entry))) (certifyingDenominatorIn layout (now (certificate .entry))) ⌝ }
+        tryMonic (layout .modulus .p) (denominatorIn (now (certificate .entry)))
+        (certifyingDenominatorIn layout (now (certificate .entry))) ⌝ }
 {
     let w = layout.columns + 1;
     if !is_monic_at(certificate, 0, layout) {
@@ -49,7 +51,8 @@ fn try_monic(certificate: &[u64], layout: Layout) -> Verdict
 fn row_wrong(system: &[u64], certificate: &[u64], layout: Layout, i: usize) -> bool
     requires { ⌜ Loaded layout (layout .columns + 2 + layout .rows) (now system) (now certificate) × (i < layout .rows) ⌝ }
     ensures { λ r. ⌜ r ≡
-        rowWrong (systemIn layout (now (system .entry))) (denominatorIn (now (certificate .entry))) (numeratorsIn layout (now (certificate .entry))) i ⌝ }
+        rowWrong (systemIn layout (now (system .entry))) (denominatorIn (now (certificate .entry)))
+        (numeratorsIn layout (now (certificate .entry))) i ⌝ }
 {
     let found = row(system, certificate, layout, i);
     let due = target(system, certificate, layout, i);
@@ -60,7 +63,8 @@ fn row_wrong(system: &[u64], certificate: &[u64], layout: Layout, i: usize) -> b
 fn try_rows(system: &[u64], certificate: &[u64], layout: Layout) -> Verdict
     requires { ⌜ Loaded layout (layout .columns + 2 + layout .rows) (now system) (now certificate) ⌝ }
     ensures { λ r. ⌜ verdictOutcome r ≡
-        tryRows (systemIn layout (now (system .entry))) (denominatorIn (now (certificate .entry))) (numeratorsIn layout (now (certificate .entry))) ⌝ }
+        tryRows (systemIn layout (now (system .entry))) (denominatorIn (now (certificate .entry)))
+        (numeratorsIn layout (now (certificate .entry))) ⌝ }
 {
     let mut i = 0;
     while i < layout.rows {
@@ -128,7 +132,8 @@ fn try_denominators(system: &[u64], certificate: &[u64], layout: Layout) -> Verd
 pub fn check_solution(system: &[u64], certificate: &[u64], layout: Layout) -> Verdict
     requires { ⌜ Loaded layout (layout .columns + 2 + layout .rows) (now system) (now certificate) ⌝ }
     ensures { λ r. ⌜ verdictOutcome r ≡
-        solutionVerdict (systemIn layout (now (system .entry))) (denominatorIn (now (certificate .entry))) (numeratorsIn layout (now (certificate .entry)))
+        solutionVerdict (systemIn layout (now (system .entry)))
+        (denominatorIn (now (certificate .entry))) (numeratorsIn layout (now (certificate .entry)))
         (certifyingDenominatorIn layout (now (certificate .entry))) (certifyingNumeratorsIn layout (now (certificate .entry))) ⌝ }
 {
     let monic = try_monic(certificate, layout);

@@ -15,8 +15,7 @@ ghost use Rattle.descent.specs.Turn.{Turned};
 
 // From a vector in the span of the level j + 1, whose slots and kernel are given, by its coefficients, and column j at `at`: the
 // coordinate of the column goes to 128 words from `place` on, and t, 0 at the start, becomes the vector less the coordinate times the
-// column, in sums not reduced. The quotients are left all 0, so that t can be divided at once. y is
-// an area to work in, 0 at the start.
+// column, in sums not reduced. The quotients are left all 0, so that t can be divided at once. y is an area to work in, 0 at the start.
 pub fn descend_column(
     quotients: &mut [u64],
     slots: &[u64],

@@ -1,11 +1,10 @@
 -- A column divided by the slots of a level: what is left of it, in sums, and its coefficients in the blocks of the slots.
-use Prim.Native.Nat.{ℕ, _+_, _-_, _%_, _<_, _≤_}
+use Prim.Native.Nat.{ℕ, _+_, _%_, _<_, _≤_}
 use mathlib.Core.Path.{_≡_, refl, sym, _∙_, ap}
 use mathlib.Core.Logic.{inr, ⊎-elim}
 use mathlib.Core.List.{List, [], _∷_}
 use native.Mathlib.Nat.{zero-mod}
 use native.Mathlib.Omega.{arith}
-use native.Mathlib.Decide.{decLe}
 use lib.ListN.{length, getD, List·getD-eq-default}
 use Rattle.ring.specs.Identity.{quotes, identity}
 use Rattle.ring.specs.Ring.{Ring}
@@ -22,7 +21,7 @@ use Rattle.reduction.specs.Flat.{Flat}
 use Rattle.lattice.specs.Word.{residue, words, words-inside, words-behind}
 use Rattle.lattice.specs.Memory.{Level, ZeroFrom, Ends, Sums}
 use Rattle.lattice.specs.Holding.{HoldsSlots}
-use Rattle.lattice.specs.Range.{words-zero, words-shorter, ends-same}
+use Rattle.lattice.specs.Range.{words-zero, words-shorter, ends-most, ends-same}
 use Rattle.lattice.specs.Reading.{flat-same}
 use Rattle.lattice.specs.Quotients.{Divides, Dividend, Divided}
 use Rattle.lattice.specs.Coefficients.{HoldsCoefficients}
@@ -84,13 +83,7 @@ module _ (p : ℕ) (input : List ℕ) (at : ℕ) (zeros : List ℕ) (long : leng
     rest-words prime = words-shorter p prime rest 0 1088 128 (omega arith) nothing
 
     few : left ≤ 128
-    few = go (decLe left 128)
-      where
-        go : Dec (left ≤ 128) → left ≤ 128
-        go (yes h) = h
-        go (no h) =
-            let nothing : getD rest (0 + (left - 1)) 0 ≡ 0 = List·getD-eq-default rest 0 (omega (arith, room)) in
-            absurd (omega (arith, done .ends .last (omega arith), ap (λ w. w % p) nothing, zero-mod p))
+    few = ends-most rest 0 1088 left 128 (done .ends) nothing
 
     dividend : (prime : Prime p) (n : ℕ) (U : Slots (Polynomial (residues p prime))) (column : ℕ → Polynomial (residues p prime))
         → HoldsSlots p prime n unweighted L U → Flat (residues p prime) n 8 unweighted (words p prime input at 128) column

@@ -1,4 +1,4 @@
-// A product taken off words in lanes: the step of the way down, for the tails with one lane and for a block with eight.
+// A product taken off words in lanes: of tails with one lane, of a block with eight.
 use residue::modulus::Modulus;
 use vector::add_scaled;
 ghost use Prim.Native.Nat.{ℕ, _+_, _*_, _<_, _≤_};

@@ -9,7 +9,7 @@ use lib.ListN.{length, getD}
 use Rattle.ring.specs.Ring.{Ring}
 use Rattle.ring.specs.Identity.{quotes, identity}
 use Rattle.modular.specs.Prime.{Prime}
-use Rattle.modular.specs.Residue.{Residue, residues}
+use Rattle.modular.specs.Residue.{residues}
 use Rattle.vector.specs.Stored.{stored, stored-inside, stored-outside, below-or-not}
 use Rattle.vector.specs.Multiple.{sumAt}
 use Rattle.lattice.specs.Word.{residue, residue-same, same-residue, residue-zero, zero-residue, residue-mod, residue-less}
@@ -33,9 +33,6 @@ module _ (p : ℕ) (prime : Prime p) where
   infixl 65 _⊕_
   infixl 70 _⊗_
   infix 75 ⊝_
-  abbrev array : List ℕ → ℕ → ℕ → ℕ → Residue p
-  array = words p prime
-
   -- the same words modulo p
   pub words-same : (l m : List ℕ) (b c n j : ℕ) → (j < n → getD l (b + j) 0 % p ≡ getD m (c + j) 0 % p)
       → words p prime l b n j ≡ words p prime m c n j

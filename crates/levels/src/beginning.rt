@@ -9,7 +9,7 @@ ghost use Rattle.vector.specs.Bound.{Reducible};
 ghost use Rattle.levels.specs.Begun.{begun};
 
 // The place of the last of so many words; 0 where there is none.
-pub fn last_place(size: usize) -> usize
+fn last_place(size: usize) -> usize
     ensures { λ r. ⌜ r ≡ size - 1 ⌝ }
 {
     if size == 0 { 0 } else { size - 1 }

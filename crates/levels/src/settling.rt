@@ -1,4 +1,4 @@
-// What an insertion leaves in the hand goes where it belongs: into the empty slot at its pivot, or to the kernels.
+// What an insertion leaves in the hand goes where it belongs: into the empty slot at its pivot, or to the kernel.
 use lattice::Hand;
 use lattice::moves::swap_with_slot;
 use residue::modulus::Modulus;

@@ -28,7 +28,8 @@ fn copy_payloads(area: &mut [u64], d: usize, words: &[u32], a: usize, n: usize)
 // The polynomials of the words, of which there are `count`, each into its slot.
 pub fn load(area: &mut [u64], width: usize, words: &[u32], count: usize)
     requires { ⌜ ((fs : List (List ℕ)) × Holds width (now words) fs × (length fs ≡ count)) × (count * width ≤ length (now area)) ⌝ }
-    ensures { λ _. ⌜ ((fs : List (List ℕ)) → Holds width (now (words .entry)) fs → length fs ≡ count → Stands width (now (area .exit)) fs) ⌝ }
+    ensures { λ _. ⌜ ((fs : List (List ℕ)) → Holds width (now (words .entry)) fs → length fs ≡ count
+        → Stands width (now (area .exit)) fs) ⌝ }
 {
     let mut at = 1;
     let mut k = 0;

@@ -41,8 +41,8 @@ fn words_on<'a>(side: Side, system: &'a [u32], certificate: &'a [u32]) -> &'a [u
     }
 }
 
-// Where polynomial `number` of the side that is asked for stands, from its start word to its last coefficient. Both sides are read
-// first.
+// Where polynomial `number` of the side that is asked for stands, from its start word to its last coefficient.
+// Both sides are read first.
 pub fn lookup_part<'a>(
     system: &'a [u32],
     certificate: &'a [u32],

@@ -13,7 +13,7 @@ ghost use Rattle.lattice.specs.Memory.{ZeroFrom, Sums};
 ghost use Rattle.multiples.specs.Monic.{MadeMonic};
 
 // h[j] = y[j] times the factor, modulo p, for j below n.
-pub fn store_scaled(h: &mut [u64], y: &[u64], n: usize, factor: u64, modulus: Modulus)
+fn store_scaled(h: &mut [u64], y: &[u64], n: usize, factor: u64, modulus: Modulus)
     requires { ⌜ ValidModulus modulus × (n ≤ length (now h)) × (n ≤ length (now y)) × (factor < modulus .p) ⌝ }
     requires sums { ⌜ Reducible (modulus .p) (now y) n ⌝ }
     ensures { λ _. ⌜ now (h .exit) ≡ stored (λ j. modulo (modulus .p) .mul (getD (now (y .entry)) j 0 % modulus .p) factor)

@@ -30,7 +30,8 @@ impl Polynomial {
     pub fn add_product(self, f: Polynomial, g: Polynomial, m: Modulus) -> Polynomial
         requires { ⌜ ValidModulus m × ValidPolynomial (m .p) self × ValidPolynomial (m .p) f × ValidPolynomial (m .p) g ⌝ }
         requires room { ⌜ f .size + g .size ≤ 257 ⌝ }
-        ensures { λ r. ⌜ Represents (m .p) r (add (modulo (m .p)) (coefficientsOf self) (mul (modulo (m .p)) (coefficientsOf f) (coefficientsOf g))) ⌝ }
+        ensures { λ r. ⌜ Represents (m .p) r
+            (add (modulo (m .p)) (coefficientsOf self) (mul (modulo (m .p)) (coefficientsOf f) (coefficientsOf g))) ⌝ }
     {
         let mut h = self.coefficients;
         add_rows(&mut h, &f.coefficients, f.size, &g.coefficients, g.size);

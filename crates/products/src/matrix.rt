@@ -26,7 +26,8 @@ pub fn row(system: &[u64], certificate: &[u64], layout: Layout, i: usize) -> Pol
 pub fn target(system: &[u64], certificate: &[u64], layout: Layout, i: usize) -> Polynomial
     requires { ⌜ Loaded layout (layout .columns + 2 + layout .rows) (now system) (now certificate) × (i < layout .rows) ⌝ }
     ensures { λ r. ⌜ Represents (layout .modulus .p) r
-        (mul (modulo (layout .modulus .p)) (slot 122 (now (certificate .entry)) 0) (rightSide (systemIn layout (now (system .entry))) i)) ⌝ }
+        (mul (modulo (layout .modulus .p)) (slot 122 (now (certificate .entry)) 0)
+        (rightSide (systemIn layout (now (system .entry))) i)) ⌝ }
 {
     let rows = layout.rows;
     let columns = layout.columns;

@@ -1,7 +1,6 @@
 -- `lower_quotients`: its lane, its factors, and what its steps give together.
 use Prim.Native.Nat.{ℕ, zero, suc, _+_, _-_, _*_, _%_, _<_, _≤_}
 use mathlib.Core.Path.{_≡_, sym, _∙_, ap, subst}
-use mathlib.Core.Logic.{⊎-elim}
 use mathlib.Core.List.{List}
 use native.Mathlib.Nat.{mod-eq-of-lt}
 use native.Mathlib.Omega.{arith}
@@ -13,7 +12,7 @@ use Rattle.algebra.specs.Polynomial.{Polynomial, polynomials, coefficients, coe
 use Rattle.algebra.specs.Size.{size, coefficients-beyond}
 use Rattle.modular.specs.Prime.{Prime}
 use Rattle.modular.specs.Residue.{residues}
-use Rattle.vector.specs.Stored.{stored, length-stored, stored-inside, stored-outside, stored-all}
+use Rattle.vector.specs.Stored.{stored, length-stored, stored-inside, stored-outside, stored-all, stored-all-first}
 use Rattle.reduction.specs.Replace.{replace, replace-elim}
 use Rattle.reduction.specs.Holds.{Holds}
 use Rattle.reduction.specs.Flat.{flat}
@@ -31,9 +30,8 @@ module _ {p : ℕ} (quotients y₀ : List ℕ) {y : List ℕ} (q : ℕ) (below :
   lane-length = ap length taken ∙ length-stored _ y₀ 0 128 ∙ room
 
   pub lane-below : (i : ℕ) → getD y i 0 < p
-  lane-below = stored-all (λ i w. w < p) _ y₀ y 0 128 taken (omega arith) (λ j lt. below (8 * j + (7 - q)))
-      (λ i out. ⊎-elim (λ lo. absurd (omega arith))
-      (λ hi. omega (arith, List·getD-eq-default y₀ 0 {n = i} (omega arith), below 0)) out)
+  lane-below = stored-all-first (λ i w. w < p) _ y₀ y 128 taken (omega arith) (λ j lt. below (8 * j + (7 - q)))
+      (λ i far. omega (arith, List·getD-eq-default y₀ 0 {n = i} (omega arith), below 0))
 
   pub lane-holds : q < 8 → (prime : Prime p) (x : Polynomial (residues p prime)) → HoldsQuotient p prime quotients q x
       → size (residues p prime) x ≤ 121 → Holds (residues p prime) (words p prime y 0 128) x

@@ -1,9 +1,8 @@
 -- `subtract_multiple`: what is left of the quotients.
 use Prim.Native.Nat.{ℕ, _+_, _-_, _*_, _%_, _<_, _≤_}
 use mathlib.Core.Path.{_≡_, refl, sym, _∙_, ap, subst}
-use mathlib.Core.Logic.{⊎-elim}
 use mathlib.Core.List.{List, [], _∷_}
-use native.Mathlib.Nat.{mod-lt, mod-eq-of-lt, zero-mod, zero-add}
+use native.Mathlib.Nat.{mod-lt, mod-eq-of-lt, zero-mod}
 use native.Mathlib.Omega.{arith}
 use native.Mathlib.Decide.{decLt}
 use lib.ListN.{length, getD, take, drop, length-take, List·getD-eq-default}
@@ -14,7 +13,7 @@ use Rattle.modular.specs.Prime.{Prime}
 use Rattle.modular.specs.Residue.{residues}
 use Rattle.vector.specs.Reduced.{polynomial}
 use Rattle.vector.specs.Size.{size-reduced}
-use Rattle.vector.specs.Stored.{stored, length-stored, stored-all}
+use Rattle.vector.specs.Stored.{stored, length-stored, stored-all-first}
 use Rattle.reduction.specs.Holds.{Holds, read, read-at, read-beyond}
 use Rattle.reduction.specs.Flat.{flat}
 use Rattle.lattice.specs.Memory.{ZeroFrom, Ends}
@@ -91,9 +90,8 @@ module _ {p : ℕ} (prime₀ : Prime p) {quotients y factors q₁ q′ : List �
 
   reduced-all : (P : ℕ → ℕ → Type 0) → ((j : ℕ) → P j (getD q₁ j 0 % p)) → ((i : ℕ) → terms * 8 + m ≤ i + 8 → P i (getD q₁ i 0))
       → (i : ℕ) → P i (getD q′ i 0)
-  reduced-all P inside outside = stored-all P (λ j. getD q₁ j 0 % p) q₁ q′ 0 _ reduces (omega (arith, T .same-length))
-      (λ j lt. subst (λ i. P i (getD q₁ j 0 % p)) (sym (zero-add j)) (inside j))
-      (λ i out. outside i (⊎-elim (λ lo. absurd (omega arith)) (λ hi. omega arith) out))
+  reduced-all P inside outside = stored-all-first P (λ j. getD q₁ j 0 % p) q₁ q′ _ reduces (omega (arith, T .same-length))
+      (λ j lt. inside j) (λ i far. outside i (omega arith))
 
   same-residue : (i : ℕ) → getD q₁ i 0 % p ≡ getD q′ i 0 % p
   same-residue = reduced-all (λ i w. getD q₁ i 0 % p ≡ w % p) (λ j. sym (mod-eq-of-lt (mod-lt _ (positive p prime₀)))) (λ i far. refl)

@@ -61,7 +61,8 @@ fn entry_count(form: Form, shape: Shape) -> u32
 
 // The whole certificate.
 pub fn read_certificate(words: &[u32], shape: Shape, limits: Limits) -> CertificateRead
-    ensures { λ r. ⌜ certificateOutcome r ≡ mapped certificateForm (readCertificate (limitsOf limits) (shapeOf shape) (now (words .entry))) ⌝ }
+    ensures { λ r. ⌜ certificateOutcome r ≡
+        mapped certificateForm (readCertificate (limitsOf limits) (shapeOf shape) (now (words .entry))) ⌝ }
 {
     let head = read_head(words);
     match head {

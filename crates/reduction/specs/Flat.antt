@@ -15,7 +15,7 @@ use Rattle.algebra.specs.Expressions.{shift, shift-mul}
 use Rattle.algebra.specs.Sized.{size-of-zero, size-positive}
 use Rattle.algebra.specs.Size.{size, sized, size-none, size-shift}
 use Rattle.reduction.specs.Pivot.{Vanishes, Pivot}
-use Rattle.reduction.specs.Holds.{Holds, monomial, holds-size, holds-size-exact, holds-unique, shift-injective}
+use Rattle.reduction.specs.Holds.{Holds, monomial, holds-size, holds-size-exact}
 use Rattle.reduction.specs.Holds.{holds-shift, holds-step, read, read-holds}
 
 -- the place of degree e in the lane of coordinate i
@@ -103,10 +103,6 @@ module _ {K : Type 0} (F : Field K) where
         inside : Dec (q < n) → q < n
         inside (yes h) = h
         inside (no h) = absurd (ne (ap H (sym place) ∙ A .beside q e (omega arith) (omega arith)))
-
-    -- the array determines the block
-    pub flat-unique : {v′ : ℕ → Polynomial F} → Flat n W ω H v′ → (i : ℕ) → i < n → v i ≡ v′ i
-    flat-unique {v′} B i h = shift-injective F (ω i) (v i) (v′ i) (holds-unique F (A .lane i h) (B .lane i h))
 
     -- an array of zeros
     pub flat-zero : ((x : ℕ) → H x ≡ 𝟎) → Vanishes (polynomials F) n v

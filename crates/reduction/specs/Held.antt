@@ -1,13 +1,12 @@
 -- A vector with tail in memory: its block in one flat array, its tail in another. What loops over these arrays do to the vector.
-use Prim.Native.Nat.{ℕ, suc, _<_}
+use Prim.Native.Nat.{ℕ, _<_}
 use Prim.Native.Nat.{_+_ as _+ₙ_, _*_ as _*ₙ_}
 use mathlib.Core.Path.{_≡_}
 use Rattle.ring.specs.Ring.{Ring}
 use Rattle.algebra.specs.Field.{Field}
 use Rattle.algebra.specs.Polynomial.{Polynomial, polynomials}
-use Rattle.reduction.specs.Replace.{below-suc}
-use Rattle.reduction.specs.Holds.{Holds, monomial, holds-unique, holds-step}
-use Rattle.reduction.specs.Flat.{Flat, flat-unique, flat-step}
+use Rattle.reduction.specs.Holds.{Holds, monomial, holds-step}
+use Rattle.reduction.specs.Flat.{Flat, flat-step}
 
 module _ {K : Type 0} (F : Field K) where
   open Ring (F .ring) using (add as _⊕_, mul as _⊗_, neg as ⊝_)
@@ -23,12 +22,6 @@ module _ {K : Type 0} (F : Field K) where
     pub block : Flat F n W ω H v
     pub tail : Holds F τ (v n)
 
-  -- the arrays determine the vector
-  pub held-unique : {n W : ℕ} {ω : ℕ → ℕ} {H τ : ℕ → K} {v v′ : ℕ → Polynomial F} → Held n W ω H τ v → Held n W ω H τ v′
-      → (i : ℕ) → i < suc n → v i ≡ v′ i
-  held-unique {n} {v = v} {v′ = v′} A B =
-      below-suc n (λ i. v i ≡ v′ i) (flat-unique F (A .block) (B .block)) (holds-unique F (A .tail) (B .tail))
-
   -- a step on both arrays, by k degrees, is a step on the vector
   module _ {n W : ℕ} {ω : ℕ → ℕ} {H τ U σ H′ τ′ : ℕ → K} {h u : ℕ → Polynomial F} (a : K) (k : ℕ)
       (A : Held n W ω H τ h) (B : Held n W ω U σ u)
@@ -39,7 +32,3 @@ module _ {K : Type 0} (F : Field K) where
       block = flat-step F a k (A .block) (B .block) upper lower;
       tail = holds-step F a k (A .tail) (B .tail) tail-upper tail-lower;
     }
-
-    -- whatever vector the new arrays are known to hold
-    pub held-taken : {h′ : ℕ → Polynomial F} → Held n W ω H′ τ′ h′ → (i : ℕ) → i < suc n → h′ i ≡ h i + (- (monomial F a k * u i))
-    held-taken C = held-unique C held-step

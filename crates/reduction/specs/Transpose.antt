@@ -116,11 +116,3 @@ module _ {A : Type 0} {R : Ring A} {S : Sized R} {n B D : ℕ} {U : Slots A} (O 
         ap size (masked-filled (d i) 𝟘 τ (omega arith)),
         O .tails (back n i) (omega arith) (omega arith) (omega arith),
       ))
-
-  -- room: its weighted size
-  pub right-room : (i : ℕ) → i < n → size (g i) ≤ (B +ₙ D) -ₙ ω i
-  right-room i h = go (right-cases i h)
-    where
-      go : (size (g i) +ₙ degrees n (U .size) ≤ B +ₙ d i) ⊎ (g i ≡ 𝟘) → size (g i) ≤ (B +ₙ D) -ₙ ω i
-      go (inl y) = omega (arith, sizes-high i h)
-      go (inr y) = omega (arith, size-of-zero S (g i) y)

@@ -18,7 +18,7 @@ pub fn append(out: &mut [u8], at: usize, text: &[u8]) -> usize
 }
 
 // The number n in decimal.
-pub fn append_decimal(out: &mut [u8], at: usize, n: u64) -> usize
+fn append_decimal(out: &mut [u8], at: usize, n: u64) -> usize
     requires { ⌜ Room (decimal n) (now out) at ⌝ }
     ensures { λ r. ⌜ Appended (decimal n) (now (out .entry)) at (now (out .exit)) r ⌝ }
 {
@@ -28,7 +28,7 @@ pub fn append_decimal(out: &mut [u8], at: usize, n: u64) -> usize
 }
 
 // The number n as a part of a line, behind a space.
-pub fn append_number(out: &mut [u8], at: usize, n: u64) -> usize
+fn append_number(out: &mut [u8], at: usize, n: u64) -> usize
     requires { ⌜ Room (spaced (decimal n)) (now out) at ⌝ }
     ensures { λ r. ⌜ Appended (spaced (decimal n)) (now (out .entry)) at (now (out .exit)) r ⌝ }
 {

@@ -1,9 +1,9 @@
 -- The definition of the inverse as the equations that the code's loop follows.
-use mathlib.Core.Path.{_≡_, refl, sym, ap, _∙_}
-use Prim.Native.Nat.{ℕ, zero, suc, _-_, _*_, _/_, _%_, _≤_, _<_}
+use mathlib.Core.Path.{_≡_, sym, _∙_}
+use Prim.Native.Nat.{ℕ, _-_, _*_, _/_, _%_, _≤_, _<_}
 use native.Mathlib.Nat.{mul-assoc, mul-one, one-mul, le-div-iff-mul-le, mod-lt, mod-eq-of-lt}
 use native.Mathlib.Omega.{arith}
-use Rattle.modular.specs.Modulo.{inverseIn, inverse, modulo}
+use Rattle.modular.specs.Modulo.{inverse, modulo}
 use Rattle.residue.specs.Below.{inverse-below}
 use Rattle.modular.specs.Remainder.{mod-mul-mod, mul-mod-mod}
 use Rattle.modular.specs.Inverse.{inverse-small, inverse-step}

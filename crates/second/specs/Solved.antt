@@ -25,7 +25,7 @@ pub record HasTops (p : ℕ) (n : ℕ) (L : Level) : Type 0 where
   pub holds : HoldsSlots p prime n unweighted L slots
   pub tops : Tops (sized (residues p prime)) n bound 16 slots
 
--- it is laid out in memory, b being its right side
+-- the second system of some level, laid out in memory; b is its right side
 pub record HasLaid (p n : ℕ) (T : Level) (b : List ℕ) : Type 0 where
   pub of : Level
   pub valid : ValidLevel p of

@@ -103,7 +103,7 @@ pub fn solve_second(
     );
 }
 
-// Of a level of n rows, with coordinate h of its blocks for the right side.
+// Of a level of n rows, with row h of its blocks for the right side.
 pub fn solve_row(
     slots: &[u64],
     sizes: &[usize],

@@ -1,4 +1,4 @@
--- The second system of a level with coordinate h of its blocks for tails: its slots are those of the level itself, and its right
+-- The second system of a level with row h of its blocks for tails: its slots are those of the level itself, and its right
 -- side is laid out from the blocks.
 use Prim.Native.Nat.{ℕ, _+_, _-_, _*_, _/_, _%_, _<_, _≤_}
 use mathlib.Core.Path.{_≡_, refl, sym, _∙_, ap, ap₂, subst}
@@ -6,11 +6,11 @@ use mathlib.Core.List.{List}
 use native.Mathlib.Omega.{arith}
 use native.Mathlib.Decide.{decLt, decLe}
 use lib.ListN.{getD}
-use Rattle.vector.specs.Stored.{stored}
+use Rattle.vector.specs.Stored.{stored, stored-same}
 use Rattle.lattice.specs.Memory.{height}
 use Rattle.transposed.specs.Greatest.{greatest, greatest-small, greatest-same}
-use Rattle.transposed.specs.Words.{InRoom, when, when-yes, when-same, reversed, lift, blockWord, tailWord, transposedSize, transposedWord}
-use Rattle.transposed.specs.First.{stored-same}
+use Rattle.transposed.specs.Words.{InRoom, when, when-yes, when-same, reversed, lift, blockWord, tailWord}
+use Rattle.transposed.specs.Words.{transposedSize, transposedWord}
 use Rattle.transposed.specs.Spread.{Spread, spread-same}
 use Rattle.transposed.specs.RightFilling.{TailsEnd, Righting, righting-lane, righting-none}
 use Rattle.transposed.specs.WithRow.{rowSlots, rowSizes, row-block, row-tail, row-size, row-tail-size}

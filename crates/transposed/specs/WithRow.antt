@@ -1,4 +1,4 @@
--- A level with coordinate h of its blocks for tails: the second system where there is no solution is that of this level (section 2
+-- A level with row h of its blocks for tails: the second system where there is no solution is that of this level (section 2
 -- of docs/mathematics.md). It stands nowhere in memory.
 use Prim.Native.Nat.{ℕ, _+_, _-_, _*_, _/_, _%_, _<_, _≤_}
 use mathlib.Core.Path.{_≡_, refl, sym, _∙_, ap, ap₂, subst}
@@ -28,7 +28,7 @@ use Rattle.transposed.specs.Words.{either, either-yes, either-no, when, 
 use Rattle.transposed.specs.ValidTransposed.{when-below}
 use Rattle.transposed.specs.First.{stored-first}
 
--- coefficient e of coordinate h in the block of slot q, which has 16
+-- coefficient e of row h in the block of slot q, which has 16
 abbrev pub rowWord : List ℕ → (h q e : ℕ) → ℕ
 rowWord s h q e = when (decLt e 16) (blockWord s q h e)
 
@@ -70,7 +70,8 @@ module _ (h : ℕ) (s : List ℕ) (room : 2048 ≤ length s) where
 
   row-below : (p : ℕ) → ((i : ℕ) → getD s i 0 < p) → (i : ℕ) → getD (rowSlots h s) i 0 < p
   unfolding rowSlots
-  row-below p small = stored-all-first (λ i w. w < p) (rowedWord s h) s _ 2048 refl room (λ j lt. word j (decLt (j % 256) 128)) (λ i ge. small i)
+  row-below p small =
+      stored-all-first (λ i w. w < p) (rowedWord s h) s _ 2048 refl room (λ j lt. word j (decLt (j % 256) 128)) (λ i ge. small i)
     where
       word : (x : ℕ) (d : Dec (x % 256 < 128)) → either d (getD s x 0) (rowWord s h (x / 256) (x % 256 - 128)) < p
       word x (yes l) = subst (λ w. w < p) (sym (either-yes (yes l) (getD s x 0) (rowWord s h (x / 256) (x % 256 - 128)) l)) (small x)

@@ -65,7 +65,7 @@ pub fn lay_second(
     right_side(slots, sizes, n, top, right);
 }
 
-// The same of the level with coordinate h of its blocks for tails.
+// The same of the level with row h of its blocks for tails.
 pub fn lay_row(
     slots: &[u64],
     sizes: &[usize],

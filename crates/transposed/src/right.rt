@@ -42,7 +42,7 @@ pub fn right_side(slots: &[u64], sizes: &[usize], n: usize, top: usize, out: &mu
     }
 }
 
-// The right side of the level with coordinate h of its blocks for tails, into cleared memory.
+// The right side of the level with row h of its blocks for tails, into cleared memory.
 pub fn row_side(slots: &[u64], sizes: &[usize], n: usize, top: usize, h: usize, out: &mut [u64])
     requires { ⌜ InRoom (now slots) (now sizes) × TailsEnd (rowSlots h (now slots)) (rowSizes (now sizes)) × (n ≤ 8) × (h < 8)
         × (1088 ≤ length (now out)) × AtMost 0 (now out) ⌝ }

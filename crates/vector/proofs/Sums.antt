@@ -4,7 +4,7 @@ use mathlib.Core.List.{List}
 use Prim.Native.Nat.{ℕ, _+_, _*_, _≤_, _<_}
 use native.Mathlib.Nat.{add-zero, add-assoc}
 use native.Mathlib.Omega.{arith}
-use lib.ListN.{length, getD}
+use lib.ListN.{getD}
 use Rattle.row.specs.Sum.{sumAt, SumFits, SumsFit, each-fits}
 use Rattle.row.specs.Stored.{rowStored}
 use Rattle.vector.specs.Stored.{stored}

@@ -1,6 +1,6 @@
 -- A range of a list written anew: what the loops of this crate do to the words that they are lent. The contracts cite
 -- `stored`; `stored-inside`, `stored-outside` and `length-stored` say all of the list that a caller may ask.
-use mathlib.Core.Path.{_≡_, refl, sym, _∙_, ap, subst}
+use mathlib.Core.Path.{_≡_, refl, sym, _∙_, ap, ap₂, subst}
 use mathlib.Core.Logic.{_⊎_, inl, inr, ⊎-elim}
 use mathlib.Core.List.{List}
 use Prim.Native.Nat.{ℕ, zero, suc, _+_, _-_, _≤_, _<_}
@@ -85,3 +85,10 @@ unfolding stored
 stored-behind f g l d j zero e = rw add-zero
 stored-behind f g l d j (suc m) e =
     rw (add-suc, ← add-assoc, e m (omega arith), stored-behind f g l d j m (λ i lt. e i (omega arith)))
+
+-- equal words are the same memory
+pub stored-same : (f g : ℕ → ℕ) (l : List ℕ) (d n : ℕ) → ((i : ℕ) → i < n → f i ≡ g i) → stored f l d n ≡ stored g l d n
+unfolding stored
+stored-same f g l d zero same = refl
+stored-same f g l d (suc n) same =
+    ap₂ (λ w v. set w (d + n) v) (stored-same f g l d n (λ i h. same i (omega arith))) (same n (omega arith))

@@ -24,7 +24,7 @@ ghost use Rattle.conditions.specs.Answer.{verdictOutcome};
 ghost use Rattle.verifier.specs.BothRead.{BothRead};
 
 // 31 to 36, of a system and a certificate that were read.
-pub fn check_read(system: &[u32], certificate: &[u32], shape: Shape, form: Form) -> Verdict
+fn check_read(system: &[u32], certificate: &[u32], shape: Shape, form: Form) -> Verdict
     requires { ⌜ BothRead (shapeOf shape) (formOf form) (now system) (now certificate) ⌝ }
     ensures { λ r. ⌜ verdictOutcome r ≡ verdict office (now (system .entry)) (now (certificate .entry)) ⌝ }
 {

@@ -17,7 +17,7 @@ use Rattle.vector.specs.Bound.{at-most-stored}
 use Rattle.reduction.specs.Holds.{Holds}
 use Rattle.lattice.specs.Word.{residue, residue-minus, words, words-inside, words-behind}
 use Rattle.lattice.specs.Memory.{ZeroFrom}
-use Rattle.lattice.specs.Range.{words-same, words-zero, zero-word}
+use Rattle.lattice.specs.Range.{words-same, zero-word, words-shorter}
 
 -- words below p stored among words below p
 pub stored-below : (p : ℕ) (f : ℕ → ℕ) (l : List ℕ) (d m : ℕ) → 0 < p → ((j : ℕ) → j < m → f j < p) → ((i : ℕ) → getD l i 0 < p)
@@ -35,14 +35,7 @@ module _ (p : ℕ) (prime : Prime p) where
         zero-word p prime l b n j lt (sym (A .at j) ∙ coefficients-beyond (residues p prime) x j (omega arith))
 
     pub held-fewer : k ≤ n → ZeroFrom p l b n k → Holds (residues p prime) (words p prime l b k) x
-    held-fewer le zero = record { at = λ j. A .at j ∙ same j }
-      where
-        same : (j : ℕ) → words p prime l b n j ≡ words p prime l b k j
-        same j =
-            ⊎-elim
-            (λ lt. words-inside p prime l b n j (omega arith) ∙ sym (words-inside p prime l b k j lt))
-            (λ ge. words-zero p prime l b n k zero j ge ∙ sym (words-behind p prime l b k j ge))
-            (below-or-not j k)
+    held-fewer le zero = record { at = λ j. A .at j ∙ words-shorter p prime l b n k le zero j }
 
   -- m words of s from a on are copied to the place d of l: n of them, from b on, stand from c on
   module _ (s l : List ℕ) (a d m : ℕ) where

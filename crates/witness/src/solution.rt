@@ -41,7 +41,7 @@ pub fn find_denominator(
 }
 
 // d, w and the n rows of Z to their places in the output; those of the numerators, between d and w, stay as they are.
-pub fn store_solution(output: &mut [u64], n: usize, m: usize, d: &[u64], w: &[u64], rows: &[u64])
+fn store_solution(output: &mut [u64], n: usize, m: usize, d: &[u64], w: &[u64], rows: &[u64])
     requires { ⌜ (n ≤ 8) × (m ≤ 8) × (length (now output) ≡ 2304) ⌝ }
     requires parts { ⌜ (length (now d) ≡ 128) × (length (now w) ≡ 128) × (length (now rows) ≡ 1024) ⌝ }
     ensures { λ _. ⌜ now (output .exit)

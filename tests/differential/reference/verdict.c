@@ -84,7 +84,7 @@ struct refusal check_files(const struct file *system, const struct file *certifi
     static struct system s;
     static struct certificate c;
     struct refusal r = read_system(&s, system);
-    if (r.number != 10 && !holds_words(certificate))
+    if (!holds_words(certificate))
         return refused(10, 0);
     if (r.number == 0)
         r = read_certificate(&c, &s, certificate);

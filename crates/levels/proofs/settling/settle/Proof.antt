@@ -1,5 +1,4 @@
 -- `settle` meets its contract: the two cases are laws of `Settled`.
-use Prim.Native.Nat.{_-_}
 use native.Mathlib.Omega.{arith}
 use borrow.Author.Needs.{needs}
 use Rattle.residue.specs.Modulus.{ValidModulus}

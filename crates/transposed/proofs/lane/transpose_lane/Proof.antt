@@ -1,6 +1,5 @@
 -- One call, and the words by their places in the block.
 use mathlib.Core.Path.{refl, ap}
-use Prim.Native.Nat.{_-_}
 use native.Mathlib.Omega.{arith}
 use lib.ListN.{getD}
 use Rattle.transposed.specs.Words.{blockWord}
