@@ -8,7 +8,7 @@ use native.Mathlib.Decide.{decLt}
 use lib.ListN.{length, getD}
 use Rattle.loader.specs.Slot.{slot}
 use Rattle.reduction.specs.Flat.{flat}
-use Rattle.columns.specs.Lane.{lane, length-lane, lane-inside, lane-outside}
+use Rattle.lattice.specs.LaneStored.{lane, length-lane, lane-inside, lane-outside}
 
 -- slot k lies in the area, and the number of its coefficients fits it
 pub record FitsSlot (area : List ℕ) (k : ℕ) : Type 0 where

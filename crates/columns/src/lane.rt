@@ -2,7 +2,7 @@
 ghost use mathlib.Core.Path.{_≡_};
 ghost use Prim.Native.Nat.{_+_, _<_};
 ghost use lib.ListN.{length, getD};
-ghost use Rattle.columns.specs.Lane.{lane};
+ghost use Rattle.lattice.specs.LaneStored.{lane};
 
 // Coefficient e of f, 0 behind its last.
 pub fn coefficient(f: &[u64], e: usize) -> u64

@@ -4,6 +4,7 @@ pub mod Memory
 pub mod Holding
 -- laws: ranges of words, and what is read off memory
 pub mod Range
+pub mod LaneStored
 pub mod Sums
 pub mod Found
 pub mod Reading

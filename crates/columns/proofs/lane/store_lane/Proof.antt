@@ -4,7 +4,7 @@ use mathlib.Core.Path.{_≡_, refl, _∙_, ap}
 use native.Mathlib.Omega.{arith}
 use borrow.Author.Needs.{needs}
 use lib.ListN.{length, getD}
-use Rattle.columns.specs.Lane.{lane, length-lane, lane-none, lane-more}
+use Rattle.lattice.specs.LaneStored.{lane, length-lane, lane-none, lane-more}
 use Rattle.columns.proofs.lane.store_lane.Statement.{statement}
 use Rattle.columns.proofs.lane.store_lane.Tie as tie
 

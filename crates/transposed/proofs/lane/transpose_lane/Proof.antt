@@ -1,9 +1,9 @@
 -- One call, and the words by their places in the block.
-use mathlib.Core.Path.{refl, ap}
+use mathlib.Core.Path.{ap, _∙_}
 use native.Mathlib.Omega.{arith}
 use lib.ListN.{getD}
 use Rattle.transposed.specs.Words.{blockWord}
-use Rattle.transposed.specs.Spread.{spread-same}
+use Rattle.lattice.specs.LaneStored.{lane-same}
 use borrow.Author.Needs.{needs}
 use Rattle.transposed.proofs.lane.transpose_lane.Statement.{statement}
 use Rattle.transposed.proofs.lane.transpose_lane.Tie as tie
@@ -47,8 +47,9 @@ same-length c = search needs
 returns : tie.Need-returns
 returns c =
     let S = c .before .before .before .before .before .before .before .before in
-    spread-same (c .before .before .copy-lane .ensures) (λ e. blockWord (S .args .slots .now) (S .args .q) (S .args .r) e)
-    (λ e lt. ap (λ x. getD (S .args .slots .now) x 0) (omega arith)) refl refl
+    c .before .before .copy-lane .ensures
+    ∙ lane-same _ (λ e. blockWord (S .args .slots .now) (S .args .q) (S .args .r) e) _ _ _
+    (λ e lt. ap (λ x. getD (S .args .slots .now) x 0) (omega arith))
 
 pub transpose-lane-spec : {M : Type 1} → statement M
 transpose-lane-spec =

@@ -5,7 +5,7 @@ use native.Mathlib.Omega.{arith}
 use lib.ListN.{getD}
 use Rattle.transposed.specs.Greatest.{greatest-high, greatest-small}
 use Rattle.transposed.specs.Words.{reversed, tailWord}
-use Rattle.transposed.specs.Spread.{spread-same}
+use Rattle.transposed.specs.Spread.{lane-spread, spread-same}
 use Rattle.transposed.specs.RightFilling.{righting-empty, righting-lane}
 use borrow.Author.Needs.{needs}
 use Rattle.transposed.proofs.right.right_lane.Statement.{statement}
@@ -88,11 +88,14 @@ returns-2 : tie.Need-returns-2
 returns-2 c =
     let S = c .before .before .before .before .before .before .before .before .before .before .before in
     let q = S .args .n - 1 - S .args .i in
+    let short = S .pre .0 .1 .short q (omega arith) in
+    let small = greatest-small (S .args .sizes .now) (S .args .n) (S .pre .0 .2) (S .pre .0 .0 .low) in
     let some : 0 < getD (S .args .sizes .now) (reversed (S .args .n) (S .args .i)) 0 = omega arith in
     righting-lane (S .args .slots .now) (S .args .sizes .now) (S .args .n) (S .args .i) (S .pre .0 .3) some (S .pre .0 .2)
-    (greatest-small (S .args .sizes .now) (S .args .n) (S .pre .0 .2) (S .pre .0 .0 .low)) (S .pre .0 .1 .short q (omega arith))
+    small short
     (λ j ge lt. S .pre .0 .1 .zero q j (omega arith) ge lt) (S .pre .1 .1) (S .pre .1 .0)
-    (spread-same (c .before .before .copy-lane .ensures) (λ e. tailWord (S .args .slots .now) q e)
+    (spread-same (lane-spread (omega (arith, short, small, some, S .pre .1 .0, S .pre .1 .1 .room)) (c .before .before .copy-lane .ensures))
+    (λ e. tailWord (S .args .slots .now) q e)
     (λ e lt. ap (λ x. getD (S .args .slots .now) x 0) (omega arith)) refl refl)
 
 pub right-lane-spec : {M : Type 1} → statement M

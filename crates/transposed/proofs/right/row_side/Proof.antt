@@ -3,6 +3,7 @@ use mathlib.Core.Path.{refl}
 use Prim.Native.Nat.{_-_, _≤_}
 use native.Mathlib.Omega.{arith}
 use lib.ListN.{length}
+use Rattle.transposed.specs.Spread.{lane-spread}
 use Rattle.transposed.specs.Greatest.{greatest-high, greatest-small}
 use Rattle.transposed.specs.Filling.{filling-same}
 use Rattle.transposed.specs.RightFilling.{Righting, righting-start, righting-end}
@@ -55,10 +56,12 @@ loop-less c = omega arith
 loop-again : tie.Need-loop-again Inv-loop μ-loop
 loop-again c =
     let L = c .before .before .before .before .before in
-    let S = L .before .before .before .before in (
+    let S = L .before .before .before .before in
+    let top = greatest-small (S .args .sizes .now) (S .args .n) (S .pre .0 .2) (S .pre .0 .0 .low) in
+    let high = greatest-high (S .args .sizes .now) (S .args .n) (S .args .n - 1 - L .loop .i) (omega arith) in (
       omega arith,
       righting-row (S .args .h) (S .pre .0 .0) (S .pre .0 .2) (S .pre .0 .1) (L .loop .i) (omega arith) (L .loop .inv .1)
-          (S .pre .1) (c .before .before .transpose-lane .ensures),
+          (S .pre .1) (lane-spread (omega (arith, top, high, S .pre .1, L .loop .inv .1 .same-length)) (c .before .before .transpose-lane .ensures)),
     )
 
 same-length : tie.Need-same-length Inv-loop μ-loop

@@ -3,6 +3,7 @@ use mathlib.Core.Path.{refl}
 use Prim.Native.Nat.{_+_, _-_, _*_, _<_, _≤_}
 use native.Mathlib.Omega.{arith}
 use lib.ListN.{length, getD}
+use Rattle.transposed.specs.Spread.{lane-spread}
 use Rattle.transposed.specs.Greatest.{greatest-high, greatest-small}
 use Rattle.transposed.specs.Words.{reversed}
 use Rattle.transposed.specs.Filling.{filling-same}
@@ -82,11 +83,14 @@ loop-again : tie.Need-loop-again Inv-loop μ-loop
 loop-again c =
     let L = c .before .before .before .before .before in
     let S = L .before .before .before .before .before .before in
-    let some : 0 < getD (S .args .sizes .now) (reversed (S .args .n) (S .args .k)) 0 = omega arith in (
+    let some : 0 < getD (S .args .sizes .now) (reversed (S .args .n) (S .args .k)) 0 = omega arith in
+    let top = greatest-small (S .args .sizes .now) (S .args .n) (S .pre .0 .1) (S .pre .0 .0 .low) in
+    let high = greatest-high (S .args .sizes .now) (S .args .n) (S .args .n - 1 - L .loop .i) (omega arith) in (
       omega arith,
       transposing-lane (S .args .slots .now) (S .args .sizes .now) (S .args .n) (S .args .k) (S .pre .0 .2) some (S .pre .0 .1)
-          (greatest-small (S .args .sizes .now) (S .args .n) (S .pre .0 .1) (S .pre .0 .0 .low)) (L .loop .i) (omega arith) (L .loop .inv .1)
-          (S .pre .1 .0) (c .before .before .transpose-lane .ensures),
+          top (L .loop .i) (omega arith) (L .loop .inv .1) (S .pre .1 .0)
+          (lane-spread (omega (arith, top, high, S .pre .1 .0, L .loop .inv .1 .room, L .loop .inv .1 .same-length))
+          (c .before .before .transpose-lane .ensures)),
     )
 
 same-length : tie.Need-same-length Inv-loop μ-loop

@@ -1,6 +1,6 @@
--- Numbers stored 8 words apart, from one place on.
+-- Numbers stored into one lane of a flat block: 8 words apart, from one place on.
 use Prim.Native.Nat.{ℕ, zero, suc, _+_, _*_, _<_}
-use mathlib.Core.Path.{_≡_, refl, _∙_}
+use mathlib.Core.Path.{_≡_, refl, _∙_, ap₂}
 use mathlib.Core.Logic.{⊎-elim}
 use mathlib.Core.List.{List}
 use native.Mathlib.Nat.{eq-or-lt-of-le, le-of-suc-le-suc, not-suc-le-zero}
@@ -43,3 +43,10 @@ module _ (f : ℕ → ℕ) (l : List ℕ) (d : ℕ) where
   pub lane-more : (n : ℕ) (w : List ℕ) (v : ℕ) → w ≡ lane f l d n → v ≡ f n → set w (d + 8 * n) v ≡ lane f l d (n + 1)
   unfolding lane
   lane-more n w v e ev = rw (add-one, e, ev)
+
+-- equal numbers are the same memory
+pub lane-same : (f g : ℕ → ℕ) (l : List ℕ) (d n : ℕ) → ((e : ℕ) → e < n → f e ≡ g e) → lane f l d n ≡ lane g l d n
+unfolding lane
+lane-same f g l d zero same = refl
+lane-same f g l d (suc n) same =
+    ap₂ (λ w v. set w (d + 8 * n) v) (lane-same f g l d n (λ e h. same e (omega arith))) (same n (omega arith))
