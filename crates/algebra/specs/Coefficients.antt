@@ -114,3 +114,7 @@ module _ {A : Type 0} (o : Operations A) where
   unfoldable pub gcd : List A → List A → List A
   unfolding euclid monic
   gcd f g = monic (euclid (length g) f g)
+
+  -- and the least common multiple
+  abbrev pub lcm : List A → List A → List A
+  lcm f g = mul (quotient f (gcd f g)) g

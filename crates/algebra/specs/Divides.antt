@@ -1,9 +1,10 @@
 -- Divisibility in a commutative ring, and in one with a size.
-use Prim.Native.Nat.{zero, _≤_}
+use Prim.Native.Nat.{ℕ, zero, suc, _<_, _≤_}
 use mathlib.Core.Path.{_≡_, refl, sym, _∙_, ap, ap₂}
 use mathlib.Core.List.{[], _∷_}
 use native.Mathlib.Omega.{arith}
 use Rattle.ring.specs.Ring.{Ring, mul-zero, one-mul}
+use Rattle.ring.specs.Sum.{sum}
 use Rattle.ring.specs.Identity.{quotes, identity}
 use Rattle.algebra.specs.Sized.{Sized, size-positive, size-mul-nonzero, mul-nonzero-left, mul-nonzero-right, mul-cancel}
 
@@ -61,6 +62,19 @@ module _ {A : Type 0} {R : Ring A} where
 
   pub divides-combination : {d x y : A} (a b : A) → Divides R d x → Divides R d y → Divides R d (a * x + b * y)
   divides-combination a b h k = divides-add (divides-mul a h) (divides-mul b k)
+
+  pub divides-sum : {d : A} (n : ℕ) (f : ℕ → A) → ((i : ℕ) → i < n → Divides R d (f i)) → Divides R d (sum R n f)
+  unfolding sum
+  divides-sum {d} zero f h = divides-zero d
+  divides-sum (suc n) f h = divides-add (divides-sum n f (λ i l. h i (omega arith))) (h n (omega arith))
+
+  -- products
+  pub divides-products : {d e x y : A} → Divides R d x → Divides R e y → Divides R (d * e) (x * y)
+  divides-products {d} {e} h k = record {
+    cofactor = h .cofactor * k .cofactor;
+    product = ap₂ _*_ (h .product) (k .product)
+        ∙ identity R (d ∷ e ∷ h .cofactor ∷ k .cofactor ∷ []) (λ ρ qd qe qh qk. search quotes depth 16) refl;
+  }
 
   pub mul-divides-mul : {d x : A} (c : A) → Divides R d x → Divides R (c * d) (c * x)
   mul-divides-mul {d} c h = record {

@@ -23,3 +23,4 @@ pub mod Monic
 pub mod Bezout
 pub mod Gcd
 pub mod Coprime
+pub mod Lcm

@@ -6,12 +6,15 @@ use mathlib.Core.List.{List}
 use lib.ListN.{length, getD}
 use Rattle.algebra.specs.Polynomial.{Polynomial}
 use Rattle.algebra.specs.Size.{sized}
+use Rattle.algebra.specs.Monic.{Monic}
 use Rattle.modular.specs.Prime.{Prime}
 use Rattle.modular.specs.Residue.{residues}
 use Rattle.reduction.specs.System.{System}
 use Rattle.reduction.specs.Holds.{Holds}
 use Rattle.reduction.specs.Polynomials.{euclidean}
 use Rattle.reduction.specs.Certificate.{RightSolution, SmallSolution, RightAbsence, SmallAbsence}
+use Rattle.reduction.specs.Numerators.{ReducedNumerators}
+use Rattle.reduction.specs.Killing.{Killing}
 use Rattle.lattice.specs.Word.{words}
 
 -- room for 18 polynomials
@@ -37,6 +40,7 @@ module _ (p : ℕ) (prime : Prime p) where
       pub Z : ℕ → Polynomial (residues p prime)
       pub right : RightSolution (euclidean (residues p prime)) T d N w Z
       pub small : SmallSolution (euclidean (residues p prime)) T 121 d N w Z
+      pub reduced : ReducedNumerators (sized (residues p prime)) (T .rows) (T .columns) (T .matrix) N
       pub holds-d : HoldsAt output 0 d
       pub holds-N : (j : ℕ) → j < T .columns → HoldsAt output (1 + j) (N j)
       pub holds-w : HoldsAt output (1 + T .columns) w
@@ -47,6 +51,8 @@ module _ (p : ℕ) (prime : Prime p) where
       pub q : ℕ → Polynomial (residues p prime)
       pub right : RightAbsence (euclidean (residues p prime)) T q
       pub small : SmallAbsence (euclidean (residues p prime)) T 121 q
+      pub killing : Killing (sized (residues p prime)) (T .rows) (T .columns) (T .matrix) (T .right) q
+      pub monic : Monic (residues p prime) (q (killing .at))
       pub holds-q : (i : ℕ) → i < T .rows → HoldsAt output i (q i)
 
     -- whether there is a solution

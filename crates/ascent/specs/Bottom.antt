@@ -11,6 +11,7 @@ use Rattle.reduction.specs.Total.{rank-le}
 use Rattle.reduction.specs.Polynomials.{euclidean}
 use Rattle.reduction.specs.Certificate.{small-solution-le}
 use Rattle.reduction.specs.Descent.{descent-end}
+use Rattle.reduction.specs.Reduced.{descent-reduced}
 use Rattle.lattice.specs.Memory.{Level}
 use Rattle.areas.specs.Input.{Equations, systemOf}
 use Rattle.areas.specs.Output.{HoldsSolution, HoldsCertificate}
@@ -30,6 +31,8 @@ module _ {p n m : ℕ} (few : n ≤ 8) {input : List ℕ} {L : Level} (quotients
           (λ k. polynomials (residues p prime) .mul (D .d) (X .right k)) (D .vector) (D .N) (D .descent));
       small = small-solution-le (euclidean (residues p prime)) (systemOf p prime n m X)
           (omega (arith, rank-le n (D .level m .size))) (D .unfinished .small (D .N) (λ j h. D .descent .small j (omega arith) h));
+      reduced = descent-reduced (systemOf p prime n m X) (D .level) (D .kernel) (D .levels)
+          (λ k. polynomials (residues p prime) .mul (D .d) (X .right k)) (D .vector) (D .N) (D .descent);
       holds-d = D .holds-d;
       holds-N = λ j h. D .holds-N j (omega arith) h;
       holds-w = D .holds-w;

@@ -1,11 +1,10 @@
 -- Demand 3, its last sentence, on files: the check accepts the file that the solver gives for the same system's file.
-use Prim.Native.Nat.{ℕ, _*_, _%_, _≤_}
+use Prim.Native.Nat.{ℕ, _*_, _≤_}
 use mathlib.Core.Path.{_≡_, refl, ap, _∙_, subst}
-use mathlib.Core.Bool.{false, _||_}
+use mathlib.Core.Bool.{_||_}
 use mathlib.Core.List.{List}
-use native.Mathlib.Omega.{arith}
 use lib.ListN.{length, take}
-use borrow.Author.Tests.{eq-eqb, le-ltb}
+use borrow.Author.Tests.{le-ltb}
 use Rattle.words.specs.Limits.{Limits, longestCertificate}
 use Rattle.words.specs.LimitsLaws.{LimitsFit}
 use Rattle.words.specs.Outcome.{Outcome, refuse}
@@ -14,19 +13,14 @@ use Rattle.words.specs.OutcomeLaws.{refuse-passed}
 use Rattle.words.specs.System.{System, SystemWithin, systemWords, readSystem}
 use Rattle.words.specs.SystemLaws.{system-written-of-read}
 use Rattle.words.specs.Bytes.{wordsOf, bytesOf, broken, tooLong, readSystemFile}
-use Rattle.words.specs.BytesLaws.{length-bytesOf, wordsOf-bytesOf, file-read-of-written}
+use Rattle.words.specs.BytesLaws.{wordsOf-bytesOf, file-read-of-written}
 use Rattle.words.specs.Certificate.{Certificate, certificateWords}
 use Rattle.truth.specs.Verdict.{verdict}
 use Rattle.truth.specs.Accepted.{accepted-of-words}
 use Rattle.verifier.specs.File.{fileVerdict}
+use Rattle.verifier.specs.Checked.{whole-words}
 use Rattle.solver.specs.Solving.{withRoom, fileToSolve, certificateBytes, Gives, SolvesOr, SolvesFile}
 use Rattle.solver.specs.SolvingLaws.{gives-words, solved-gives}
-
-words-whole : (ws : List ℕ) → broken (bytesOf ws) ≡ false
-words-whole ws =
-    let n = length-bytesOf ws in
-    let whole : length (bytesOf ws) % 4 ≡ 0 = omega arith in
-    simp (eq-eqb _ _ whole)
 
 bytes-are : (c : Certificate) → certificateBytes c ≡ bytesOf (certificateWords c)
 unfolding certificateBytes
@@ -44,7 +38,7 @@ module _ (limits : Limits) (fit : LimitsFit limits) (file entry exit : List ℕ)
       let bytes : take count exit ≡ bytesOf ws = gives-words G ∙ bytes-are (G .certificate) in
       let told-of = verdict limits (wordsOf file) (wordsOf (take count exit)) in
       ap (λ b. refuse (b || broken (take count exit)) 10 0 told-of) (ten .0)
-      ∙ ap (λ b. refuse b 10 0 told-of) (ap broken bytes ∙ words-whole ws)
+      ∙ ap (λ b. refuse b 10 0 told-of) (ap broken bytes ∙ whole-words ws)
       ∙ accepted-of-words limits fit (wordsOf file) (wordsOf (take count exit)) (record {
         system = s;
         certificate = G .certificate;

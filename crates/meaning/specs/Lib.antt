@@ -8,3 +8,5 @@ pub mod RightLists
 pub mod TakenRight
 pub mod Answers
 pub mod Existence
+pub mod Chosen
+pub mod TakenChosen

@@ -21,5 +21,6 @@ pub mod SizeLaws
 pub mod DivisionLaws
 pub mod MonicLaws
 pub mod GcdLaws
+pub mod LcmLaws
 pub mod Lists
 pub mod Examples

@@ -1,8 +1,8 @@
 -- L9, the certificate of absence is right: b was inserted into the last level U and got stuck at the empty slot h. The second
 -- system is that of the last level, with coordinate h of the blocks for its right side.
-use Prim.Native.Nat.{ℕ, suc, _<_, _≤_}
+use Prim.Native.Nat.{ℕ, zero, suc, _<_, _≤_}
 use Prim.Native.Nat.{_*_ as _*ₙ_}
-use mathlib.Core.Path.{_≡_, refl, sym, _∙_, ap, ap₂, subst₂}
+use mathlib.Core.Path.{_≡_, refl, sym, _∙_, ap, ap₂, subst, subst₂}
 use mathlib.Core.List.{[], _∷_}
 use native.Mathlib.Omega.{arith}
 use native.Mathlib.Decide.{ℕ-discrete}
@@ -10,22 +10,25 @@ use Rattle.ring.specs.Ring.{Ring, mul-zero, neg-zero}
 use Rattle.ring.specs.Sum.{sum, sum-ext, sum-neg, sum-change, sum-add, sum-mul}
 use Rattle.ring.specs.Identity.{quotes, identity}
 use Rattle.ring.specs.Combination.{given, combination}
-use Rattle.algebra.specs.Sized.{Sized, positive-nonzero}
+use Rattle.algebra.specs.Sized.{Sized, positive-nonzero, mul-cancel}
+use Rattle.algebra.specs.Divides.{Divides}
 use Rattle.reduction.specs.Total.{rank, degrees}
 use Rattle.reduction.specs.Replace.{replace, replace-here, replace-other, replace-elim, extend, extend-below, extend-at}
 use Rattle.reduction.specs.Pivot.{Pivot}
 use Rattle.reduction.specs.Slots.{Slots, Filled, unweighted, put, put-same, filled-but, tailed, filled-tailed}
 use Rattle.reduction.specs.Span.{InSpan, InSpanWith, span-slot, span-killed, with-hand, with-none}
+use Rattle.reduction.specs.Independence.{span-pivot}
 use Rattle.reduction.specs.Row.{row-zero}
 use Rattle.reduction.specs.Euclidean.{Euclidean}
 use Rattle.reduction.specs.Trace.{State}
 use Rattle.reduction.specs.Insert.{Stuck}
-use Rattle.reduction.specs.Inserting.{Inserting, kept, inserting-blocks}
+use Rattle.reduction.specs.Inserting.{Inserting, kept, inserting-blocks, inserting-hand}
 use Rattle.reduction.specs.System.{System}
-use Rattle.reduction.specs.Levels.{Level}
+use Rattle.reduction.specs.Levels.{Columns, Level, level-spans}
 use Rattle.reduction.specs.Dual.{Dual}
 use Rattle.reduction.specs.Transpose.{Tops}
 use Rattle.reduction.specs.Certificate.{RightAbsence, SmallAbsence}
+use Rattle.reduction.specs.Killing.{PivotOf, Killing}
 
 -- the certificate: w at h, minus Y elsewhere
 abbrev pub absence : {A : Type 0} → Ring A → ℕ → A → (ℕ → A) → ℕ → A
@@ -156,3 +159,107 @@ module _ {A : Type 0} {R : Ring A} {S : Sized R} (E : Euclidean S) (T : System S
       absence-sizes i l = replace-elim (λ i x. i < n → size x ≤ suc (rank n (U .size) *ₙ δ)) (λ k. - Y k) h w
           (λ _. omega (arith, Q .small, L .degrees-le)) i
           (λ ne l. size-neg (suc (rank n (U .size) *ₙ δ)) (Y i) (omega (arith, Q .row-small i l, L .degrees-le))) l
+
+      -- it is the only one of its kind
+      added : ¬ PivotOf S n m M b h
+      added X = absurd (omega (
+        arith,
+        none,
+        span-pivot (L .filled) (omega arith) (level-spans T L (record { parts = X .parts; equal = X .equal })) (X .pivot) .0,
+      ))
+
+      support : (i : ℕ) → i < n → ¬ (i ≡ h) → ¬ (q₀ i ≡ 𝟘) → PivotOf S n m M b i
+      support i l ne nz = record {
+        vector = U .at i;
+        parts = C .parts;
+        equal = C .equal;
+        length = U .size i;
+        pivot = L .filled i l f;
+      }
+        where
+          go : Dec (U .size i ≡ 0) → 0 < U .size i
+          go (yes e) = absurd (nz (replace-other (λ k. - Y k) h w i ne ∙ ap -_ (Q .empty i l e) ∙ neg-zero R))
+          go (no e) = omega arith
+
+          f : 0 < U .size i
+          f = go (ℕ-discrete (U .size i) 0)
+
+          C : Columns T m (U .at i)
+          C = L .within (U .at i) (span-slot R U i l f)
+
+      module _ (c : A) (y : ℕ → A) (terms : (i : ℕ) → i < n → c * q₀ i ≡ y i * q₀ h) where
+        -- the row y, with its sign changed and without its entry at h
+        y′ : ℕ → A
+        y′ = replace (λ k. - y k) h 𝟘
+
+        w-nonzero : ¬ (q₀ h ≡ 𝟘)
+        w-nonzero e = Q .nonzero (sym (replace-here (λ k. - Y k) h w) ∙ e)
+
+        y-at : y h ≡ c
+        y-at = mul-cancel S (q₀ h) (y h) c w-nonzero (combination R (q₀ h * y h) (q₀ h * c) (given (- 𝟙) (terms h (P .inside)) ∷ [])
+            (identity R (q₀ h ∷ y h ∷ c ∷ []) (λ ρ q1 q2 q3. search quotes depth 16) refl))
+
+        y-empty : (k : ℕ) → k < n → U .size k ≡ 0 → y′ k ≡ 𝟘
+        unfolding y′
+        y-empty k l e = replace-elim (λ i x. i < n → U .size i ≡ 0 → x ≡ 𝟘) (λ k. - y k) h 𝟘 (λ l e. refl) k
+            (λ ne l e. ap -_ (mul-cancel S (q₀ h) (y k) 𝟘 w-nonzero (combination R (q₀ h * y k) (q₀ h * 𝟘)
+            (given (- 𝟙) (terms k l) ∷ given c (replace-other (λ k. - Y k) h w k ne ∙ ap -_ (Q .empty k l e) ∙ neg-zero R) ∷ [])
+            (identity R (q₀ h ∷ y k ∷ c ∷ q₀ k ∷ []) (λ ρ q1 q2 q3 q4. search quotes depth 16) refl))) ∙ neg-zero R) l e
+
+        -- on any vector
+        y-kills : (x : ℕ → A) → InSpan R n n U x → sum R n (λ i. y i * x i) ≡ 𝟘
+        y-kills x s = mul-cancel S (q₀ h) (sum R n (λ i. y i * x i)) 𝟘 w-nonzero
+            (sym (sum-mul R n (q₀ h) (λ i. y i * x i))
+            ∙ sum-ext R n (λ i. q₀ h * (y i * x i)) (λ i. c * (q₀ i * x i)) (λ i l. combination R (q₀ h * (y i * x i)) (c * (q₀ i * x i))
+            (given (- x i) (terms i l) ∷ []) (identity R (q₀ h ∷ y i ∷ x i ∷ c ∷ q₀ i ∷ []) (λ ρ q1 q2 q3 q4 q5. search quotes depth 16) refl))
+            ∙ sum-mul R n c (λ i. q₀ i * x i) ∙ ap (λ v. c * v) (kills x s) ∙ mul-zero R c ∙ sym (mul-zero R (q₀ h)))
+
+        y-row : (x : ℕ → A) → InSpan R n n U x → sum R n (λ i. y′ i * x i) ≡ c * x h
+        unfolding y′
+        y-row x s = combination R (sum R n (λ i. y′ i * x i)) (c * x h)
+            (given 𝟙 changed ∷ given 𝟙 minus ∷ given (- 𝟙) (y-kills x s) ∷ given (x h) (replace-here (λ k. - y k) h 𝟘) ∷ given (x h) y-at ∷ [])
+            (identity R (sum R n (λ i. y′ i * x i) ∷ c ∷ x h ∷ sum R n (λ i. (- y i) * x i) ∷ sum R n (λ i. y i * x i) ∷ y′ h ∷ y h ∷ [])
+            (λ ρ q1 q2 q3 q4 q5 q6 q7. search quotes depth 20) refl)
+          where
+            changed : sum R n (λ i. y′ i * x i) + (- y h) * x h ≡ sum R n (λ i. (- y i) * x i) + y′ h * x h
+            changed = sum-change R n h (λ i. y′ i * x i) (λ i. (- y i) * x i) (P .inside)
+                (λ i l ne. ap (λ v. v * x i) (replace-other (λ k. - y k) h 𝟘 i ne))
+
+            minus : sum R n (λ i. (- y i) * x i) ≡ - sum R n (λ i. y i * x i)
+            minus =
+                sum-ext R n (λ i. (- y i) * x i) (λ i. - (y i * x i))
+                (λ i l. identity R (y i ∷ x i ∷ []) (λ ρ q1 q2. search quotes depth 16) refl)
+                ∙ sum-neg R n (λ i. y i * x i)
+
+        lowest : Divides R w c
+        lowest = Q .least c y′ y-empty (λ i l f.
+            sum-ext R n (λ k. y′ k * extend n (U .at i) (U .at i h) k) (λ k. y′ k * U .at i k)
+            (λ k g. ap (λ v. y′ k * v) (extend-below n (U .at i) (U .at i h) k g))
+            ∙ y-row (U .at i) (span-slot R U i l f)
+            ∙ ap (λ v. c * v) (sym (extend-at n (U .at i) (U .at i h))))
+
+      pub absence-killing : Killing S n m M b (absence R (K .at) w Y)
+      absence-killing = record {
+        kills = λ j l. kills (λ i. M i j) (L .spanned j l);
+        at = h;
+        vector = t .hand;
+        spanned = record {
+          parts = C .parts;
+          part = t .hand n;
+          equal = λ k l. combination R (t .hand k) (sum R m (λ j. M k j * C .parts j) + t .hand n * b k) (given 𝟙 (C .equal k l) ∷ [])
+              (identity R (t .hand k ∷ sum R m (λ j. M k j * C .parts j) ∷ t .hand n ∷ b k ∷ []) (λ ρ q1 q2 q3 q4. search quotes depth 16) refl);
+        };
+        length = t .size;
+        pivot = P;
+        added = added;
+        support = support;
+        nonzero = λ e. Q .nonzero (sym (replace-here (λ k. - Y k) h w) ∙ e);
+        lowest = λ c y e. subst (λ x. Divides R x c) (sym (replace-here (λ k. - Y k) h w)) (lowest c y e);
+      }
+        where
+          C : Columns T m (λ k. t .hand k + (- (t .hand n * b k)))
+          C = L .within (λ k. t .hand k + (- (t .hand n * b k))) (inserting-hand (L .filled) X)
+
+      pub absence-at : absence R (K .at) w Y (absence-killing .at) ≡ w
+      unfolding absence-killing
+      absence-at = replace-here (λ k. - Y k) h w

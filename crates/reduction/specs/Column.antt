@@ -9,6 +9,7 @@ use native.Mathlib.Omega.{arith}
 use Rattle.ring.specs.Ring.{Ring}
 use Rattle.ring.specs.Identity.{quotes, identity}
 use Rattle.algebra.specs.Sized.{Sized, size-positive}
+use Rattle.algebra.specs.Divides.{divides-refl, divides-equal, divides-trans}
 use Rattle.reduction.specs.Total.{degrees, rank-ext, degrees-ext, rank-change, degrees-change}
 use Rattle.reduction.specs.Replace.{extend, extend-below}
 use Rattle.reduction.specs.Pivot.{Vanishes, Pivot, pivot-ext}
@@ -19,6 +20,7 @@ use Rattle.reduction.specs.Trace.{State}
 use Rattle.reduction.specs.Kept.{tail-nonzero}
 use Rattle.reduction.specs.Insert.{Stuck}
 use Rattle.reduction.specs.Inserting.{Inserting, kept, inserting-old, inserting-new, inserting-blocks}
+use Rattle.reduction.specs.Least.{inserting-least, inserting-none}
 use Rattle.reduction.specs.Link.{Link}
 
 module _ {A : Type 0} {R : Ring A} (S : Sized R) (n δ : ℕ) where
@@ -113,6 +115,7 @@ module _ {A : Type 0} {R : Ring A} (S : Sized R) (n δ : ℕ) where
           tails = tails-put R (kept full X .tails) p (P .inside) positive (U′ .size) (λ q. U′ .at q n) put-size
               (put n (omega arith)) sizes (λ q h ne f. sym (others .vectors q n h ne f (omega arith))) (K .empty);
         };
+        least = λ κ s. divides-equal (sym (inserting-none full X κ s K)) (divides-refl 𝟘);
       }
 
     -- block zero: the kernel is the hand's tail
@@ -150,6 +153,7 @@ module _ {A : Type 0} {R : Ring A} (S : Sized R) (n δ : ℕ) where
             degrees-ext n (t .slots .size) (U′ .size) (e .sizes),
           );
         };
+        least = λ κ s. divides-trans (divides-equal ek (divides-refl kernel)) (inserting-least full X κ s z);
       }
         where
           nonzero : 0 < size kernel

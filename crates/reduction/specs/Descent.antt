@@ -1,7 +1,7 @@
 -- L6, the way down: from a vector f of the span of the last level, one column after another, to its coordinates N with A·N = f.
 use Prim.Native.Nat.{ℕ, zero, suc, _<_, _≤_}
 use Prim.Native.Nat.{_+_ as _+ₙ_, _*_ as _*ₙ_}
-use mathlib.Core.Path.{_≡_, refl, sym, _∙_, ap}
+use mathlib.Core.Path.{_≡_, refl, sym, _∙_, ap, subst}
 use mathlib.Core.Logic.{ite, if-pos, if-neg}
 use mathlib.Core.List.{[], _∷_}
 use native.Mathlib.Omega.{arith}
@@ -51,6 +51,7 @@ module _ {A : Type 0} {R : Ring A} {S : Sized R} (T : System S) (level : ℕ →
     pub surplus-equal : surplus +ₙ rank n (level j .size) *ₙ δ ≡ rank n (level m .size) *ₙ δ
     pub rest-small : Bounded S n δ (level j) surplus t
     pub small : (k : ℕ) → j ≤ k → k < m → size (N k) ≤ suc (rank n (level m .size) *ₙ δ)
+    pub reduced : (k : ℕ) → j ≤ k → k < m → 0 < size (kernel k) → size (N k) < size (kernel k)
 
   pub descent-start : (f N : ℕ → A) → InSpan R n n (level m) f
       → ((i : ℕ) → i < n → size (f i) ≤ suc (δ +ₙ degrees n (level m .size))) → Descent f m f N
@@ -61,6 +62,7 @@ module _ {A : Type 0} {R : Ring A} {S : Sized R} (T : System S) (level : ℕ →
     surplus-equal = omega arith;
     rest-small = λ i h. omega (arith, b i h);
     small = λ k h l. absurd (omega arith);
+    reduced = λ k h l p. absurd (omega arith);
   }
     where
       none : (i : ℕ) → sum R m (λ k. M i k * onward m 𝟘 N k) ≡ 𝟘
@@ -90,6 +92,10 @@ module _ {A : Type 0} {R : Ring A} {S : Sized R} (T : System S) (level : ℕ →
     coordinate-small k g l (yes r) =
         omega (arith, ap (λ x. size (N′ x)) r, Q .small, Q .surplus-equal, D .surplus-equal, L .degrees-le)
     coordinate-small k g l (no r) = omega (arith, ap size (X .others k (omega arith) l), D .small k (omega arith) l)
+
+    coordinate-reduced : (k : ℕ) → j ≤ k → k < m → 0 < size (kernel k) → Dec (k ≡ j) → size (N′ k) < size (kernel k)
+    coordinate-reduced k g l p (yes r) = subst (λ x. 0 < size (kernel x) → size (N′ x) < size (kernel x)) (sym r) (X .reduced) p
+    coordinate-reduced k g l p (no r) = omega (arith, ap size (X .others k (omega arith) l), D .reduced k (omega arith) l p)
 
     -- the sum changes in its term at j, from zero to M i j * N′ j
     other : (k : ℕ) → k < m → ¬ (k ≡ j) → Dec (k < j) → onward j 𝟘 N′ k ≡ onward (suc j) 𝟘 N k
@@ -122,6 +128,7 @@ module _ {A : Type 0} {R : Ring A} {S : Sized R} (T : System S) (level : ℕ →
       surplus-equal = omega (arith, Q .surplus-equal, D .surplus-equal);
       rest-small = Q .rest-small;
       small = λ k g l. coordinate-small k g l (ℕ-discrete k j);
+      reduced = λ k g l p. coordinate-reduced k g l p (ℕ-discrete k j);
     }
 
   -- room: what is left of f never has more than δ + r·δ + 1 coefficients

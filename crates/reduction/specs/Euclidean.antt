@@ -40,6 +40,7 @@ module _ {A : Type 0} {R : Ring A} (S : Sized R) where
     pub cancel : (x y : A) → 0 < size y → size y ≤ size x → Cancelling x y
     pub divide : (x y : A) → 0 < size y → WithRemainder x y
     pub Monic : A → Type 0
+    pub monic-nonzero : (x : A) → Monic x → ¬ (x ≡ 𝟘)
     pub monic-mul : (x y : A) → Monic x → Monic y → Monic (x * y)
     pub associate : (x : A) → 0 < size x → Associate Monic x
 

@@ -2,6 +2,7 @@
 -- mathematics.md, section 2.
 use Prim.Native.Nat.{ℕ, suc, _≤_, min}
 use Prim.Native.Nat.{_*_ as _*ₙ_}
+use mathlib.Core.Path.{refl}
 use mathlib.Core.Logic.{_⊎_, inl, inr, ⊎-elim}
 use native.Mathlib.Omega.{arith}
 use native.Mathlib.Nat.{mul-le-mul-right}
@@ -87,9 +88,9 @@ module _ {A : Type 0} {R : Ring A} {S : Sized R} (E : Euclidean S) (T : System S
       N = coordinates .N;
       w = R .mul d (certifying .w);
       Z = certifying .Y;
-      right = solution-right E T L (X .inserting) z μ (certifying .w) (certifying .Y) (certifying .monic) (certifying .dual)
+      right = solution-right E T L (X .inserting) z μ (λ q h. refl) (λ u s. s) (certifying .w) (certifying .Y) (certifying .monic) (certifying .dual)
           (coordinates .N) (coordinates .solves);
-      small = solution-sizes E T L (X .inserting) z μ (certifying .w) (certifying .Y) (certifying .monic) (certifying .dual)
+      small = solution-sizes E T L (X .inserting) z μ (λ q h. refl) (λ u s. s) (certifying .w) (certifying .Y) (certifying .monic) (certifying .dual)
           (coordinates .N) (coordinates .small);
     }
 

@@ -19,6 +19,7 @@ pub mod Trace
 pub mod Kept
 pub mod Insert
 pub mod Inserting
+pub mod Least
 -- divide
 pub mod Division
 -- levels: L5, L6
@@ -26,15 +27,24 @@ pub mod System
 pub mod Link
 pub mod Column
 pub mod Filling
+pub mod Dependence
 pub mod Levels
 pub mod Lowering
 pub mod Descent
+pub mod Numerators
+pub mod Reduced
 -- the second system: L8
 pub mod Dual
 pub mod Transpose
 pub mod Second
 -- certificates: L7, L9
 pub mod Certificate
+pub mod Clearing
+pub mod Certifying
+pub mod LowerBounds
+pub mod Killing
+pub mod Retailed
+pub mod Round
 pub mod Solution
 pub mod Unfinished
 pub mod Absence
@@ -44,8 +54,15 @@ pub mod RunSecond
 pub mod RunLevels
 pub mod RunDescent
 pub mod Existence
+pub mod Square
+-- several right sides
+pub mod Joint
+pub mod Lines
+pub mod Units
+pub mod Gathering
 -- K[x], and vectors over it in memory
 pub mod Polynomials
 pub mod Holds
+pub mod Shortening
 pub mod Flat
 pub mod Held

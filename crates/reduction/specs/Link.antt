@@ -8,6 +8,7 @@ use native.Mathlib.Omega.{arith}
 use Rattle.ring.specs.Ring.{Ring}
 use Rattle.ring.specs.Identity.{quotes, identity}
 use Rattle.algebra.specs.Sized.{Sized}
+use Rattle.algebra.specs.Divides.{Divides, one-divides}
 use Rattle.reduction.specs.Total.{rank, degrees, rank-ext, degrees-ext}
 use Rattle.reduction.specs.Slots.{Slots, Filled, unweighted, Same, SameBlocks, same-sym, blocks-sym, filled-same}
 use Rattle.reduction.specs.Span.{InSpan, span-combine, span-fewer, span-same, span-blocks}
@@ -46,6 +47,8 @@ module _ {A : Type 0} {R : Ring A} (S : Sized R) (n δ : ℕ) where
     -- (x | τ) in the span of U′ with tails: x - (τ - κ·kernel)·a is in the span of U
     pub down : (x : ℕ → A) → InSpan R n (suc n) U′ x → (κ : A) → InSpan R n n U (λ k. x k - (x n - κ * kernel) * a k)
     pub kind : Grows S n δ U U′ kernel ⊎ Kernel S n U U′ kernel
+    -- the kernel generates the ideal of all κ with κ·a in the span before
+    pub least : (κ : A) → InSpan R n n U (λ k. κ * a k) → Divides R kernel κ
 
   -- a column of the span may be left out: the slots stay, whatever their tails, and the kernel is one
   pub link-drop : (a : ℕ → A) (U : Slots A) → Filled S n unweighted U → InSpan R n n U a → Link a U U 𝟙
@@ -56,6 +59,7 @@ module _ {A : Type 0} {R : Ring A} (S : Sized R) (n δ : ℕ) where
     down = λ x t κ. span-combine R 𝟙 (- (x n - κ * 𝟙)) (span-fewer R (omega arith) t) s (λ k. x k - (x n - κ * 𝟙) * a k)
         (λ k h. identity R (x k ∷ x n ∷ κ ∷ a k ∷ []) (λ ρ qx qn qκ qa. search quotes depth 16) refl);
     kind = inr record { positive = omega (arith, size-one); no-more = refl; degrees-le = omega (arith, size-one) };
+    least = λ κ t. one-divides κ;
   }
 
   -- the column less a vector of the span before makes the same link
@@ -69,6 +73,8 @@ module _ {A : Type 0} {R : Ring A} (S : Sized R) (n δ : ℕ) where
     down = λ x t κ. span-combine R 𝟙 (- (x n - κ * kernel)) (K .down x t κ) s (λ k. x k - (x n - κ * kernel) * a′ k)
         (λ k h. identity R (x k ∷ x n ∷ κ ∷ kernel ∷ a k ∷ a′ k ∷ []) (λ ρ qx qn qκ qe qa qb. search quotes depth 16) refl);
     kind = K .kind;
+    least = λ κ t. K .least κ (span-combine R 𝟙 (- κ) t s (λ k. κ * a k)
+        (λ k h. identity R (κ ∷ a k ∷ a′ k ∷ []) (λ ρ qκ qa qb. search quotes depth 16) refl));
   }
 
   -- a link depends only on what is looked at: of the slots before, their blocks
@@ -80,6 +86,7 @@ module _ {A : Type 0} {R : Ring A} (S : Sized R) (n δ : ℕ) where
     new = span-same R (omega arith) e′ (K .new);
     down = λ x s κ. span-blocks R e (K .down x (span-same R (omega arith) (same-sym e′) s) κ);
     kind = kind (K .kind);
+    least = λ κ s. K .least κ (span-blocks R (blocks-sym e) s);
   }
     where
       old-rank : rank n (U .size) ≡ rank n (U₁ .size)

@@ -8,7 +8,7 @@ use Rattle.algebra.specs.Expressions.{constant, scale, scale-constant, scale-sc
 use Rattle.algebra.specs.Size.{size, leading, sized, leading-positive}
 use Rattle.algebra.specs.Cancellation.{multiplier, size-multiplier, size-cancelled}
 use Rattle.algebra.specs.Division.{quotient, remainder, division, size-remainder}
-use Rattle.algebra.specs.Monic.{Monic, monic-scale, monic-monic, monic-mul}
+use Rattle.algebra.specs.Monic.{Monic, monic-scale, monic-monic, monic-nonzero, monic-mul}
 use Rattle.reduction.specs.Euclidean.{Associate, Euclidean}
 use Rattle.reduction.specs.System.{System}
 use Rattle.reduction.specs.Existence.{Certified, certificate-exists}
@@ -51,6 +51,7 @@ module _ {K : Type 0} (F : Field K) where
       smaller = size-remainder F x y p;
     };
     Monic = Monic F;
+    monic-nonzero = monic-nonzero F;
     monic-mul = monic-mul F;
     associate = associate;
   }

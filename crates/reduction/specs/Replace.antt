@@ -1,5 +1,5 @@
 -- Functions of an index: changed at one place, and continued by one value from a bound on.
-use Prim.Native.Nat.{ℕ, suc, _<_}
+use Prim.Native.Nat.{ℕ, suc, _<_, _≤_}
 use mathlib.Core.Path.{_≡_, refl, sym, subst}
 use mathlib.Core.Logic.{ite, if-pos, if-neg}
 use native.Mathlib.Omega.{arith}
@@ -34,9 +34,12 @@ pub extend-below : {A : Type 0} (n : ℕ) (f : ℕ → A) (a : A) (i : ℕ) → 
 unfolding extend
 extend-below n f a i h = if-pos (decLt i n) h (f i) a
 
-pub extend-at : {A : Type 0} (n : ℕ) (f : ℕ → A) (a : A) → extend n f a n ≡ a
+pub extend-from : {A : Type 0} (n : ℕ) (f : ℕ → A) (a : A) (i : ℕ) → n ≤ i → extend n f a i ≡ a
 unfolding extend
-extend-at n f a = if-neg (decLt n n) (omega arith) (f n) a
+extend-from n f a i h = if-neg (decLt i n) (omega arith) (f i) a
+
+pub extend-at : {A : Type 0} (n : ℕ) (f : ℕ → A) (a : A) → extend n f a n ≡ a
+extend-at n f a = extend-from n f a n (omega arith)
 
 -- what holds below n and at n holds below n + 1
 pub below-suc : (n : ℕ) (P : ℕ → Type 0) → ((i : ℕ) → i < n → P i) → P n → (i : ℕ) → i < suc n → P i

@@ -44,12 +44,57 @@ module _ {A : Type 0} {R : Ring A} (S : Sized R) (n : ℕ) where
         let k = size-mul-le S (t j) (v j) (size (t l) - 1) (size (v l)) shorter (omega (arith, P .all j h)) in
         omega (arith, product)
 
-    row-leading : 0 < size (sum R n (λ j. t j * v j))
-    row-leading = omega (
+    pub row-size : suc (size (sum R n (λ j. t j * v j))) ≡ size (t l) +ₙ size (v l)
+    row-size = omega (
       arith,
       size-sum-leading l (λ j. t j * v j) (P .inside) (omega (arith, product)) (λ j h ne. smaller j h ne (decLt j l)),
       product,
     )
+
+    -- the other terms
+    pub row-rest : size (sum R n (without R l (λ j. t j * v j))) < size (t l * v l)
+    row-rest = omega (
+      arith,
+      product,
+      P .positive,
+      size-sum S (size (t l * v l) - 1) n (without R l (λ j. t j * v j))
+          (λ j h. other j h (ℕ-discrete j l)),
+    )
+      where
+        other : (j : ℕ) → j < n → (d : Dec (j ≡ l)) → size (ite d 𝟘 (t j * v j)) ≤ size (t l * v l) - 1
+        other j h (yes q) = omega (arith, size-zero)
+        other j h (no q) = omega (arith, smaller j h q (decLt j l))
+
+    row-leading : 0 < size (sum R n (λ j. t j * v j))
+    row-leading = omega (arith, row-size, product, P .positive)
+
+  -- the last entry of greatest size
+  pub record Last (t : ℕ → A) : Type 0 where
+    pub at : ℕ
+    pub inside : at < n
+    pub positive : 0 < size (t at)
+    pub upto : (j : ℕ) → j < n → size (t j) ≤ size (t at)
+    pub later : (j : ℕ) → j < n → at < j → size (t j) < size (t at)
+
+  pub find-last : (t : ℕ → A) → Last t ⊎ Vanishes R n t
+  find-last t = go (find-pivot S unweighted n (λ i. t (n - suc i)))
+    where
+      back : (q : ℕ) → q < n → n - suc (n - suc q) ≡ q
+      back q h = omega arith
+
+      go : HasPivot S unweighted n (λ i. t (n - suc i)) ⊎ Vanishes R n (λ i. t (n - suc i)) → Last t ⊎ Vanishes R n t
+      go (inr z) = inr (λ q h. ap t (sym (back q h)) ∙ z (n - suc q) (omega arith))
+      go (inl x) =
+          let L = x .pivot in
+          inl record {
+            at = n - suc (x .at);
+            inside = omega (arith, L .inside);
+            positive = L .positive;
+            upto = λ j h. subst (λ i. size (t i) ≤ size (t (n - suc (x .at)))) (back j h)
+                (omega (arith, L .all (n - suc j) (omega arith), L .reached));
+            later = λ j h k. subst (λ i. size (t i) < size (t (n - suc (x .at)))) (back j h)
+                (omega (arith, L .before (n - suc j) (omega arith), L .reached, L .positive));
+          }
 
   -- L3 transposed: the last entry of greatest size is the pivot of the row read backwards
   pub row-zero : (U : Slots A) (t : ℕ → A) → ((q : ℕ) → q < n → 0 < size (t q) → Pivot S n unweighted (U .at q) q (U .size q))

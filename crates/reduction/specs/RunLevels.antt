@@ -1,6 +1,6 @@
 -- The levels of a system, as a function.
 use Prim.Native.Nat.{ℕ, zero, suc, _<_, _≤_}
-use mathlib.Core.Path.{refl}
+use mathlib.Core.Path.{_≡_, refl, ap}
 use mathlib.Core.Logic.{inl, inr}
 use native.Mathlib.Omega.{arith}
 use Rattle.ring.specs.Ring.{Ring}
@@ -58,28 +58,52 @@ module _ {A : Type 0} {R : Ring A} {S : Sized R} (E : Euclidean S) where
   next : (n : ℕ) (U : Slots A) → Filled S n unweighted U → (a : ℕ → A) → Next n U a
   next n U full a = let X = run E n unweighted U full a in next-by n U full a X (X .stop)
 
+  record Built (n : ℕ) : Type 0 where
+    pub slots : Slots A
+    pub filled : Filled S n unweighted slots
+
+  -- from the slots U on, after the columns a 0, a 1, ..
+  module _ (n : ℕ) (U : Slots A) (full : Filled S n unweighted U) (a : ℕ → ℕ → A) where
+    built : ℕ → Built n
+    built zero = record { slots = U; filled = full }
+    built (suc j) =
+        let X = next n (built j .slots) (built j .filled) (a j) in
+        record { slots = X .slots; filled = X .filled }
+
+    pub slotsAfter : ℕ → Slots A
+    slotsAfter j = built j .slots
+
+    pub kernelAfter : ℕ → A
+    kernelAfter j = next n (built j .slots) (built j .filled) (a j) .kernel
+
+    pub after-none : slotsAfter 0 ≡ U
+    unfolding built slotsAfter
+    after-none = refl
+
+    pub after-link : (δ j : ℕ) → ((i : ℕ) → i < n → S .size (a j i) ≤ suc δ)
+        → Link S n δ (a j) (slotsAfter j) (slotsAfter (suc j)) (kernelAfter j)
+    unfolding built slotsAfter kernelAfter
+    after-link δ j = next n (built j .slots) (built j .filled) (a j) .link δ
+
   module _ (T : System S) where
     open System T using (rows as n, columns as m, degree as δ, matrix as M, matrix-small)
 
-    record Built : Type 0 where
-      pub slots : Slots A
-      pub filled : Filled S n unweighted slots
+    empty : Slots A
+    empty = record { at = λ q k. R .zero; size = λ q. 0 }
 
-    built : ℕ → Built
-    built zero = record { slots = record { at = λ q k. R .zero; size = λ q. 0 }; filled = λ q h f. absurd (omega arith) }
-    built (suc j) =
-        let X = next n (built j .slots) (built j .filled) (λ i. M i j) in
-        record { slots = X .slots; filled = X .filled }
+    empty-filled : Filled S n unweighted empty
+    unfolding empty
+    empty-filled q h f = absurd (omega arith)
 
     pub level : ℕ → Slots A
-    level j = built j .slots
+    level = slotsAfter n empty empty-filled (λ j i. M i j)
 
     pub kernel : ℕ → A
-    kernel j = next n (built j .slots) (built j .filled) (λ i. M i j) .kernel
+    kernel = kernelAfter n empty empty-filled (λ j i. M i j)
 
     pub levels : Levels T level kernel m
-    unfolding built level kernel
+    unfolding empty level kernel
     levels = record {
-      empty = λ q h. refl;
-      link = λ j h. next n (built j .slots) (built j .filled) (λ i. M i j) .link δ (λ i l. matrix-small i j l h);
+      empty = λ q h. ap (λ U. U .size q) (after-none n empty empty-filled (λ j i. M i j));
+      link = λ j h. after-link n empty empty-filled (λ j i. M i j) δ j (λ i l. matrix-small i j l h);
     }

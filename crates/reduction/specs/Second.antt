@@ -11,6 +11,7 @@ use Rattle.ring.specs.Ring.{Ring, mul-zero}
 use Rattle.ring.specs.Sum.{sum, sum-ext, sum-none, sum-reverse}
 use Rattle.ring.specs.Identity.{quotes, identity}
 use Rattle.ring.specs.Combination.{given, combination}
+use Rattle.algebra.specs.Divides.{Divides}
 use Rattle.algebra.specs.Sized.{Sized, size-of-zero, size-positive, positive-nonzero, size-mul-le}
 use Rattle.reduction.specs.Total.{degrees, total-le, total-add, total-reverse}
 use Rattle.reduction.specs.Pivot.{Vanishes}
@@ -22,6 +23,7 @@ use Rattle.reduction.specs.Trace.{State}
 use Rattle.reduction.specs.Kept.{tail-nonzero}
 use Rattle.reduction.specs.Insert.{Stuck}
 use Rattle.reduction.specs.Inserting.{Inserting, kept, inserting-hand}
+use Rattle.reduction.specs.Least.{inserting-least}
 use Rattle.reduction.specs.Dual.{Dual}
 use Rattle.reduction.specs.Transpose.{Tops, masked-filled, masked-empty, back, transposed, rightSide, weights}
 use Rattle.reduction.specs.Transpose.{sizes-high, size-filled, transposed-filled, right-cases}
@@ -119,6 +121,41 @@ module _ {A : Type 0} {R : Ring A} {S : Sized R} {n B D : ℕ} {U : Slots A} (O 
           (λ k h. sym (ap (λ x. (- m .unit) * (x + (- (t .hand n * g k)))) (z k h)
           ∙ identity R (m .unit ∷ t .hand n ∷ g k ∷ []) (λ ρ qu qh qg. search quotes depth 16) refl))
 
+      -- w divides every κ with κ times the right side in the span of the slots
+      module _ (κ : A) (y : ℕ → A) (none : (k : ℕ) → k < n → U .size k ≡ 0 → y k ≡ 𝟘)
+          (equal : (i : ℕ) → i < n → 0 < U .size i → sum R n (λ k. y k * U .at i k) ≡ κ * U .at i n) where
+        spanned : InSpan R n n C (λ i. κ * g i)
+        spanned = record {
+          coefficient = λ q. y (back n q);
+          empty = λ q h e. none (back n q) (omega arith) (go q h e (ℕ-discrete (d q) 0));
+          equal = λ i h. at i h (ℕ-discrete (d i) 0);
+        }
+          where
+            go : (q : ℕ) → q < n → C .size q ≡ 0 → Dec (d q ≡ 0) → d q ≡ 0
+            go q h e (yes r) = r
+            go q h e (no r) = absurd (omega (arith, masked-filled (d q) 0 D (omega arith), sizes-high O q h))
+
+            at : (i : ℕ) → i < n → Dec (d i ≡ 0) → κ * g i ≡ sum R n (λ q. y (back n q) * C .at q i)
+            at i h (yes r) =
+                ap (λ x. κ * x) (masked-empty (d i) 𝟘 (U .at (back n i) n) r) ∙ mul-zero R κ
+                ∙ sym (sum-none R n (λ q. y (back n q) * C .at q i) (λ q l.
+                ap (λ x. y (back n q) * x) (masked-empty (d i) 𝟘 (U .at (back n i) (back n q)) r) ∙ mul-zero R (y (back n q))))
+            at i h (no r) =
+                ap (λ x. κ * x) (masked-filled (d i) 𝟘 (U .at (back n i) n) (omega arith))
+                ∙ sym (equal (back n i) (omega arith) (omega arith))
+                ∙ sym (sum-reverse R n (λ k. y k * U .at (back n i) k))
+                ∙ sum-ext R n (λ q. y (back n q) * U .at (back n i) (back n q)) (λ q. y (back n q) * C .at q i)
+                (λ q l. ap (λ x. y (back n q) * x) (sym (masked-filled (d i) 𝟘 (U .at (back n i) (back n q)) (omega arith))))
+
+        second-least : Divides R w κ
+        second-least =
+            let e = inserting-least (transposed-filled O) X κ spanned z in
+            record {
+              cofactor = e .cofactor * m .inverse;
+              product = combination R κ (e .cofactor * m .inverse * w) (given 𝟙 (e .product) ∷ given (- (e .cofactor * t .hand n)) (m .unit-inverse) ∷ [])
+                  (identity R (κ ∷ e .cofactor ∷ m .inverse ∷ m .unit ∷ t .hand n ∷ []) (λ ρ q1 q2 q3 q4 q5. search quotes depth 16) refl);
+            }
+
       -- room: its weighted size
       pub second-room : (k : ℕ) → k < n → size (w * g k) ≤ (B +ₙ D) -ₙ ω k
       second-room k h = go (right-cases O k h)
@@ -129,6 +166,27 @@ module _ {A : Type 0} {R : Ring A} {S : Sized R} {n B D : ℕ} {U : Slots A} (O 
             size-mul-le S w (g k) (suc (degrees n (U .size))) (size (g k)) w-small (omega arith),
             sizes-high O k h,
           )
+          go (inr y) = omega (arith, size-of-zero S (w * g k) (ap (λ x. w * x) y ∙ mul-zero R w))
+
+      -- the same with w as it is
+      abbrev most : ℕ
+      most = (size (m .unit * X .now .hand n) +ₙ (B +ₙ D)) -ₙ suc (degrees n (U .size))
+
+      second-room-exact : (k : ℕ) → k < n → size (w * g k) ≤ most -ₙ ω k
+      second-room-exact k h = go (right-cases O k h)
+        where
+          go : (size (g k) +ₙ degrees n (U .size) ≤ B +ₙ d k) ⊎ (g k ≡ 𝟘) → size (w * g k) ≤ most -ₙ ω k
+          go (inl y) = go′ (ℕ-discrete (size (g k)) 0)
+            where
+              go′ : Dec (size (g k) ≡ 0) → size (w * g k) ≤ most -ₙ ω k
+              go′ (yes e) = omega (arith, size-of-zero S (w * g k) (ap (λ x. w * x) (S .size-none (g k) e) ∙ mul-zero R w))
+              go′ (no e) = omega (
+                arith,
+                size-mul-le S w (g k) (size w) (size (g k)) (omega arith) (omega arith),
+                associate-size S m second-positive,
+                second-positive,
+                sizes-high O k h,
+              )
           go (inr y) = omega (arith, size-of-zero S (w * g k) (ap (λ x. w * x) y ∙ mul-zero R w))
 
       -- Y from its coefficients, as division gives them
@@ -162,6 +220,23 @@ module _ {A : Type 0} {R : Ring A} {S : Sized R} {n B D : ℕ} {U : Slots A} (O 
           coefficient-size (transposed-filled O) (omega arith) s (B +ₙ D) second-room (back n k) (omega arith) (omega arith),
         )
 
+        row-room : (k : ℕ) → k < n → 0 < size (Y k) → size (Y k) +ₙ degrees n (U .size) ≤ size w +ₙ B
+        row-room k h p = go (ℕ-discrete (C .size (back n k)) 0)
+          where
+            p′ : 0 < size (c (back n k))
+            p′ = omega (arith, p, ap size (e k h))
+
+            go : Dec (C .size (back n k) ≡ 0) → size (Y k) +ₙ degrees n (U .size) ≤ size w +ₙ B
+            go (yes v) = absurd (omega (arith, p′, size-of-zero S (c (back n k)) (s .empty (back n k) (omega arith) v)))
+            go (no v) = omega (
+              arith,
+              ap size (e k h),
+              p,
+              p′,
+              size-filled O (back n k) (omega arith) .1,
+              coefficient-size (transposed-filled O) (omega arith) s most second-room-exact (back n k) (omega arith) p′,
+            )
+
         -- L8
         pub second-dual : Dual S n B U w Y
         second-dual = record {
@@ -171,4 +246,6 @@ module _ {A : Type 0} {R : Ring A} {S : Sized R} {n B D : ℕ} {U : Slots A} (O 
               ∙ s .empty (back n k) (omega arith) (masked-empty (d (back n k)) 0 D (ap (U .size) (twice k h) ∙ y));
           equal = row-equal;
           row-small = λ k h. row-small k h (ℕ-discrete (size (c (back n k))) 0) (ℕ-discrete (C .size (back n k)) 0);
+          row-room = row-room;
+          least = second-least;
         }

@@ -6,26 +6,27 @@ use mathlib.Core.Path.{_≡_, refl, sym, _∙_, ap}
 use mathlib.Core.List.{[], _∷_}
 use native.Mathlib.Omega.{arith}
 use Rattle.ring.specs.Ring.{Ring}
-use Rattle.ring.specs.Sum.{sum, sum-ext}
+use Rattle.ring.specs.Sum.{sum, sum-ext, sum-mul}
 use Rattle.ring.specs.Identity.{quotes, identity}
 use Rattle.ring.specs.Combination.{given, combination}
-use Rattle.algebra.specs.Sized.{Sized, size-positive, size-mul-le}
-use Rattle.algebra.specs.Divides.{Divides}
+use Rattle.algebra.specs.Sized.{Sized, size-positive, size-mul-le, mul-cancel, mul-nonzero}
+use Rattle.algebra.specs.Divides.{Divides, divides-equal, mul-divides-mul}
 use Rattle.algebra.specs.Bezout.{Greatest}
-use Rattle.reduction.specs.Total.{rank, degrees}
+use Rattle.reduction.specs.Total.{rank, degrees, degrees-ext}
 use Rattle.reduction.specs.Replace.{extend, extend-below, extend-at}
 use Rattle.reduction.specs.Pivot.{Vanishes}
 use Rattle.reduction.specs.Slots.{Slots, unweighted}
-use Rattle.reduction.specs.Span.{InSpan, InSpanWith, span-scale}
-use Rattle.reduction.specs.Euclidean.{Euclidean, Associate, associate-size}
+use Rattle.reduction.specs.Span.{InSpan, InSpanWith, span-scale, span-slot, with-none}
+use Rattle.reduction.specs.Euclidean.{Euclidean, Associate, associate-nonzero, associate-size}
 use Rattle.reduction.specs.Trace.{State}
 use Rattle.reduction.specs.Kept.{tail-nonzero}
-use Rattle.reduction.specs.Inserting.{Inserting, kept, inserting-old, inserting-new, inserting-hand}
+use Rattle.reduction.specs.Inserting.{Inserting, kept, inserting-old, inserting-new, inserting-blocks, inserting-hand}
 use Rattle.reduction.specs.System.{System}
-use Rattle.reduction.specs.Levels.{Level}
+use Rattle.reduction.specs.Levels.{Columns, Level}
 use Rattle.reduction.specs.Dual.{Dual, dual-span}
 use Rattle.reduction.specs.Transpose.{Tops}
 use Rattle.reduction.specs.Certificate.{RightSolution, SmallSolution}
+use Rattle.reduction.specs.Certifying.{Short, Certifying}
 
 module _ {A : Type 0} {R : Ring A} {S : Sized R} (E : Euclidean S) (T : System S) where
   open System T using (rows as n, columns as m, degree as δ, matrix as M, right as b, right-small)
@@ -81,18 +82,20 @@ module _ {A : Type 0} {R : Ring A} {S : Sized R} (E : Euclidean S) (T : System S
       solution-small i h =
           omega (arith, size-mul-le S d (b i) (size e) (suc δ) (omega (arith, d-size)) (right-small i h), e-small)
 
-      -- with w′ and Y of the second system
-      module _ (w′ : A) (Y : ℕ → A) (monic : E .Monic w′) (K : Dual S n (degrees n (U .size)) (X .now .slots) w′ Y) where
+      -- with w′ and Y of the second system, of slots G that span the same with the hand
+      module _ {G : Slots A} (sizes : (q : ℕ) → q < n → X .now .slots .size q ≡ G .size q)
+          (into : (u : ℕ → A) → InSpanWith R n (suc n) (X .now .slots) (X .now .hand) u → InSpanWith R n (suc n) G (X .now .hand) u)
+          (w′ : A) (Y : ℕ → A) (monic : E .Monic w′) (K : Dual S n (degrees n (U .size)) G w′ Y) where
         abbrev w : A
         w = d * w′
 
         -- Y·x = w′·(τ - s·e) for (x | τ) in the span of slots and hand, s its multiple of the hand
-        row : (x : ℕ → A) (τ : A) (s : InSpanWith R n (suc n) (t .slots) (t .hand) (extend n x τ))
+        row : (x : ℕ → A) (τ : A) (s : InSpanWith R n (suc n) G (t .hand) (extend n x τ))
             → sum R n (λ i. Y i * x i) ≡ w′ * (τ - s .multiple * e)
         row x τ s =
             sum-ext R n (λ i. Y i * x i) (λ i. Y i * (extend n x τ i - s .multiple * t .hand i))
             (λ i h. ap (λ y. Y i * y) (block i h))
-            ∙ dual-span S n Q (t .slots) w′ Y K (λ i. extend n x τ i - s .multiple * t .hand i) (s .rest)
+            ∙ dual-span S n Q G w′ Y K (λ i. extend n x τ i - s .multiple * t .hand i) (s .rest)
             ∙ ap (λ y. w′ * (y - s .multiple * e)) (extend-at n x τ)
           where
             block : (i : ℕ) → i < n → x i ≡ extend n x τ i - s .multiple * t .hand i
@@ -113,28 +116,103 @@ module _ {A : Type 0} {R : Ring A} {S : Sized R} (E : Euclidean S) (T : System S
               ∙ identity R (w′ ∷ s .multiple ∷ μ .inverse ∷ d ∷ []) (λ ρ qw qs qi qd. search quotes depth 16) refl;
         }
           where
-            s : InSpanWith R n (suc n) (t .slots) (t .hand) (extend n (λ i. M i j) 𝟘)
-            s = inserting-old (L .filled) X (λ i. M i j) (L .spanned j h)
+            s : InSpanWith R n (suc n) G (t .hand) (extend n (λ i. M i j) 𝟘)
+            s = into (extend n (λ i. M i j) 𝟘) (inserting-old (L .filled) X (λ i. M i j) (L .spanned j h))
 
         -- of b: w′ divides, and w′ = k·w + Y·b
+        s₁ : InSpanWith R n (suc n) G (X .now .hand) (extend n b 𝟙)
+        s₁ = into (extend n b 𝟙) (inserting-new (L .filled) X)
+
+        k₁ : A
+        k₁ = s₁ .multiple * μ .inverse
+
+        Yb : sum R n (λ i. Y i * b i) ≡ w′ * (𝟙 - k₁ * d)
+        unfolding k₁
+        Yb = row b 𝟙 s₁ ∙ ap (λ x. w′ * (𝟙 - s₁ .multiple * x)) e-is
+            ∙ identity R (w′ ∷ s₁ .multiple ∷ μ .inverse ∷ d ∷ []) (λ ρ qw qs qi qd. search quotes depth 16) refl
+
         greatest : Greatest R w (sum R n (λ i. Y i * b i)) w′
         greatest = record {
           left = record { cofactor = d; product = refl };
-          right = record { cofactor = 𝟙 - k * d; product = Yb ∙ R .mul-comm w′ (𝟙 - k * d) };
-          s = k;
+          right = record { cofactor = 𝟙 - k₁ * d; product = Yb ∙ R .mul-comm w′ (𝟙 - k₁ * d) };
+          s = k₁;
           t = 𝟙;
-          bezout = sym (ap (λ x. k * w + 𝟙 * x) Yb ∙ identity R (k ∷ d ∷ w′ ∷ []) (λ ρ qk qd qw. search quotes depth 16) refl);
+          bezout = sym (ap (λ x. k₁ * w + 𝟙 * x) Yb ∙ identity R (k₁ ∷ d ∷ w′ ∷ []) (λ ρ qk qd qw. search quotes depth 16) refl);
+        }
+
+        -- lowest terms: c·Y = y·w gives c = d·c′ by b, and then y is a row for c′
+        module _ (c : A) (y : ℕ → A) (terms : (i : ℕ) → i < n → c * Y i ≡ y i * (d * w′)) where
+          -- of any vector
+          times : (x : ℕ → A) → c * sum R n (λ i. Y i * x i) ≡ w * sum R n (λ i. y i * x i)
+          times x =
+              sym (sum-mul R n c (λ i. Y i * x i))
+              ∙ sum-ext R n (λ i. c * (Y i * x i)) (λ i. w * (y i * x i)) (λ i h. combination R (c * (Y i * x i)) (w * (y i * x i))
+              (given (x i) (terms i h) ∷ []) (identity R (c ∷ Y i ∷ x i ∷ d ∷ w′ ∷ y i ∷ []) (λ ρ q1 q2 q3 q4 q5 q6. search quotes depth 16) refl))
+              ∙ sum-mul R n w (λ i. y i * x i)
+
+          c′ : A
+          c′ = sum R n (λ i. y i * b i) + c * k₁
+
+          c-is : c ≡ d * c′
+          unfolding c′
+          c-is = mul-cancel S w′ c (d * c′) (K .nonzero) (combination R (w′ * c) (w′ * (d * c′))
+              (given 𝟙 (times b) ∷ given (- c) Yb ∷ [])
+              (identity R (w′ ∷ c ∷ d ∷ k₁ ∷ sum R n (λ i. y i * b i) ∷ sum R n (λ i. Y i * b i) ∷ []) (λ ρ q1 q2 q3 q4 q5 q6. search quotes depth 16) refl))
+
+          w-nonzero : ¬ (w ≡ 𝟘)
+          w-nonzero = mul-nonzero S d w′ (associate-nonzero S μ solution-positive) (K .nonzero)
+
+          divides-c′ : Divides R w′ c′
+          divides-c′ = K .least c′ y
+              (λ i h e. mul-cancel S w (y i) 𝟘 w-nonzero (combination R (w * y i) (w * 𝟘)
+              (given (- 𝟙) (terms i h) ∷ given c (K .empty i h e) ∷ [])
+              (identity R (w ∷ y i ∷ c ∷ Y i ∷ []) (λ ρ q1 q2 q3 q4. search quotes depth 16) refl)))
+              (λ q h f. mul-cancel S w (sum R n (λ i. y i * G .at q i)) (c′ * G .at q n) w-nonzero
+              (combination R (w * sum R n (λ i. y i * G .at q i)) (w * (c′ * G .at q n))
+              (given (- 𝟙) (times (G .at q)) ∷ given c (K .equal q h f) ∷ given (w′ * G .at q n) c-is ∷ [])
+              (identity R (d ∷ w′ ∷ sum R n (λ i. y i * G .at q i) ∷ c′ ∷ G .at q n ∷ c ∷ sum R n (λ i. Y i * G .at q i) ∷ [])
+              (λ ρ q1 q2 q3 q4 q5 q6 q7. search quotes depth 16) refl)))
+
+          pub solution-lowest : Divides R (d * w′) c
+          solution-lowest = divides-equal (sym c-is) (mul-divides-mul d divides-c′)
+
+        -- what the code finds of each row: with the slot's length it is no longer than w
+        pub solution-short : (i : ℕ) → i < n → 0 < X .now .slots .size i → size (Y i) +ₙ X .now .slots .size i ≤ size (d * w′)
+            → Short S n m M b (d * w′) Y i
+        solution-short i h f le = record {
+          vector = x;
+          spanned = record {
+            parts = C .parts;
+            part = x n;
+            equal = λ k l. combination R (x k) (sum R m (λ j. M k j * C .parts j) + x n * b k) (given 𝟙 (C .equal k l) ∷ [])
+                (identity R (x k ∷ sum R m (λ j. M k j * C .parts j) ∷ x n ∷ b k ∷ []) (λ ρ q1 q2 q3 q4. search quotes depth 16) refl);
+          };
+          length = t .slots .size i;
+          pivot = kept (L .filled) X .filled i h f;
+          short = le;
         }
           where
-            s : InSpanWith R n (suc n) (t .slots) (t .hand) (extend n b 𝟙)
-            s = inserting-new (L .filled) X
+            x : ℕ → A
+            x = t .slots .at i
 
-            k : A
-            k = s .multiple * μ .inverse
+            C : Columns T m (λ k. x k - x n * b k)
+            C = L .within (λ k. x k - x n * b k)
+                (inserting-blocks (L .filled) X x (with-none R (t .hand) (span-slot R (t .slots) i h f)))
 
-            Yb : sum R n (λ i. Y i * b i) ≡ w′ * (𝟙 - k * d)
-            Yb = row b 𝟙 s ∙ ap (λ x. w′ * (𝟙 - s .multiple * x)) e-is
-                ∙ identity R (w′ ∷ s .multiple ∷ μ .inverse ∷ d ∷ []) (λ ρ qw qs qi qd. search quotes depth 16) refl
+        pub solution-certifying : ((i : ℕ) → i < n → ¬ (Y i ≡ 𝟘) → Short S n m M b (d * w′) Y i) → Certifying S n m M b d (d * w′) Y
+        solution-certifying short = record {
+          nonzero = mul-nonzero S d w′ (associate-nonzero S μ solution-positive) (K .nonzero);
+          columns = column;
+          cofactor = w′;
+          quotient = refl;
+          right = record {
+            cofactor = - k₁;
+            product = combination R (sum R n (λ i. Y i * b i) - w′) ((- k₁) * (d * w′)) (given 𝟙 Yb ∷ [])
+                (identity R (sum R n (λ i. Y i * b i) ∷ w′ ∷ k₁ ∷ d ∷ []) (λ ρ q1 q2 q3 q4. search quotes depth 16) refl);
+          };
+          short = short;
+          lowest = solution-lowest;
+        }
 
         -- with the numerators N of the way down
         module _ (N : ℕ → A) where
@@ -161,6 +239,7 @@ module _ {A : Type 0} {R : Ring A} {S : Sized R} (E : Euclidean S) (T : System S
               size-mul-le S d w′ (size d) (size w′) (omega arith) (omega arith),
               d-size,
               e-small,
+              degrees-ext n (t .slots .size) (G .size) sizes,
               K .small,
               L .degrees-le,
             );

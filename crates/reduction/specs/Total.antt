@@ -79,6 +79,16 @@ degrees n d = total n (λ q. d q - 1)
 pub rank-le : (n : ℕ) (d : ℕ → ℕ) → rank n d ≤ n
 rank-le n d = omega (arith, total-le n (λ q. min 1 (d q)) (λ q. 1) (λ q h. omega arith), total-constant n 1)
 
+-- all slots are filled where their number is n
+pub rank-full : (n : ℕ) (d : ℕ → ℕ) → rank n d ≡ n → (q : ℕ) → q < n → 0 < d q
+unfolding total
+rank-full zero d e q h = absurd (omega arith)
+rank-full (suc n) d e q h = go (rank-full n d (omega (arith, rank-le n d)) q) (ℕ-discrete q n)
+  where
+    go : (q < n → 0 < d q) → Dec (q ≡ n) → 0 < d q
+    go rec (yes r) = omega (arith, rank-le n d, ap d r)
+    go rec (no r) = rec (omega arith)
+
 -- equal sizes, and sizes that differ at one place
 module _ (n : ℕ) (d e : ℕ → ℕ) where
   pub rank-ext : ((q : ℕ) → q < n → min 1 (d q) ≡ min 1 (e q)) → rank n d ≡ rank n e

@@ -2,7 +2,7 @@
 -- zero at the end, and the second system was solved. The way down from d·b gives the numerators.
 use Prim.Native.Nat.{ℕ, suc, _<_, _≤_, min}
 use Prim.Native.Nat.{_+_ as _+ₙ_, _*_ as _*ₙ_}
-use mathlib.Core.Path.{_≡_, ap, subst}
+use mathlib.Core.Path.{_≡_, refl, ap, subst}
 use native.Mathlib.Omega.{arith}
 use Rattle.ring.specs.Ring.{Ring}
 use Rattle.ring.specs.Sum.{sum}
@@ -42,8 +42,8 @@ module _ {A : Type 0} {R : Ring A} {S : Sized R} (E : Euclidean S) (T : System S
   unfinished L X z μ w′ Y monic K = record {
     span = solution-span E T L X z μ;
     vector-small = solution-small E T L X z μ;
-    right = λ N solves. solution-right E T L X z μ w′ Y monic K N solves;
-    small = λ N small. solution-sizes E T L X z μ w′ Y monic K N small;
+    right = λ N solves. solution-right E T L X z μ (λ q h. refl) (λ u s. s) w′ Y monic K N solves;
+    small = λ N small. solution-sizes E T L X z μ (λ q h. refl) (λ u s. s) w′ Y monic K N small;
   }
 
   -- tails of U play no part

@@ -1,6 +1,6 @@
 -- Finite sums in a commutative ring, over the indices below n. Vectors are functions of ℕ and matrices functions of two numbers,
 -- with the bounds apart.
-use Prim.Native.Nat.{ℕ, zero, suc, _-_, _<_}
+use Prim.Native.Nat.{ℕ, zero, suc, _-_, _<_, _≤_}
 use mathlib.Core.Path.{_≡_, refl, sym, _∙_, ap, ap₂}
 use native.Mathlib.Omega.{arith}
 use mathlib.Core.Logic.{ite, if-pos, if-neg}
@@ -70,6 +70,16 @@ module _ {A : Type 0} (R : Ring A) where
       go : (k < n → ((i : ℕ) → i < n → ¬ (i ≡ k) → f i ≡ 𝟘) → sum n f ≡ f k) → Dec (n ≡ k) → sum n f + f n ≡ f k
       go rec (yes q) = ap₂ _+_ (sum-none n f (λ i g. e i (omega arith) (omega arith))) (ap f q) ∙ zero-add R (f k)
       go rec (no q) = ap₂ _+_ (rec (omega arith) (λ i g. e i (omega arith))) (e n (omega arith) q) ∙ add-zero (f k)
+
+  -- all terms from k on are zero
+  pub sum-beyond : (n k : ℕ) (f : ℕ → A) → k ≤ n → ((i : ℕ) → k ≤ i → i < n → f i ≡ 𝟘) → sum n f ≡ sum k f
+  unfolding sum
+  sum-beyond zero k f h e = let none : 0 ≡ k = omega arith in ap (λ i. sum i f) none
+  sum-beyond (suc n) k f h e = go (λ l. sum-beyond n k f l (λ i g l. e i g (omega arith))) (ℕ-discrete k (suc n))
+    where
+      go : (k ≤ n → sum n f ≡ sum k f) → Dec (k ≡ suc n) → sum n f + f n ≡ sum k f
+      go rec (yes q) = ap (λ i. sum i f) (sym q)
+      go rec (no q) = ap₂ _+_ (rec (omega arith)) (e n (omega arith) (omega arith)) ∙ add-zero (sum k f)
 
   -- one term taken out: what is left is the sum with zero in its place
   abbrev pub without : ℕ → (ℕ → A) → ℕ → A

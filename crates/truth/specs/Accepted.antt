@@ -69,12 +69,12 @@ module _ (s : System) (h : Proper s) where
     remainder-list : (j : ℕ) → remainder (modulo p) (column j .0) w ≡ remainder (modulo p) (columnOf s Z j) w
     remainder-list j = ap (λ f. remainder (modulo p) f w) (column-list s h Z hZ j)
 
-    column-divides : (j : ℕ) → remainder (modulo p) (columnOf s Z j) w ≡ [] → Divides p w (columnOf s Z j)
+    pub column-divides : (j : ℕ) → remainder (modulo p) (columnOf s Z j) w ≡ [] → Divides p w (columnOf s Z j)
     unfolding numbers
     column-divides j e = subst (Divides p w) (column-list s h Z hZ j)
         (divides-list p (h .prime) {d = W} {f = column j} (divisionLaws p (h .prime) .remainder-divides (column j) W (equal-numbers p _ _ (remainder-list j ∙ e))))
 
-    divides-column : (j : ℕ) → Divides p w (columnOf s Z j) → remainder (modulo p) (columnOf s Z j) w ≡ []
+    pub divides-column : (j : ℕ) → Divides p w (columnOf s Z j) → remainder (modulo p) (columnOf s Z j) w ≡ []
     unfolding numbers
     divides-column j d = sym (remainder-list j) ∙ ap (λ x. x .0) (divisionLaws p (h .prime) .divides-remainder (column j) W
         (divides-lift p (h .prime) W (column j) (subst (Divides p w) (sym (column-list s h Z hZ j)) d)))

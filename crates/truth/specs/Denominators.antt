@@ -9,7 +9,7 @@ use lib.ListN.{length, getD}
 use Rattle.ring.specs.Ring.{Ring, one-mul}
 use Rattle.ring.specs.Identity.{quotes, identity}
 use Rattle.ring.specs.Combination.{given, combination}
-use Rattle.algebra.specs.Coefficients.{mul, leading, gcd}
+use Rattle.algebra.specs.Coefficients.{mul, leading, gcd, quotient, monic}
 use Rattle.algebra.specs.Sized.{size-positive, size-mul-nonzero, mul-nonzero-left, mul-nonzero-right}
 use Rattle.algebra.specs.Divides.{Divides as DividesIn, divides-refl, divides-equal, divides-trans, divides-mul, divides-combination, divides-size, mul-divides-cancel}
 use Rattle.algebra.specs.Bezout.{Greatest}
@@ -173,6 +173,14 @@ module _ (p : ℕ) (prime : Prime p) where
     unfolding Clears numbers
     denominator-divides d D f hf h = subst (λ x. Divides p x f) (sym (is-own d D))
         (divides-list p prime {d = c} {f = (f, hf)} (clearing (f, hf) (λ j k. divides-lift p prime E ((f, hf) * m j) (h j k))))
+
+  -- of one fraction f/e: "w divided by the greatest common divisor of w and Z·b, made monic"
+  pub single-denominator : (f e : List ℕ) → Canonical p f → Canonical p e → ¬ (e ≡ [])
+      → Denominator p (f ∷ []) e (monic (modulo p) (quotient (modulo p) e (gcd (modulo p) e f)))
+  unfolding AllCanonical common numbers
+  single-denominator f e hf he nonzero =
+      subst (λ x. Denominator p (f ∷ []) e (S .monic (S .quotient (e, he) x) .0)) (gcdLaws p prime .gcd-comm (f, hf) (e, he))
+      (own (f ∷ []) (hf, tt) e he nonzero)
 
   -- "Zero is divisible by everything"
   pub everything-divides-zero : (d : List ℕ) → Divides p d []

@@ -11,3 +11,12 @@ pub mod Denominators
 pub mod Cases
 pub mod Places
 pub mod Prefix
+pub mod Fractions
+pub mod Certified
+pub mod CertifiedLaws
+pub mod CertifiedWords
+pub mod TurnedBack
+pub mod TurnedBackLaws
+pub mod DemandLaws
+pub mod RefusedWords
+pub mod CertifiedTruth

@@ -61,7 +61,7 @@ module _ (s : System) (h : Proper s) where
   cancels = cancel-mul Z/p
 
   -- a rational solution solves the equations over the ring
-  solves : (M : List (List ℕ)) (e : List ℕ) (X : RationalSolution s M e)
+  pub solves : (M : List (List ℕ)) (e : List ℕ) (X : RationalSolution s M e)
       → Solves R (equations s h) (vector p M (X .numerators)) (e, X .divisor)
   unfolding numbers
   solves M e X = record {

@@ -73,15 +73,15 @@ module _ {A : Type 0} (R : Ring A) where
         (λ i k. mul-left-comm R c (Z i) (E .side i) ∙ ap (λ y. Z i * y) (sym (h i k)))
         ∙ sum-assoc R (E .rows) (E .columns) Z (E .entry) x
 
-    -- whatever makes a solution whole is a multiple of d: c·x = e·Q gives A·Q = c·b, so that w divides Z·A·Q = c·(Z·b), d divides c·s
-    -- and so c
-    pub bounds-clearing : (d w : A) (Z : ℕ → A) → Bounds E d w Z → (x : ℕ → A) (e : A) → Solves E x e
-        → (c : A) (Q : ℕ → A) → ((j : ℕ) → j < E .columns → c * x j ≡ e * Q j) → (t : A) × (c ≡ t * d)
-    bounds-clearing d w Z B x e X c Q h = (B .α * c + B .β * Y, whole)
+    -- lemma 6 of document 002: c·x = e·Q gives A·Q = c·b, so that w divides Z·A·Q = c·(Z·b)
+    pub clearing-side : (w : A) (Z q : ℕ → A) → ((j : ℕ) → j < E .columns → columnOf E Z j ≡ w * q j) → (x : ℕ → A) (e : A) → Solves E x e
+        → (c : A) (Q : ℕ → A) → ((j : ℕ) → j < E .columns → c * x j ≡ e * Q j) → c * sideOf E Z ≡ w * sum R (E .columns) (λ j. q j * Q j)
+    clearing-side w Z q columns x e X c Q h =
+        times-row Z c Q row
+        ∙ sum-ext R (E .columns) (λ j. columnOf E Z j * Q j) (λ j. w * (q j * Q j))
+        (λ j k. ap (λ z. z * Q j) (columns j k) ∙ R .mul-assoc w (q j) (Q j))
+        ∙ sum-mul R (E .columns) w (λ j. q j * Q j)
       where
-        Y : A
-        Y = sum R (E .columns) (λ j. B .quotient j * Q j)
-
         row : (i : ℕ) → i < E .rows → rowOf E Q i ≡ c * E .side i
         row i k = cancel-eq e (rowOf E Q i) (c * E .side i) (X .nonzero)
             (sym (sum-mul R (E .columns) e (λ j. E .entry i j * Q j))
@@ -89,11 +89,16 @@ module _ {A : Type 0} (R : Ring A) where
             (λ j l. mul-left-comm R e (E .entry i j) (Q j) ∙ ap (λ z. E .entry i j * z) (sym (h j l)) ∙ mul-left-comm R (E .entry i j) c (x j))
             ∙ sum-mul R (E .columns) c (λ j. E .entry i j * x j) ∙ ap (λ z. c * z) (X .rows i k) ∙ mul-left-comm R c e (E .side i))
 
+    -- whatever makes a solution whole is a multiple of d: w divides c·(Z·b), so that d divides c·s and so c
+    pub bounds-clearing : (d w : A) (Z : ℕ → A) → Bounds E d w Z → (x : ℕ → A) (e : A) → Solves E x e
+        → (c : A) (Q : ℕ → A) → ((j : ℕ) → j < E .columns → c * x j ≡ e * Q j) → (t : A) × (c ≡ t * d)
+    bounds-clearing d w Z B x e X c Q h = (B .α * c + B .β * Y, whole)
+      where
+        Y : A
+        Y = sum R (E .columns) (λ j. B .quotient j * Q j)
+
         both : c * (B .g * B .s) ≡ w * Y
-        both = ap (λ z. c * z) (sym (B .side-is)) ∙ times-row Z c Q row
-            ∙ sum-ext R (E .columns) (λ j. columnOf E Z j * Q j) (λ j. w * (B .quotient j * Q j))
-            (λ j k. ap (λ z. z * Q j) (B .columns j k) ∙ R .mul-assoc w (B .quotient j) (Q j))
-            ∙ sum-mul R (E .columns) w (λ j. B .quotient j * Q j)
+        both = ap (λ z. c * z) (sym (B .side-is)) ∙ clearing-side w Z (B .quotient) (B .columns) x e X c Q h
 
         divided : c * B .s ≡ d * Y
         divided = cancel-eq (B .g) (c * B .s) (d * Y) (B .g-nonzero)

@@ -1,3 +1,4 @@
 pub mod BothRead
 pub mod File
 pub mod FileLaws
+pub mod Checked

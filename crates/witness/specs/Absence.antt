@@ -6,6 +6,7 @@ use mathlib.Core.Logic.{inl, inr, ⊎-elim}
 use mathlib.Core.List.{List}
 use native.Mathlib.Omega.{arith}
 use lib.ListN.{length, getD}
+use Rattle.algebra.specs.Monic.{Monic}
 use Rattle.algebra.specs.Polynomial.{Polynomial, polynomials}
 use Rattle.algebra.specs.Size.{size, sized}
 use Rattle.modular.specs.Prime.{Prime}
@@ -18,7 +19,7 @@ use Rattle.reduction.specs.Replace.{replace-elim}
 use Rattle.reduction.specs.Slots.{Slots, unweighted, tailed}
 use Rattle.reduction.specs.Transpose.{Tops}
 use Rattle.reduction.specs.Polynomials.{euclidean}
-use Rattle.reduction.specs.Absence.{absence, absence-tops, absence-right, absence-sizes}
+use Rattle.reduction.specs.Absence.{absence, absence-tops, absence-right, absence-sizes, absence-killing, absence-at}
 use Rattle.reduction.specs.Holds.{Holds}
 use Rattle.lattice.specs.Word.{words}
 use Rattle.lattice.specs.Memory.{Level, ValidLevel}
@@ -118,6 +119,10 @@ stored-found {p} {n} {h} {L} {w} {rows} prime₀ lanes inside level solved valid
               (S .polynomial) (S .Y) (S .dual) i l,
           last-degrees prime lanes (Q .last) .0,
         );
+        killing = absence-killing (euclidean (residues p prime)) (systemOf p prime n m X) (Q .last) (Q .inserting) (Q .stuck)
+            (S .polynomial) (S .Y) (S .dual);
+        monic = subst (Monic (residues p prime)) (sym (absence-at (euclidean (residues p prime)) (systemOf p prime n m X) (Q .last)
+            (Q .inserting) (Q .stuck) (S .polynomial) (S .Y) (S .dual))) (S .monic);
         holds-q = λ i l. replace-elim (λ i x. i < n → HoldsAt p prime (storedAbsence p n h w rows) i x)
             (λ k. polynomials (residues p prime) .neg (S .Y k)) (Q .stuck .at) (S .polynomial)
             (λ _. subst (λ k. HoldsAt p prime (storedAbsence p n h w rows) k (S .polynomial)) (sym (Q .at))

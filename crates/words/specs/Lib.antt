@@ -26,3 +26,12 @@ pub mod ForwardLaws
 pub mod PlaceLaws
 pub mod PrefixLaws
 pub mod FaultLaws
+pub mod Table
+pub mod FirstFault
+pub mod TableLaws
+pub mod PassLaws
+pub mod CompleteLaws
+pub mod OnTableLaws
+pub mod FirstFaultLaws
+pub mod RefusedLaws
+pub mod TableExamples

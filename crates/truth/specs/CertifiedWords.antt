@@ -1,0 +1,69 @@
+-- Demand 2, first sentence: "The check accepts a card for a sheet exactly when the conditions for a certified solution, or for a
+-- certified absence of solutions, in Mulders and Storjohann hold of it, any stated denominator is monic, and the solution's is in lowest
+-- terms."
+use Prim.Native.Nat.{ℕ}
+use mathlib.Core.Path.{_≡_}
+use mathlib.Core.Logic.{_↔_}
+use mathlib.Core.List.{List, [], _∷_}
+use native.Mathlib.Omega.{arith}
+use Rattle.words.specs.Limits.{Limits}
+use Rattle.words.specs.LimitsLaws.{LimitsFit}
+use Rattle.words.specs.Outcome.Outcome.{accepted}
+use Rattle.words.specs.System.{System, shape, SystemWithin, systemWords}
+use Rattle.words.specs.Certificate.{Certificate, CertificateWithin, certificateWords}
+use Rattle.words.specs.Certificate.Certificate.{solution, absence}
+use Rattle.truth.specs.Right.{Right}
+use Rattle.truth.specs.Verdict.{verdict}
+use Rattle.truth.specs.Accepted.{AcceptedWords, words-of-accepted, accepted-of-words, proper, proper-solution, all-canonical}
+use Rattle.truth.specs.Certified.{Certified}
+use Rattle.truth.specs.CertifiedLaws.{right-iff-certified, absent-iff-certified}
+
+-- the words are the written forms of a system within the limits and of a certificate of which the conditions hold
+pub record CertifiedWords (limits : Limits) (ws cs : List ℕ) : Type 0 where
+  pub system : System
+  pub certificate : Certificate
+  pub system-words : ws ≡ systemWords system
+  pub system-within : SystemWithin limits system
+  pub certificate-words : cs ≡ certificateWords certificate
+  pub certificate-within : CertificateWithin limits (shape system) certificate
+  pub certified : Certified system certificate
+
+module _ (limits : Limits) where
+  -- of values within the limits
+  pub within-certified : (s : System) → SystemWithin limits s → (c : Certificate) → CertificateWithin limits (shape s) c
+      → Right s c ↔ Certified s c
+  unfolding Right Certified CertificateWithin
+  within-certified s h (solution d N w Z) k = right-iff-certified s (proper limits s h) (proper-solution limits s d N w Z k)
+  within-certified s h (absence q) k =
+      absent-iff-certified s (proper limits s h) q (all-canonical (s .modulus) (limits .certificateCoefficients) q (k .entries)) (1 ∷ []) one-nonzero
+    where
+      one-nonzero : ¬ (_≡_ {A = List ℕ} (1 ∷ []) [])
+      one-nonzero e = let z : _≡_ {A = ℕ} 0 1 = cc in omega arith
+
+  pub words-iff-certified : (ws cs : List ℕ) → AcceptedWords limits ws cs ↔ CertifiedWords limits ws cs
+  words-iff-certified ws cs = (
+    λ a. record {
+      system = a .system;
+      certificate = a .certificate;
+      system-words = a .system-words;
+      system-within = a .system-within;
+      certificate-words = a .certificate-words;
+      certificate-within = a .certificate-within;
+      certified = within-certified (a .system) (a .system-within) (a .certificate) (a .certificate-within) .0 (a .right);
+    },
+    λ a. record {
+      system = a .system;
+      certificate = a .certificate;
+      system-words = a .system-words;
+      system-within = a .system-within;
+      certificate-words = a .certificate-words;
+      certificate-within = a .certificate-within;
+      right = within-certified (a .system) (a .system-within) (a .certificate) (a .certificate-within) .1 (a .certified);
+    },
+  )
+
+  pub accepted-iff-certified : LimitsFit limits → (ws cs : List ℕ) → (verdict limits ws cs ≡ accepted tt) ↔ CertifiedWords limits ws cs
+  accepted-iff-certified fit ws cs = (
+    λ e. words-iff-certified ws cs .0 (words-of-accepted limits fit ws cs e),
+    λ a. accepted-of-words limits fit ws cs (words-iff-certified ws cs .1 a),
+  )

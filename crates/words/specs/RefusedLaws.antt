@@ -1,0 +1,255 @@
+-- Refusals of systems and certificates (document 01, "Turned back", rows 1 to 9 and 21 to 29; demand 1 of the notice: "each refusal
+-- has the number and place on the table, and is given under that condition only"): by the table, at the first word at fault.
+use mathlib.Core.Path.{_≡_, refl}
+use mathlib.Core.Bool.{Bool, true, false, not, _&&_, _||_}
+use mathlib.Core.Logic.{_⊎_, inl, inr, ⊎-elim, _↔_}
+use mathlib.Core.Option.{Option, none, some}
+use mathlib.Core.List.{List, _∷_, _++_}
+use Prim.Native.Nat.{ℕ, suc, _/_, _%_, _≤_, _<_}
+use native.Mathlib.Omega.{arith}
+use lib.ListN.{length, getD, take}
+use lib.Dec.{eqb}
+use Rattle.modular.specs.Prime.{prime?}
+use Rattle.modular.specs.Primality.{prime-of-true}
+use Rattle.words.specs.Limits.{Limits}
+use Rattle.words.specs.Word.{kind, payload}
+use Rattle.words.specs.Outcome.{Outcome, refuse}
+use Rattle.words.specs.Outcome.Outcome.{refused}
+use Rattle.words.specs.Reading.{Reading, turnBack}
+use Rattle.words.specs.System.{Shape, ShapeWithin, headShape, sized, systemWords, systemHeadFrom, systemDue, readSystem}
+use Rattle.words.specs.Certificate.{formOf, certificateHeadFrom, certificateDue, certificateWords, readCertificate}
+use Rattle.words.specs.Certificate.Form.{absent}
+use Rattle.words.specs.Bytes.{wordsOf, broken, tooLong, readSystemFile}
+use Rattle.words.specs.LimitsLaws.{LimitsFit}
+use Rattle.words.specs.SystemLaws.{systemFormat, system-laws, system-expressible}
+use Rattle.words.specs.CertificateLaws.{certificateFormat, certificate-laws, certificate-expressible}
+use Rattle.words.specs.Table.{row, numberAt, dueAfter, Passed, ByTable, OnTable}
+use Rattle.words.specs.Table.{systemHeadNumber, certificateHeadNumber, systemTable, certificateTable}
+use Rattle.words.specs.Table.OnTable.{at-head, at-end, behind-head}
+use Rattle.words.specs.Table.Expected.{head}
+use Rattle.words.specs.TableLaws.{turned, HeadWalk}
+use Rattle.words.specs.PassLaws.{none-some}
+use Rattle.words.specs.FirstFault.{SystemBegins, SystemWhole, CertificateBegins, CertificateWhole, FirstFault}
+use Rattle.words.specs.OnTableLaws as place
+use Rattle.words.specs.FirstFaultLaws as first
+use Rattle.words.specs.FirstFaultLaws.{Tabled, Roomy}
+
+-- ---- heads go by their tables
+
+row-turned : {A : Type 0} (b : Bool) (number : ℕ) (ws : List ℕ) (next : Reading A) (below : Option ℕ) (other : Reading A)
+    → next ≡ turned below ws other → turnBack b number ws next ≡ turned (row b number below) ws other
+row-turned true number ws next below other h = refl
+row-turned false number ws next below other h = h
+
+system-heads : (limits : Limits) → HeadWalk (systemHeadFrom limits) (systemDue limits) (systemTable limits) 0
+unfolding systemHeadFrom systemHeadNumber
+system-heads limits =
+    record {
+      value = headShape;
+      missing = refl;
+      word = λ w ws.
+          row-turned (not (eqb (kind w) 1 && eqb (w / 16777216 % 16) 0)) 1 (w ∷ ws) _ _ _
+          (row-turned (not (prime? (headShape w .modulus))) 2 (w ∷ ws) _ _ _
+          (row-turned (not (sized limits (headShape w))) 3 (w ∷ ws) _ none _ refl));
+      says = λ w. refl;
+    }
+
+certificate-heads : (limits : Limits) (h : Shape) → HeadWalk certificateHeadFrom (certificateDue limits h) (certificateTable limits h) 20
+unfolding certificateHeadFrom certificateHeadNumber
+certificate-heads limits h =
+    record {
+      value = λ w. formOf (eqb (payload w) 1);
+      missing = refl;
+      word = λ w ws. row-turned (not (eqb (kind w) 5 && (eqb (payload w) 1 || eqb (payload w) 2))) 21 (w ∷ ws) _ none _ refl;
+      says = λ w. refl;
+    }
+
+system-head-numbers : (limits : Limits) (w n : ℕ) → systemHeadNumber limits w ≡ some n → (1 ≤ n) × (n ≤ 3)
+unfolding systemHeadNumber
+system-head-numbers limits w n h =
+    head-row (not (eqb (kind w) 1 && eqb (w / 16777216 % 16) 0)) 1 _ (omega arith)
+    (head-row (not (prime? (headShape w .modulus))) 2 _ (omega arith)
+    (head-row (not (sized limits (headShape w))) 3 none (omega arith) (λ e. absurd (none-some e)))) h
+  where
+    head-row : (b : Bool) (i : ℕ) (below : Option ℕ) → (1 ≤ i) × (i ≤ 3) → (below ≡ some n → (1 ≤ n) × (n ≤ 3))
+        → row b i below ≡ some n → (1 ≤ n) × (n ≤ 3)
+    head-row true i below l k e = let same : i ≡ n = cc in (omega arith, omega arith)
+    head-row false i below l k e = k e
+
+certificate-head-numbers : (w n : ℕ) → certificateHeadNumber w ≡ some n → (21 ≤ n) × (n ≤ 21)
+unfolding certificateHeadNumber
+certificate-head-numbers w n h = head-row (not (eqb (kind w) 5 && (eqb (payload w) 1 || eqb (payload w) 2))) h
+  where
+    head-row : (b : Bool) → row b 21 none ≡ some n → (21 ≤ n) × (n ≤ 21)
+    head-row true e = let same : 21 ≡ n = cc in (omega arith, omega arith)
+    head-row false e = absurd (none-some e)
+
+-- ---- systems
+
+module _ (limits : Limits) where
+  abbrev system-tabled : Tabled (systemFormat limits)
+  system-tabled = record { table = systemTable limits; heads = system-heads limits }
+
+  -- A system's words are refused just by the table: the number is that of the first row that the word at the place breaks, by what is
+  -- due there, and no word before it breaks one.
+  pub system-refused-iff : (ws : List ℕ) (n k : ℕ) → (readSystem limits ws ≡ refused n k) ↔ ByTable (systemTable limits) 0 ws n k
+  unfolding readSystem
+  system-refused-iff ws n k = first.refused-iff (systemFormat limits) system-tabled ws n k
+
+  -- the same of the word at the place
+  pub system-number : (ws : List ℕ) {n k : ℕ} → readSystem limits ws ≡ refused n k → k < length ws
+      → numberAt (systemTable limits) 0 (dueAfter (systemTable limits) head (take k ws)) (suc k) (getD ws k 0) ≡ some n
+  system-number ws {n} {k} e more = place.row-at-word (systemTable limits) 0 ws (system-refused-iff ws n k .0 e) more
+
+  -- 1 to 3 at 0, 4 at the number of words, 5 to 9 at a word behind the head
+  pub system-on-table : (ws : List ℕ) {n k : ℕ} → readSystem limits ws ≡ refused n k → OnTable 1 3 0 ws n k
+  system-on-table ws {n} {k} e =
+      place.on-table (systemTable limits) 0 1 3 (system-head-numbers limits) ws (system-refused-iff ws n k .0 e)
+
+  -- a first fault has one place
+  pub system-fault-once : (ws : List ℕ) {n k m j : ℕ} → FirstFault (SystemBegins limits) (SystemWhole limits) 4 ws n k
+      → FirstFault (SystemBegins limits) (SystemWhole limits) 4 ws m j → k ≡ j
+  unfolding SystemBegins SystemWhole systemWords
+  system-fault-once ws f g = first.first-fault-once (systemFormat limits) ws f g
+
+  module _ (fit : LimitsFit limits) where
+    system-roomy : Roomy (systemFormat limits)
+    system-roomy =
+        record { laws = system-laws limits fit; expressible = system-expressible limits fit; two = λ h w. w .prime .large }
+
+    -- "or words follow, the first of them"
+    pub system-words-follow : (ws : List ℕ) → SystemWhole limits ws → (u : ℕ) (us : List ℕ)
+        → readSystem limits (ws ++ u ∷ us) ≡ refused 9 (length ws)
+    unfolding SystemWhole systemWords readSystem
+    system-words-follow ws t u us =
+        first.words-follow (systemFormat limits) system-tabled system-roomy ws t u us
+
+    -- where there is a system at all: without one, no words begin any
+    module _ (rows : 1 ≤ limits .rows) (columns : 1 ≤ limits .columns) where
+      smallest : Shape
+      smallest = record { modulus = 2; rows = 1; columns = 1 }
+
+      smallest-within : ShapeWithin limits smallest
+      unfolding smallest prime?
+      smallest-within =
+          record { prime = prime-of-true 2 refl; modulus = omega arith; rows = (omega arith, rows); columns = (omega arith, columns) }
+
+      -- words begin a system just where none of them breaks a row
+      pub system-begins-iff : (us : List ℕ) → SystemBegins limits us ↔ Passed (systemTable limits) 0 0 head us
+      unfolding SystemBegins systemWords
+      system-begins-iff us =
+          first.begins-iff (systemFormat limits) system-tabled system-roomy smallest smallest-within us
+
+      -- the first word at fault decides
+      pub system-first-fault : (ws : List ℕ) {n k : ℕ} → readSystem limits ws ≡ refused n k
+          → FirstFault (SystemBegins limits) (SystemWhole limits) 4 ws n k
+      unfolding SystemBegins SystemWhole systemWords readSystem
+      system-first-fault ws e =
+          first.first-fault (systemFormat limits) system-tabled system-roomy smallest smallest-within ws e
+
+      -- 4, "a word is missing": just of words that begin a system and are none
+      pub system-missing-iff : (ws : List ℕ)
+          → (readSystem limits ws ≡ refused 4 (length ws)) ↔ (SystemBegins limits ws × ¬ SystemWhole limits ws)
+      unfolding SystemBegins SystemWhole systemWords readSystem
+      system-missing-iff ws =
+          first.missing-iff (systemFormat limits) system-tabled system-roomy smallest smallest-within ws
+
+-- ---- certificates for a system of the shape h
+
+module _ (limits : Limits) (h : Shape) where
+  abbrev certificate-tabled : Tabled (certificateFormat limits h)
+  certificate-tabled = record { table = certificateTable limits h; heads = certificate-heads limits h }
+
+  pub certificate-refused-iff : (cs : List ℕ) (n k : ℕ)
+      → (readCertificate limits h cs ≡ refused n k) ↔ ByTable (certificateTable limits h) 20 cs n k
+  unfolding readCertificate
+  certificate-refused-iff cs n k =
+      first.refused-iff (certificateFormat limits h) certificate-tabled cs n k
+
+  pub certificate-number : (cs : List ℕ) {n k : ℕ} → readCertificate limits h cs ≡ refused n k → k < length cs
+      → numberAt (certificateTable limits h) 20 (dueAfter (certificateTable limits h) head (take k cs)) (suc k) (getD cs k 0) ≡ some n
+  certificate-number cs {n} {k} e more =
+      place.row-at-word (certificateTable limits h) 20 cs (certificate-refused-iff cs n k .0 e) more
+
+  -- 21 at 0, 24 at the number of words, 25 to 29 at a word behind the head
+  pub certificate-on-table : (cs : List ℕ) {n k : ℕ} → readCertificate limits h cs ≡ refused n k → OnTable 21 21 20 cs n k
+  certificate-on-table cs {n} {k} e =
+      place.on-table (certificateTable limits h) 20 21 21 certificate-head-numbers cs (certificate-refused-iff cs n k .0 e)
+
+  pub certificate-fault-once : (cs : List ℕ) {n k m j : ℕ}
+      → FirstFault (CertificateBegins limits h) (CertificateWhole limits h) 24 cs n k
+      → FirstFault (CertificateBegins limits h) (CertificateWhole limits h) 24 cs m j → k ≡ j
+  unfolding CertificateBegins CertificateWhole certificateWords
+  certificate-fault-once cs f g = first.first-fault-once (certificateFormat limits h) cs f g
+
+  module _ (fit : LimitsFit limits) (shape : ShapeWithin limits h) where
+    certificate-roomy : Roomy (certificateFormat limits h)
+    certificate-roomy =
+        record {
+          laws = certificate-laws limits h;
+          expressible = certificate-expressible limits h fit shape;
+          two = λ form _. shape .prime .large;
+        }
+
+    pub certificate-words-follow : (cs : List ℕ) → CertificateWhole limits h cs → (u : ℕ) (us : List ℕ)
+        → readCertificate limits h (cs ++ u ∷ us) ≡ refused 29 (length cs)
+    unfolding CertificateWhole certificateWords readCertificate
+    certificate-words-follow cs t u us =
+        first.words-follow (certificateFormat limits h) certificate-tabled certificate-roomy cs t u us
+
+    pub certificate-begins-iff : (us : List ℕ) → CertificateBegins limits h us ↔ Passed (certificateTable limits h) 20 0 head us
+    unfolding CertificateBegins certificateWords
+    certificate-begins-iff us =
+        first.begins-iff (certificateFormat limits h) certificate-tabled certificate-roomy absent tt us
+
+    pub certificate-first-fault : (cs : List ℕ) {n k : ℕ} → readCertificate limits h cs ≡ refused n k
+        → FirstFault (CertificateBegins limits h) (CertificateWhole limits h) 24 cs n k
+    unfolding CertificateBegins CertificateWhole certificateWords readCertificate
+    certificate-first-fault cs e =
+        first.first-fault (certificateFormat limits h) certificate-tabled certificate-roomy absent tt cs e
+
+    pub certificate-missing-iff : (cs : List ℕ)
+        → (readCertificate limits h cs ≡ refused 24 (length cs)) ↔ (CertificateBegins limits h cs × ¬ CertificateWhole limits h cs)
+    unfolding CertificateBegins CertificateWhole certificateWords readCertificate
+    certificate-missing-iff cs =
+        first.missing-iff (certificateFormat limits h) certificate-tabled certificate-roomy absent tt cs
+
+-- ---- files: "Number 10 comes before all others."
+
+ten-or : {A : Type 0} (b : Bool) (o : Outcome A) (n k : ℕ)
+    → (refuse b 10 0 o ≡ refused n k) ↔ (((b ≡ true) × (n ≡ 10) × (k ≡ 0)) ⊎ ((b ≡ false) × (o ≡ refused n k)))
+ten-or {A} true o n k =
+    (λ e. inl (refl, cc, cc), ⊎-elim (λ t. let en = t .1 in let ek = t .2 in cc) (λ t. let z = t .0 in cc))
+ten-or false o n k = (λ e. inr (refl, e), ⊎-elim (λ t. let z = t .0 in cc) (λ t. t .1))
+
+-- 10 at 0 just of a file that is not a multiple of four bytes, or too long; of any other file, what its words are refused by
+pub file-refused-iff : (limits : Limits) (file : List ℕ) (n k : ℕ) → (readSystemFile limits file ≡ refused n k)
+    ↔ (((broken file || tooLong limits file ≡ true) × (n ≡ 10) × (k ≡ 0))
+    ⊎ ((broken file || tooLong limits file ≡ false) × ByTable (systemTable limits) 0 (wordsOf file) n k))
+unfolding readSystemFile
+file-refused-iff limits file n k =
+    let ten = ten-or (broken file || tooLong limits file) (readSystem limits (wordsOf file)) n k in
+    let words = system-refused-iff limits (wordsOf file) n k in (
+      λ e. ⊎-elim inl (λ t. inr (t .0, words .0 (t .1))) (ten .0 e),
+      ⊎-elim (λ t. ten .1 (inl t)) (λ t. ten .1 (inr (t .0, words .1 (t .1)))),
+    )
+
+-- ---- the numbers alone
+
+pub system-numbers : (limits : Limits) (ws : List ℕ) {n k : ℕ} → readSystem limits ws ≡ refused n k
+    → (1 ≤ n) × (n ≤ 9)
+system-numbers limits ws {n} e = of-row (system-on-table limits ws e)
+  where
+    of-row : {place : ℕ} → OnTable 1 3 0 ws n place → (1 ≤ n) × (n ≤ 9)
+    of-row (at-head l h _ _) = (omega arith, omega arith)
+    of-row (at-end m _) = (omega arith, omega arith)
+    of-row (behind-head l h _ _) = (omega arith, omega arith)
+
+pub certificate-numbers : (limits : Limits) (h : Shape) (cs : List ℕ) {n k : ℕ} → readCertificate limits h cs ≡ refused n k
+    → (n ≡ 21) ⊎ ((24 ≤ n) × (n ≤ 29))
+certificate-numbers limits h cs {n} e = of-row (certificate-on-table limits h cs e)
+  where
+    of-row : {place : ℕ} → OnTable 21 21 20 cs n place → (n ≡ 21) ⊎ ((24 ≤ n) × (n ≤ 29))
+    of-row (at-head l m _ _) = inl (omega arith)
+    of-row (at-end m _) = inr (omega arith, omega arith)
+    of-row (behind-head l m _ _) = inr (omega arith, omega arith)
