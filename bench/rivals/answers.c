@@ -1,4 +1,4 @@
-// Prints the lines of a stored test set (tests/data, form in tests/reference/README.md) as the rivals answer them:
+// Prints the lines of a stored set (as tests/reference/split writes it) as the rivals answer them:
 // answers systems|certificates|verdicts|solutions < SET.stdin. For solutions each certificate must also pass the check.
 #include <stdio.h>
 #include <stdlib.h>

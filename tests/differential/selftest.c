@@ -1,4 +1,4 @@
-// The reference against the stored sets of tests/data: selftest FOLDER. The form of the sets is in tests/reference/README.md.
+// The reference against the stored sets that tests/reference/split writes to a folder: selftest FOLDER.
 #include <stdio.h>
 #include <stdlib.h>
 #include <string.h>
@@ -143,7 +143,7 @@ static uint32_t try_set(const char *folder, const char *name, void try(struct se
 
 int main(int count, char **argument)
 {
-    const char *folder = count == 2 ? argument[1] : "tests/data";
+    const char *folder = count == 2 ? argument[1] : "target/differential/stored";
     uint32_t solutions = try_set(folder, "solutions", try_solution);
     uint32_t systems = try_set(folder, "systems", try_system);
     uint32_t verdicts = try_set(folder, "verdicts", try_verdict);

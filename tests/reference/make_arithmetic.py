@@ -6,7 +6,7 @@ Exact quotients get the product and the divisor, so that only the division is at
 
 import polynomial as poly
 import residue
-from cases import CaseSet
+from cases import ARITHMETIC, CaseSet
 from draws import Draws
 from samples import PRIMES, exact, prime, up_to
 
@@ -122,9 +122,9 @@ def zeros(cases):
         cases.add([[SCALE, p, 0, 2, 1, 1]], "zero")
 
 
-def main():
-    """Make and store the set."""
-    cases, draws = CaseSet("arithmetic", 600), Draws(0x0A)
+def make():
+    """Make the set."""
+    cases, draws = CaseSet("arithmetic", ARITHMETIC, 600), Draws(0x0A)
     primality(cases, draws)
     residues(cases, draws)
     zeros(cases)
@@ -135,8 +135,4 @@ def main():
         products(cases, draws, p, 121, 16)
     for p in (2, 257, 65521):
         largest(cases, draws, p)
-    cases.store()
-
-
-if __name__ == "__main__":
-    main()
+    return cases

@@ -5,7 +5,7 @@ Systems are at most 4,904 bytes long here and byte counts are multiples of four,
 
 import examples
 import words as form
-from cases import CaseSet
+from cases import CERTIFICATE, CaseSet
 from damage import damaged, noise
 from draws import Draws
 from samples import STRUCTURES, exact, prime, shapes, up_to, vector
@@ -104,9 +104,9 @@ def other_system(cases, draws):
         add(cases, write_system(second), write_certificate(random_certificate(draws, first, 3), first))
 
 
-def main():
-    """Make and store the set."""
-    cases, draws = CaseSet("certificates", 1200), Draws(0x0C)
+def make():
+    """Make the set."""
+    cases, draws = CaseSet("certificates", CERTIFICATE, 1200), Draws(0x0C)
     from_document(cases)
     heads(cases)
     lengths(cases, draws)
@@ -119,8 +119,4 @@ def main():
         add(cases, examples.SYSTEM_1_WORDS, examples.CERTIFICATE_1_WORDS[:length])
     cases.require([21] + list(range(24, 30)), 20)
     cases.require(range(1, 10), 3)
-    cases.store()
-
-
-if __name__ == "__main__":
-    main()
+    return cases

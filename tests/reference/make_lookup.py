@@ -3,7 +3,7 @@
 
 import examples
 import words as form
-from cases import CaseSet
+from cases import LOOKUP, CaseSet
 from damage import damaged
 from draws import Draws
 from lookup import IN_CERTIFICATE, IN_SYSTEM
@@ -55,9 +55,9 @@ def longest(cases):
         add(cases, write_system(system), write_certificate(certificate, system), side, number)
 
 
-def main():
-    """Make and store the set."""
-    cases, draws = CaseSet("lookup", 300), Draws(0x0D)
+def make():
+    """Make the set."""
+    cases, draws = CaseSet("lookup", LOOKUP, 300), Draws(0x0D)
     for number in (0, 1, 2, 7):
         all_numbers(cases, *examples.CASES[number][1:3])
     all_numbers(cases, System(3, [[[], [1]], [[0, 2], []]], [[], [1, 1, 1]]), Absence([[], [0, 0, 1]]))
@@ -68,8 +68,4 @@ def main():
     random_numbers(cases, draws)
     longest(cases)
     cases.require([12], 20)
-    cases.store()
-
-
-if __name__ == "__main__":
-    main()
+    return cases

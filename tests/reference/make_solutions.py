@@ -6,7 +6,7 @@ with the formula by minors.
 
 import examples
 import words as form
-from cases import CaseSet
+from cases import REPORT, CaseSet
 from check import check_words
 from damage import damaged
 from draws import Draws
@@ -112,9 +112,9 @@ def refused(cases, draws):
         add_bytes(cases, bytes_of_words(damaged(draws, words, p, form.SYSTEM_LIMIT)))
 
 
-def main():
-    """Make and store the set."""
-    cases, draws = CaseSet("solutions", 500), Draws(0x0F)
+def make():
+    """Make the set."""
+    cases, draws = CaseSet("solutions", REPORT, 500), Draws(0x0F)
     from_document(cases)
     all_shapes(cases, draws)
     long_polynomials(cases, draws)
@@ -124,8 +124,4 @@ def main():
     refused(cases, draws)
     every_rank(cases, Draws(0x10))
     long_and_low(cases, Draws(0x11))
-    cases.store()
-
-
-if __name__ == "__main__":
-    main()
+    return cases

@@ -2,7 +2,7 @@
 
 import examples
 import words as form
-from cases import CaseSet
+from cases import SYSTEM_FILE, CaseSet
 from damage import damaged, noise
 from draws import Draws
 from samples import STRUCTURES, exact, prime, shapes
@@ -88,9 +88,9 @@ def small_and_long(cases, draws):
         add_words(cases, damaged(draws, words, p, form.SYSTEM_LIMIT))
 
 
-def main():
-    """Make and store the set."""
-    cases, draws = CaseSet("systems", 1000), Draws(0x0B)
+def make():
+    """Make the set."""
+    cases, draws = CaseSet("systems", SYSTEM_FILE, 1000), Draws(0x0B)
     from_document(cases)
     heads(cases, draws)
     byte_counts(cases, draws)
@@ -102,8 +102,4 @@ def main():
     for length in range(len(words)):
         add_words(cases, words[:length])
     cases.require(range(1, 11), 12)
-    cases.store()
-
-
-if __name__ == "__main__":
-    main()
+    return cases

@@ -6,7 +6,7 @@ Systems are at most 4,904 bytes long here and byte counts are multiples of four,
 import examples
 import polynomial as poly
 import words as form
-from cases import CaseSet
+from cases import CHECK, CaseSet
 from check import check_values
 from damage import damaged
 from draws import Draws
@@ -161,9 +161,9 @@ def damaged_words(cases, draws):
         add_words(cases, system_words, certificate_words)
 
 
-def main():
-    """Make and store the set."""
-    cases, draws = CaseSet("verdicts", 2000), Draws(0x0E)
+def make():
+    """Make the set."""
+    cases, draws = CaseSet("verdicts", CHECK, 2000), Draws(0x0E)
     from_document(cases)
     all_shapes(cases, draws)
     small_shapes(cases, draws)
@@ -171,8 +171,4 @@ def main():
     large(cases, draws)
     damaged_words(cases, draws)
     cases.require(range(31, 37), 40)
-    cases.store()
-
-
-if __name__ == "__main__":
-    main()
+    return cases

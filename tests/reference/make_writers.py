@@ -7,7 +7,7 @@ its coefficients follow. The answer is `wrote COUNT` and the words, or a refusal
 
 import examples
 import words as form
-from cases import CaseSet
+from cases import WRITER, CaseSet
 from draws import Draws
 from make_certificates import random_certificate
 from samples import STRUCTURES, exact, generic, prime, shapes
@@ -124,9 +124,9 @@ def wide_coefficients(cases):
             add(cases, kind, 65521, 1, 1, ENOUGH[kind], [(0, [])] * (count - 1) + [(2, [a, 1])])
 
 
-def main():
-    """Make and store the set."""
-    cases, draws = CaseSet("writers", 300), Draws(0x10)
+def make():
+    """Make the set."""
+    cases, draws = CaseSet("writers", WRITER, 300), Draws(0x10)
     from_document(cases)
     whole(cases, draws)
     shape_faults(cases, draws)
@@ -134,8 +134,4 @@ def main():
     lengths(cases, draws)
     wide_coefficients(cases)
     cases.require([2, 3, 6, 7, 8, 11, 26, 27, 28], 8)
-    cases.store()
-
-
-if __name__ == "__main__":
-    main()
+    return cases

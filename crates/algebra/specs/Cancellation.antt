@@ -1,5 +1,5 @@
 -- One step of a division: the multiple c·x^k of y that takes the leading coefficient off x.
-use Prim.Native.Nat.{ℕ, zero, suc, _<_, _≤_, _-_}
+use Prim.Native.Nat.{ℕ, suc, _<_, _≤_, _-_}
 use mathlib.Core.Path.{_≡_, sym, _∙_, ap, ap₂}
 use native.Mathlib.Omega.{arith}
 use native.Mathlib.Decide.{ℕ-discrete}

@@ -1,29 +1,42 @@
-// cardcheck SHEET CARD: prints whether the card (a certificate) in the one file is accepted for the sheet (a system) in the other, or
-// the number and the place of the refusal. Whatever else there is to say is a line of its own, on standard output too.
+// cardcheck SHEET CARD: prints whether the card (a certificate) in the one file is accepted for the sheet (a system) in the other,
+// or the number and the place of the refusal. Whatever else there is to say is a line of its own, on standard output too.
 mod file;
 
-use cases::output::refused;
-use cases::output::text;
+use answers::Refusal;
+use answers::Verdict;
 use file::read_file;
+use libc::STDOUT_FILENO;
 use limits::Office;
-use verifier::Verdict;
+use report_text::SPACE as REPORT;
+use report_text::write_refusal;
 use verifier::file::check_files;
 
-// Two words more than the longest card has. A file that fills it is cut to one word more, on which the verdict is that on all, and as
-// many bytes as are behind its last whole word.
+// Two words more than the longest card has. A file that fills it is cut to one word more, on which the verdict is that on all, and
+// as many bytes as are behind its last whole word.
 const SPACE: usize = 4 * (Office::CERTIFICATE_WORDS + 2);
 
-// A line about a file.
+fn text(bytes: &[u8]) {
+    io::write_all(STDOUT_FILENO, bytes);
+}
+
+// Prints a line about a file.
 fn say(what: &[u8], name: &[u8]) {
     text(what);
     text(name);
     text(b"\n");
 }
 
+// Prints a refusal, as the report does.
+fn refuse(refusal: Refusal) {
+    let mut line = [0u8; REPORT];
+    let n = write_refusal(&mut line, refusal);
+    text(&line[0..n]);
+}
+
 fn show(verdict: Verdict) {
     match verdict {
         Verdict::Accepted => text(b"accepted\n"),
-        Verdict::Refused(refusal, place) => refused(refusal, place),
+        Verdict::Refused(refusal) => refuse(refusal),
     }
 }
 

@@ -22,7 +22,7 @@ use Rattle.truth.specs.RefusedWords.{FaultyWords, faulty-refused, refused-cases
 use Rattle.truth.specs.DemandLaws.{Says, Agree}
 use Rattle.verifier.specs.File.{filesBroken, fileVerdict}
 use Rattle.verifier.specs.Checked.{CertifiedFiles, whole-files, bytes-verdict, files-iff-certified, files-say, files-agree}
-use Rattle.link.specs.Packed.{packedVerdict}
+use Rattle.answers.specs.Packed.{packedVerdict}
 use Rattle.link.specs.NumberLaws.{Refusals, system-numbers, certificate-numbers, check-numbers}
 
 -- ---- words

@@ -1,5 +1,10 @@
-pub mod NumberLaws
+-- interface: the three demands; what the exported calls give, as one number
+pub mod Theorems
 pub mod Packed
+-- what that number means: taken apart, of two files, of the two calls together
 pub mod PackedLaws
-pub mod Together
 pub mod Checked
+pub mod Together
+-- inside: the numbers of refusals; the solver and the check on files
+pub mod NumberLaws
+pub mod FileLaws

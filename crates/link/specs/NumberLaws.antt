@@ -1,30 +1,25 @@
 -- The numbers of refusals are those of document 01's table: 1 to 9 of a system's words, 10 of a file, 11 of what is lent, 21 to 29
 -- of a certificate's words, 31 to 36 of what it says. They stand here, and not with the definitions they speak of, because only
 -- packing asks how large a number is.
-use Prim.Native.Nat.{ℕ, zero, suc, _+_, _-_, _*_, _/_, _%_, _≤_}
+use Prim.Native.Nat.{ℕ, zero, suc, _-_, _*_, _≤_}
 use mathlib.Core.Path.{_≡_, refl, sym, _∙_}
-use mathlib.Core.Bool.{Bool, true, false, not, _&&_, _||_}
-use mathlib.Core.List.{List, [], _∷_}
+use mathlib.Core.Logic.{_⊎_, inl, inr}
+use mathlib.Core.Bool.{Bool, true, false, not, _||_}
+use mathlib.Core.List.{List}
 use native.Mathlib.Nat.{le-trans}
 use native.Mathlib.Omega.{arith}
 use lib.ListN.{length}
-use lib.Dec.{eqb, leb, ltb}
+use lib.Dec.{ltb}
 use Rattle.algebra.specs.Coefficients.{mul, remainder}
 use Rattle.modular.specs.Modulo.{modulo}
-use Rattle.modular.specs.Prime.{prime?}
 use Rattle.words.specs.Limits.{Limits, longestCertificate}
-use Rattle.words.specs.Word.{kind, payload}
 use Rattle.words.specs.Outcome.{Outcome, refuse, followedBy}
 use Rattle.words.specs.Outcome.Outcome.{accepted, refused}
 use Rattle.words.specs.OutcomeLaws.{refused-accepted}
-use Rattle.words.specs.Reading.{Reading, turnBack, andThen, renumber, outcome}
-use Rattle.words.specs.Reading.Reading.{read, fault}
-use Rattle.words.specs.ReadingLaws.{fault-read}
-use Rattle.words.specs.Polynomial.{coefficientsFrom, polynomialFrom, polynomialsFrom}
-use Rattle.words.specs.Frame.{Due, nothingFrom, endFrom, bodyFrom, framedFrom}
-use Rattle.words.specs.System.{System, Shape, shape, rightSide, headShape, sized, systemHeadFrom, systemDue, systemFrom, readSystem}
+use Rattle.words.specs.System.{System, Shape, shape, rightSide, readSystem}
+use Rattle.words.specs.RefusedLaws as reading
 use Rattle.words.specs.Bytes.{wordsOf, broken, tooLong, readSystemFile}
-use Rattle.words.specs.Certificate.{Certificate, certificateHeadFrom, certificateDue, certificateFrom, readCertificate}
+use Rattle.words.specs.Certificate.{Certificate, readCertificate}
 use Rattle.words.specs.Certificate.Certificate.{solution, absence}
 use Rattle.truth.specs.Solution.{rowOf, columnOf, sideOf}
 use Rattle.truth.specs.Right.{certified}
@@ -34,107 +29,6 @@ use Rattle.solver.specs.Solving.{fileToSolve, certificateBytes, SolvesOr, Solve
 
 abbrev pub Between : (low high number : ℕ) → Type 0
 Between low high number = (low ≤ number) × (number ≤ high)
-
--- ---- readings
-
--- a refusal's number is between these
-pub record Faults {A : Type 0} (low high : ℕ) (r : Reading A) : Type 0 where
-  pub numbers : (number : ℕ) (ws : List ℕ) → r ≡ fault number ws → Between low high number
-
-module _ {low high : ℕ} where
-  faults-read : {A : Type 0} (a : A) (rest : List ℕ) → Faults low high (read a rest)
-  faults-read a rest = record { numbers = λ number ws e. absurd (fault-read (sym e)) }
-
-  faults-fault : {A : Type 0} (number : ℕ) (ws : List ℕ) → low ≤ number → number ≤ high → Faults {A = A} low high (fault number ws)
-  faults-fault number ws l h = record { numbers = λ n us e. let same : number ≡ n = cc in (omega arith, omega arith) }
-
-  faults-row : {A : Type 0} (b : Bool) (number : ℕ) (ws : List ℕ) (next : Reading A) → low ≤ number → number ≤ high
-      → Faults low high next → Faults low high (turnBack b number ws next)
-  faults-row true number ws next l h k = faults-fault number ws l h
-  faults-row false number ws next l h k = k
-
-  faults-then : {A B : Type 0} (r : Reading A) (next : A → List ℕ → Reading B) → Faults low high r
-      → ((a : A) (rest : List ℕ) → Faults low high (next a rest)) → Faults low high (andThen r next)
-  faults-then (read a rest) next h k = k a rest
-  faults-then (fault number ws) next h k =
-      let l = h .numbers number ws refl in
-      faults-fault number ws (l .0) (l .1)
-
-  faults-renumber : {A : Type 0} (by least most : ℕ) (r : Reading A) → low ≤ least + by → most + by ≤ high → Faults least most r
-      → Faults low high (renumber by r)
-  faults-renumber by least most (read a rest) l h k = faults-read a rest
-  faults-renumber by least most (fault number ws) l h k =
-      let n = k .numbers number ws refl in
-      faults-fault (number + by) ws (omega arith) (omega arith)
-
-coefficients-faults : (p due : ℕ) (ws : List ℕ) → Faults 4 9 (coefficientsFrom p due ws)
-unfolding coefficientsFrom
-coefficients-faults p zero ws = faults-read _ _
-coefficients-faults p (suc due) [] = faults-fault 4 [] (omega arith) (omega arith)
-coefficients-faults p (suc due) (w ∷ ws) =
-    faults-row (not (eqb (kind w) 3)) 5 _ _ (omega arith) (omega arith)
-    (faults-row (leb p (payload w)) 7 _ _ (omega arith) (omega arith)
-    (faults-row (eqb due 0 && eqb (payload w) 0) 8 _ _ (omega arith) (omega arith)
-    (faults-then (coefficientsFrom p due ws) _ (coefficients-faults p due ws) (λ f rest. faults-read _ _))))
-
-polynomial-faults : (p limit : ℕ) (ws : List ℕ) → Faults 4 9 (polynomialFrom p limit ws)
-unfolding polynomialFrom
-polynomial-faults p limit [] = faults-fault 4 [] (omega arith) (omega arith)
-polynomial-faults p limit (w ∷ ws) =
-    faults-row (not (eqb (kind w) 2)) 5 _ _ (omega arith) (omega arith)
-    (faults-row (ltb limit (payload w)) 6 _ _ (omega arith) (omega arith)
-    (coefficients-faults p (payload w) ws))
-
-polynomials-faults : (p limit count : ℕ) (ws : List ℕ) → Faults 4 9 (polynomialsFrom p limit count ws)
-unfolding polynomialsFrom
-polynomials-faults p limit zero ws = faults-read _ _
-polynomials-faults p limit (suc count) ws =
-    faults-then (polynomialFrom p limit ws) _ (polynomial-faults p limit ws) (λ f rest.
-    faults-then (polynomialsFrom p limit count rest) _ (polynomials-faults p limit count rest) (λ fs rest′. faults-read _ _))
-
-nothing-faults : (ws : List ℕ) → Faults 4 9 (nothingFrom ws)
-nothing-faults [] = faults-read _ _
-nothing-faults (w ∷ ws) = faults-fault 9 _ (omega arith) (omega arith)
-
-end-faults : (total : ℕ) (ws : List ℕ) → Faults 4 9 (endFrom total ws)
-unfolding endFrom
-end-faults total [] = faults-fault 4 [] (omega arith) (omega arith)
-end-faults total (w ∷ ws) =
-    faults-row (not (eqb (kind w) 4)) 5 _ _ (omega arith) (omega arith)
-    (faults-row (not (eqb (payload w) (total - length ws))) 9 _ _ (omega arith) (omega arith)
-    (nothing-faults ws))
-
-body-faults : (due : Due) (total : ℕ) (ws : List ℕ) → Faults 4 9 (bodyFrom due total ws)
-unfolding bodyFrom
-body-faults due total ws =
-    faults-then (polynomialsFrom (due .modulus) (due .limit) (due .count) ws) _
-    (polynomials-faults (due .modulus) (due .limit) (due .count) ws) (λ fs rest.
-    faults-then (endFrom total rest) _ (end-faults total rest) (λ _ rest′. faults-read _ _))
-
-framed-faults : {H : Type 0} (low high by : ℕ) (headFrom : List ℕ → Reading H) (due : H → Due) (ws : List ℕ) → low ≤ 4 + by
-    → 9 + by ≤ high → Faults low high (headFrom ws) → Faults low high (framedFrom by headFrom due ws)
-unfolding framedFrom
-framed-faults low high by headFrom due ws l h k =
-    faults-then (headFrom ws) _ k (λ head rest.
-    faults-then (renumber by (bodyFrom (due head) (length ws) rest)) _
-    (faults-renumber by 4 9 (bodyFrom (due head) (length ws) rest) l h (body-faults (due head) (length ws) rest))
-    (λ fs rest′. faults-read _ _))
-
-system-head-faults : (limits : Limits) (ws : List ℕ) → Faults 1 9 (systemHeadFrom limits ws)
-unfolding systemHeadFrom
-system-head-faults limits [] = faults-fault 4 [] (omega arith) (omega arith)
-system-head-faults limits (w ∷ ws) =
-    faults-row (not (eqb (kind w) 1 && eqb (w / 16777216 % 16) 0)) 1 _ _ (omega arith) (omega arith)
-    (faults-row (not (prime? (headShape w .modulus))) 2 _ _ (omega arith) (omega arith)
-    (faults-row (not (sized limits (headShape w))) 3 _ _ (omega arith) (omega arith)
-    (faults-read _ _)))
-
-certificate-head-faults : (ws : List ℕ) → Faults 21 29 (certificateHeadFrom ws)
-unfolding certificateHeadFrom
-certificate-head-faults [] = faults-fault 24 [] (omega arith) (omega arith)
-certificate-head-faults (w ∷ ws) =
-    faults-row (not (eqb (kind w) 5 && (eqb (payload w) 1 || eqb (payload w) 2))) 21 _ _ (omega arith) (omega arith)
-    (faults-read _ _)
 
 -- ---- outcomes
 
@@ -173,29 +67,16 @@ module _ {low high : ℕ} where
   refusals-wider least most l h k =
       record { numbers = λ n p e. let b = k .numbers n p e in (le-trans l (b .0), le-trans (b .1) h) }
 
-  refusals-outcome : {A : Type 0} (total : ℕ) (r : Reading A) → Faults low high r → Refusals low high (outcome total r)
-  refusals-outcome total (read a rest) k = refusals-accepted a
-  refusals-outcome total (fault number ws) k =
-      let n = k .numbers number ws refl in
-      refusals-refused number _ (n .0) (n .1)
-
 module _ (limits : Limits) where
   pub system-numbers : (ws : List ℕ) → Refusals 1 9 (readSystem limits ws)
-  unfolding readSystem systemFrom
-  system-numbers ws =
-      refusals-outcome (length ws) (systemFrom limits ws)
-      (faults-then (framedFrom 0 (systemHeadFrom limits) (systemDue limits) ws) _
-      (framed-faults 1 9 0 (systemHeadFrom limits) (systemDue limits) ws (omega arith) (omega arith) (system-head-faults limits ws))
-      (λ v rest. faults-read _ _))
+  system-numbers ws = record { numbers = λ number place e. reading.system-numbers limits ws e }
 
   pub certificate-numbers : (h : Shape) (cs : List ℕ) → Refusals 21 29 (readCertificate limits h cs)
-  unfolding readCertificate certificateFrom
-  certificate-numbers h cs =
-      refusals-outcome (length cs) (certificateFrom limits h cs)
-      (faults-then (framedFrom 20 certificateHeadFrom (certificateDue limits h) cs) _
-      (framed-faults 21 29 20 certificateHeadFrom (certificateDue limits h) cs (omega arith) (omega arith)
-      (certificate-head-faults cs))
-      (λ v rest. faults-read _ _))
+  certificate-numbers h cs = record { numbers = λ number place e. within (reading.certificate-numbers limits h cs e) }
+    where
+      within : {n : ℕ} → (n ≡ 21) ⊎ ((24 ≤ n) × (n ≤ 29)) → Between 21 29 n
+      within (inl e) = (omega arith, omega arith)
+      within (inr b) = (omega arith, omega arith)
 
   -- 10 of the file, before all others; 11 of what is lent
   pub file-numbers : (file : List ℕ) → Refusals 1 10 (readSystemFile limits file)

@@ -12,7 +12,8 @@ use Rattle.words.specs.Outcome.{Outcome, refuse}
 use Rattle.words.specs.Outcome.Outcome.{accepted, refused}
 use Rattle.solver.specs.Solving.{SolvesFile}
 use Rattle.verifier.specs.File.{fileVerdict}
-use Rattle.link.specs.Packed.{packed, packedVerdict, SolvesPacked}
+use Rattle.answers.specs.Packed.{packed, packedVerdict}
+use Rattle.link.specs.Packed.{SolvesPacked}
 use Rattle.link.specs.NumberLaws.{Refusals, refusals-wider, solver-numbers, check-numbers}
 
 -- ---- taking apart, as include/yezsdolak.h does: the number is what is left by 64, the place or count what is above it

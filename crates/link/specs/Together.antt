@@ -1,17 +1,22 @@
 -- The two exported calls together (demand 3, its last sentence, on bytes): `yezsdolak_check` gives 0 on what `yezsdolak_solve` gave,
 -- and for every system's file `yezsdolak_solve` gives a count.
-use Prim.Native.Nat.{ℕ, _/_, _%_, _≤_}
+use Prim.Native.Nat.{ℕ, _*_, _/_, _%_, _≤_}
 use mathlib.Core.Path.{_≡_, ap, _∙_}
 use mathlib.Core.List.{List}
 use native.Mathlib.Omega.{arith}
 use lib.ListN.{length, take}
-use Rattle.words.specs.Limits.{office}
+use Rattle.words.specs.Limits.{Limits, office}
 use Rattle.words.specs.LimitsLaws.{office-fits}
+use Rattle.words.specs.Outcome.{Outcome}
+use Rattle.words.specs.Outcome.Outcome.{accepted, refused}
+use Rattle.words.specs.Certificate.{Certificate}
 use Rattle.words.specs.System.{System, SystemWithin, systemWords}
 use Rattle.words.specs.Bytes.{bytesOf}
 use Rattle.verifier.specs.File.{fileVerdict}
-use Rattle.assured.specs.FileLaws.{solved-file-accepted, every-file-solved}
-use Rattle.link.specs.Packed.{packed, packedVerdict, SolvesPacked}
+use Rattle.solver.specs.Solving.{fileToSolve, certificateBytes, SolvesOr}
+use Rattle.link.specs.FileLaws.{solved-file-accepted, every-file-solved}
+use Rattle.answers.specs.Packed.{packed, packedVerdict}
+use Rattle.link.specs.Packed.{SolvesPacked}
 use Rattle.link.specs.PackedLaws.{refusedUnless0, unpacked, solves-unpacked}
 
 -- what the check is handed: the system's file, and as many of the lent bytes as the solver counted
@@ -33,3 +38,17 @@ module _ (s : System) (within : SystemWithin office s) {entry exit : List ℕ} {
       let packs = h .packs ∙ ap packed (solved .1) in
       let count : r % 64 ≡ 0 = omega arith in
       (count, solved-checked h count)
+
+-- where the solver refuses, the lent bytes stand as before
+unchanged : (limits : Limits) (write : Certificate → List ℕ) (o : Outcome System) (entry exit : List ℕ) (answer : Outcome ℕ)
+    → SolvesOr limits write o entry exit answer → ¬ (packed answer % 64 ≡ 0) → exit ≡ entry
+unfolding SolvesOr
+unchanged limits write (refused n k) entry exit answer h some = h .1
+unchanged limits write (accepted s) entry exit answer h some =
+    let none : 64 * h .0 % 64 ≡ 0 = omega arith in
+    absurd (some (ap (λ a. packed a % 64) (h .1) ∙ none))
+
+pub refused-unchanged : {file entry exit : List ℕ} {r : ℕ} → SolvesPacked office file entry exit r → ¬ (r % 64 ≡ 0) → exit ≡ entry
+refused-unchanged {file} {entry} {exit} h some =
+    unchanged office certificateBytes (fileToSolve office (length entry) file) entry exit (h .answer) (h .solves)
+    (λ e. some (ap (λ x. x % 64) (h .packs) ∙ e))

@@ -1,34 +1,35 @@
 // linksolve: reads a sheet (a system's file) from standard input and writes its card (a certificate's file) to standard output. A
 // refusal is a line on standard error, and nothing is written to standard output.
-use file_solver::solve_file;
+use answers::Counted;
+use answers::Refusal;
 use libc::STDERR_FILENO;
 use libc::STDIN_FILENO;
 use libc::STDOUT_FILENO;
 use limits::Office;
-use reporting::SPACE;
-use reporting::write_report;
-use solver::Solved;
+use report_text::SPACE;
+use report_text::write_refusal;
+use solver::file::solve_file;
 
 // A byte more than the longest sheet has: what fills it is refused, like all that is longer.
 const INPUT: usize = Office::FILE_BYTES + 1;
 
 const OUTPUT: usize = 4 * Office::CERTIFICATE_WORDS;
 
-// The report of a file that is refused is the refusal.
-fn refuse(file: &[u8]) {
-    let mut text = [0u8; SPACE];
-    let n = write_report(file, &mut text);
-    io::write_all(STDERR_FILENO, &text[0..n]);
+// Prints a refusal on standard error, as the report does.
+fn refuse(refusal: Refusal) {
+    let mut line = [0u8; SPACE];
+    let n = write_refusal(&mut line, refusal);
+    io::write_all(STDERR_FILENO, &line[0..n]);
 }
 
 fn answer(file: &[u8]) {
     let mut certificate = [0u8; OUTPUT];
-    let solved = solve_file(file, &mut certificate);
+    let solved = solve_file(&mut certificate, file);
     match solved {
-        Solved::Count(n) => {
+        Counted::Count(n) => {
             io::write_all(STDOUT_FILENO, &certificate[0..n]);
         }
-        Solved::Refused(_, _) => refuse(file),
+        Counted::Refused(refusal) => refuse(refusal),
     }
 }
 

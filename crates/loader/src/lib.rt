@@ -1,7 +1,7 @@
 // Polynomials loaded from the words of a system or a certificate that was read, each into a slot of an area: a number of
 // coefficients, then these, as the loops on words take them.
-use frames::word::payload_of;
 use polynomial::Polynomial;
+use read_frame::word::payload_of;
 use residue::modulus::Modulus;
 ghost use mathlib.Core.Path.{_≡_};
 ghost use mathlib.Core.List.{List};

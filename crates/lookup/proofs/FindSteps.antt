@@ -18,6 +18,7 @@ use Rattle.lookup.specs.FramedLaws.{FramedIn, system-framed, certificate
 use Rattle.lookup.specs.LookupLaws.{lookup-system-refused, lookup-certificate-refused, lookup-read}
 use Rattle.lookup.specs.declared.part.Part.{Part as PartValue}
 use Rattle.lookup.specs.declared.part.Part.the-variants.{Refused}
+use Rattle.answers.specs.declared.answer.Refusal.{Refusal}
 
 holds : {ws : List ℕ} {due : Due} {fs : List (List ℕ)} → due .limit ≤ 65535 → FramedIn ws due fs → Holds ws fs
 holds few f = record { head = f .head; words = f .words; sizes = λ k. let s = framed-size f k in omega arith }
@@ -30,11 +31,10 @@ module _ (limits : Limits) (ss cs : List ℕ) (side : Side) (k : ℕ) where
   abbrev pub Tells : PartValue → Type 0
   Tells r = partOutcome r ≡ boundsShown Told
 
-  pub find-system-refused : (number place : ℕ) → refused number place ≡ mapped shape (readSystem limits ss)
-      → Tells (Refused number place)
-  find-system-refused number place t =
+  pub find-system-refused : (r : Refusal) → refused (r .number) (r .place) ≡ mapped shape (readSystem limits ss) → Tells (Refused r)
+  find-system-refused r t =
       let e = mapped-refused shape (readSystem limits ss) (sym t) in
-      ap boundsShown (sym (lookup-system-refused limits ss cs side k number place e))
+      ap boundsShown (sym (lookup-system-refused limits ss cs side k (r .number) (r .place) e))
 
   module _ (h : Shape) (told : accepted h ≡ mapped shape (readSystem limits ss)) where
     read-system : (s : System) × (readSystem limits ss ≡ accepted s) × (shape s ≡ h)
@@ -49,12 +49,12 @@ module _ (limits : Limits) (ss cs : List ℕ) (side : Side) (k : ℕ) where
     unfolding s
     of-shape t = t ∙ ap (λ (g : Shape). mapped certificateForm (readCertificate limits g cs)) (sym (read-system .2))
 
-    pub find-certificate-refused : (number place : ℕ) → refused number place ≡ mapped certificateForm (readCertificate limits h cs)
-        → Tells (Refused number place)
+    pub find-certificate-refused : (r : Refusal)
+        → refused (r .number) (r .place) ≡ mapped certificateForm (readCertificate limits h cs) → Tells (Refused r)
     unfolding s
-    find-certificate-refused number place t =
+    find-certificate-refused r t =
         let e = mapped-refused certificateForm (readCertificate limits (shape s) cs) (sym (of-shape t)) in
-        ap boundsShown (sym (lookup-certificate-refused limits ss cs side k s (read-system .1) number place e))
+        ap boundsShown (sym (lookup-certificate-refused limits ss cs side k s (read-system .1) (r .number) (r .place) e))
 
     module _ (form : Form) (told′ : accepted form ≡ mapped certificateForm (readCertificate limits h cs)) where
       read-certificate : (c : Certificate) × (readCertificate limits (shape s) cs ≡ accepted c) × (certificateForm c ≡ form)

@@ -125,7 +125,8 @@ module _ {ws : List ℕ} {k at : ℕ} (s : Stands ws k at) where
           e ∙ rw (take-all k fs n, take-all j fs (omega arith)) refl;
     }
 
-    pub stands-none : (fs : List (List ℕ)) → Holds ws fs → partOutcome (Refused 12 0) ≡ boundsShown (shown k fs)
+    pub stands-none : (fs : List (List ℕ)) → Holds ws fs
+        → partOutcome (Refused (record { number = 12; place = 0 })) ≡ boundsShown (shown k fs)
     stands-none fs h =
         let e = s .place fs h in
         ap boundsShown (sym (shown-none h k at e (none-by-kind h k at e other)))

@@ -6,21 +6,14 @@ use Rattle.lookup.specs.Lookup.{Side}
 use Rattle.lookup.specs.Lookup.Side.{system, certificate}
 use Rattle.lookup.specs.declared.Side.{Side as SideValue}
 use Rattle.lookup.specs.declared.Side.the-variants.{System, Certificate}
-use Rattle.lookup.specs.declared.Found.{Found}
-use Rattle.lookup.specs.declared.Found.the-variants.{Shown, Refused}
 use Rattle.lookup.specs.declared.part.Part.{Part}
-use Rattle.lookup.specs.declared.part.Part.the-variants.{Words, Refused as RefusedPart}
+use Rattle.lookup.specs.declared.part.Part.the-variants.{Words, Refused}
 
 abbrev pub sideOf : SideValue → Side
 sideOf System = system
 sideOf Certificate = certificate
 
--- that a polynomial is shown, or why none is
-abbrev pub foundOutcome : Found → Outcome (Unit {0})
-foundOutcome Shown = accepted tt
-foundOutcome (Refused number place) = refused number place
-
 -- from one place up to before another, or why nowhere
 abbrev pub partOutcome : Part → Outcome (ℕ × ℕ)
 partOutcome (Words from to) = accepted (from, to)
-partOutcome (RefusedPart number place) = refused number place
+partOutcome (Refused r) = refused (r .number) (r .place)

@@ -1,3 +1,5 @@
+-- interface, what contracts, other crates and PROVED.md cite: Lookup, Answer, Examples, Holding, LookupLaws
+-- inside: FramedLaws
 pub mod Lookup
 pub mod Answer
 pub mod Examples

@@ -4,15 +4,17 @@ pub mod part;
 
 use crate::part::Part;
 use crate::part::part_of;
+use answers::CertificateRead;
+use answers::SystemRead;
+use answers::Verdict;
 use limits::Limits;
-use reader::certificate::CertificateRead;
 use reader::certificate::read_certificate;
-use reader::system::SystemRead;
 use reader::system::read_system;
 ghost use mathlib.Core.Path.{_≡_};
 ghost use Rattle.limits.specs.Value.{limitsOf};
 ghost use Rattle.lookup.specs.Lookup.{on, polynomialLookup, Borrows, companion, boundsShown};
-ghost use Rattle.lookup.specs.Answer.{sideOf, foundOutcome, partOutcome};
+ghost use Rattle.answers.specs.Answer.{verdictOutcome};
+ghost use Rattle.lookup.specs.Answer.{sideOf, partOutcome};
 
 // Where the polynomial is to be looked up.
 pub enum Side {
@@ -22,15 +24,7 @@ pub enum Side {
     Certificate,
 }
 
-// What a lookup finds.
-pub enum Found {
-    // A polynomial of that number stands on that side.
-    Shown,
-    // The number of the refusal, and its place.
-    Refused(u8, usize),
-}
-
-// The words of the side that is asked for.
+// Gives the words of the side that is asked for.
 fn words_on<'a>(side: Side, system: &'a [u32], certificate: &'a [u32]) -> &'a [u32]
     ensures { λ r. ⌜ (now r ≡ on (sideOf side) (now (system .entry)) (now (certificate .entry)))
         × (r .ptr ≡ on (sideOf side) (system .entry .ptr) (certificate .entry .ptr)) ⌝ }
@@ -41,11 +35,11 @@ fn words_on<'a>(side: Side, system: &'a [u32], certificate: &'a [u32]) -> &'a [u
     }
 }
 
-// Where polynomial `number` of the side that is asked for stands, from its start word to its last coefficient.
+// Finds where polynomial `number` of the side that is asked for stands, from its start word to its last coefficient.
 // Both sides are read first.
-pub fn lookup_part<'a>(
-    system: &'a [u32],
-    certificate: &'a [u32],
+pub fn lookup_part(
+    system: &[u32],
+    certificate: &[u32],
     side: Side,
     number: usize,
     limits: Limits,
@@ -58,18 +52,18 @@ pub fn lookup_part<'a>(
         SystemRead::Accepted(shape) => {
             let read = read_certificate(certificate, shape, limits);
             match read {
-                CertificateRead::Accepted(_) => part_of(
-                    words_on(side, system, certificate),
-                    number,
-                ),
-                CertificateRead::Refused(refusal, place) => Part::Refused(refusal, place),
+                CertificateRead::Accepted(_) => match side {
+                    Side::System => part_of(system, number),
+                    Side::Certificate => part_of(certificate, number),
+                },
+                CertificateRead::Refused(refusal) => Part::Refused(refusal),
             }
         }
-        SystemRead::Refused(refusal, place) => Part::Refused(refusal, place),
+        SystemRead::Refused(refusal) => Part::Refused(refusal),
     }
 }
 
-// The part that `lookup_part` tells of the lent words: the words of that polynomial; empty on a refusal.
+// Gives the part that `lookup_part` tells of the lent words: the words of that polynomial; empty on a refusal.
 pub fn lookup<'a>(
     system: &'a [u32],
     certificate: &'a [u32],
@@ -85,24 +79,24 @@ pub fn lookup<'a>(
     let part = lookup_part(system, certificate, side, number, limits);
     match part {
         Part::Words(from, to) => &words[from..to],
-        Part::Refused(_, _) => &words[..0],
+        Part::Refused(_) => &words[..0],
     }
 }
 
-// Whether `lookup` shows a polynomial, or the number and the place of its refusal.
-pub fn lookup_refusal<'a>(
-    system: &'a [u32],
-    certificate: &'a [u32],
+// Tells whether `lookup` shows a polynomial, or the number and the place of its refusal.
+pub fn lookup_refusal(
+    system: &[u32],
+    certificate: &[u32],
     side: Side,
     number: usize,
     limits: Limits,
-) -> Found
-    ensures { λ r. ⌜ foundOutcome r ≡
+) -> Verdict
+    ensures { λ r. ⌜ verdictOutcome r ≡
         companion (polynomialLookup (limitsOf limits) (now (system .entry)) (now (certificate .entry)) (sideOf side) number) ⌝ }
 {
     let part = lookup_part(system, certificate, side, number, limits);
     match part {
-        Part::Words(_, _) => Found::Shown,
-        Part::Refused(refusal, place) => Found::Refused(refusal, place),
+        Part::Words(_, _) => Verdict::Accepted,
+        Part::Refused(refusal) => Verdict::Refused(refusal),
     }
 }

@@ -1,7 +1,8 @@
 // One polynomial among the words of a system or a certificate that was read. The start words lead to it: each says how many
 // coefficients stand behind it.
-use frames::word::kind_of;
-use frames::word::payload_of;
+use answers::Refusal;
+use read_frame::word::kind_of;
+use read_frame::word::payload_of;
 ghost use mathlib.Core.Path.{_≡_};
 ghost use mathlib.Core.List.{List};
 ghost use Prim.Native.Nat.{ℕ};
@@ -13,11 +14,10 @@ ghost use Rattle.lookup.specs.Holding.{Holds, Holding, Stands};
 pub enum Part {
     // From the first place up to before the second.
     Words(usize, usize),
-    // The number of the refusal, and its place.
-    Refused(u8, usize),
+    Refused(Refusal),
 }
 
-// The place of the start word of polynomial `number`; behind the last polynomial that of the end word.
+// Finds the place of the start word of polynomial `number`; behind the last polynomial that of the end word.
 fn start_of(words: &[u32], number: usize) -> usize
     requires { ⌜ Holding (now words) ⌝ }
     ensures { λ r. ⌜ Stands (now (words .entry)) number r ⌝ }
@@ -35,7 +35,7 @@ fn start_of(words: &[u32], number: usize) -> usize
     at
 }
 
-// Where the polynomial of that number stands.
+// Finds where polynomial `number` stands.
 pub fn part_of(words: &[u32], number: usize) -> Part
     requires { ⌜ Holding (now words) ⌝ }
     ensures { λ r. ⌜ ((fs : List (List ℕ)) → Holds (now (words .entry)) fs → partOutcome r ≡ boundsShown (shown number fs)) ⌝ }
@@ -43,7 +43,10 @@ pub fn part_of(words: &[u32], number: usize) -> Part
     let from = start_of(words, number);
     let word = words[from];
     if kind_of(word) != 2 {
-        return Part::Refused(12, 0);
+        return Part::Refused(Refusal {
+            number: 12,
+            place: 0,
+        });
     }
     Part::Words(from, from + 1 + payload_of(word) as usize)
 }

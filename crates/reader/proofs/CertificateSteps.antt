@@ -16,7 +16,7 @@ use Rattle.words.specs.Certificate.{certificateOf, certificateFrom, readCertifi
 use Rattle.words.specs.Certificate.Form.{solving, absent}
 use Rattle.words.specs.CertificateLaws.{certificateFrom-shown, form-read}
 use Rattle.words.specs.ForwardLaws.{forward-more, body-forward, forward-refused}
-use Rattle.frames.specs.Answer.{dueOf}
+use Rattle.read_frame.specs.Due.{dueOf}
 use Rattle.reader.proofs.FrameSteps.{mapped-outcome, OfFrame, OfBody, frame-head-refused, frame-some, frame-body-refused}
 use Rattle.reader.proofs.FrameSteps.{frame-read}
 

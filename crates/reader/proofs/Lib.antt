@@ -1,3 +1,5 @@
+pub mod UnpackTurns
+pub mod Opens
 pub mod SystemHead
 pub mod CertificateHead
 pub mod FrameSteps

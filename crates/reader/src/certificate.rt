@@ -1,41 +1,31 @@
 // Reading a certificate for a system whose shape is known: the head, d, N, w, Z or else q, the end.
-use crate::system::Shape;
-use frames::frame::read_body;
-use frames::polynomial::WordsRead;
-use frames::word::kind_of;
-use frames::word::payload_of;
+use answers::CertificateRead;
+use answers::Counted;
+use answers::Form;
+use answers::Refusal;
+use answers::Shape;
 use limits::Limits;
+use read_frame::frame::read_body;
+use read_frame::word::kind_of;
+use read_frame::word::payload_of;
 ghost use mathlib.Core.Path.{_≡_};
 ghost use Rattle.words.specs.Outcome.{mapped};
 ghost use Rattle.words.specs.Reading.{told};
 ghost use Rattle.words.specs.Certificate.{certificateForm, certificateHeadFrom, entryCount, readCertificate};
 ghost use Rattle.limits.specs.Value.{limitsOf};
-ghost use Rattle.reader.specs.Answer.{shapeOf, formOf, certificateOutcome};
+ghost use Rattle.answers.specs.Answer.{shapeOf, formOf, certificateOutcome};
 
-// The two kinds of certificates.
-pub enum Form {
-    Solution,
-    Absence,
-}
-
-// What reading a certificate finds.
-pub enum CertificateRead {
-    // The words are the written form of a certificate of this form within the limits.
-    Accepted(Form),
-    // The number of the refusal, and its place.
-    Refused(u8, usize),
-}
-
-// The head, which is the first word.
+// Reads the head, which is the first word.
 fn read_head(words: &[u32]) -> CertificateRead
     ensures { λ r. ⌜ certificateOutcome r ≡ told certificateHeadFrom (now (words .entry)) ⌝ }
 {
+    let place: usize = 0;
     if words.len() == 0 {
-        return CertificateRead::Refused(24, 0);
+        return CertificateRead::Refused(Refusal { number: 24, place });
     }
     let word = words[0];
     if kind_of(word) != 5 {
-        return CertificateRead::Refused(21, 0);
+        return CertificateRead::Refused(Refusal { number: 21, place });
     }
     let form = payload_of(word);
     if form == 1 {
@@ -44,10 +34,10 @@ fn read_head(words: &[u32]) -> CertificateRead
     if form == 2 {
         return CertificateRead::Accepted(Form::Absence);
     }
-    CertificateRead::Refused(21, 0)
+    CertificateRead::Refused(Refusal { number: 21, place })
 }
 
-// How many polynomials a certificate has.
+// Gives the number of polynomials of a certificate.
 fn entry_count(form: Form, shape: Shape) -> u32
     ensures { λ r. ⌜ r ≡ entryCount (shapeOf shape) (formOf form) ⌝ }
 {
@@ -59,7 +49,7 @@ fn entry_count(form: Form, shape: Shape) -> u32
     }
 }
 
-// The whole certificate.
+// Reads the whole certificate.
 pub fn read_certificate(words: &[u32], shape: Shape, limits: Limits) -> CertificateRead
     ensures { λ r. ⌜ certificateOutcome r ≡
         mapped certificateForm (readCertificate (limitsOf limits) (shapeOf shape) (now (words .entry))) ⌝ }
@@ -70,10 +60,13 @@ pub fn read_certificate(words: &[u32], shape: Shape, limits: Limits) -> Certific
             let count = entry_count(form, shape);
             let found = read_body(words, shape.modulus, limits.certificate_coefficients, count);
             match found {
-                WordsRead::Used(_) => CertificateRead::Accepted(form),
-                WordsRead::Refused(number, place) => CertificateRead::Refused(number + 20, place),
+                Counted::Count(_) => CertificateRead::Accepted(form),
+                Counted::Refused(refusal) => CertificateRead::Refused(Refusal {
+                    number: refusal.number + 20,
+                    place: refusal.place,
+                }),
             }
         }
-        CertificateRead::Refused(number, place) => CertificateRead::Refused(number, place),
+        CertificateRead::Refused(refusal) => CertificateRead::Refused(refusal),
     }
 }

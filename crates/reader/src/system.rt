@@ -1,77 +1,55 @@
 // Reading a system: the head, A row by row, b, the end.
-use frames::frame::read_body;
-use frames::polynomial::WordsRead;
-use frames::word::kind_of;
+use answers::Counted;
+use answers::Refusal;
+use answers::Shape;
+use answers::SystemRead;
+use answers::number::one_to;
 use limits::Limits;
+use read_frame::frame::read_body;
+use read_frame::word::kind_of;
 use residue::prime::is_prime;
 ghost use mathlib.Core.Path.{_≡_};
 ghost use Rattle.words.specs.Outcome.{mapped};
 ghost use Rattle.words.specs.Reading.{told};
-ghost use Rattle.words.specs.System.{shape, oneTo, systemHeadFrom, readSystem};
+ghost use Rattle.words.specs.System.{shape, systemHeadFrom, readSystem};
 ghost use Rattle.limits.specs.Value.{limitsOf};
-ghost use Rattle.reader.specs.Answer.{systemOutcome};
+ghost use Rattle.answers.specs.Answer.{systemOutcome};
 
-// What the head of a system says.
-pub struct Shape {
-    pub modulus: u16,
-    pub rows: u8,
-    pub columns: u8,
-}
-
-// What reading a system finds.
-pub enum SystemRead {
-    // The words are the written form of a system within the limits.
-    Accepted(Shape),
-    // The number of the refusal, and its place.
-    Refused(u8, usize),
-}
-
-fn one_to(most: u8, n: u8) -> bool
-    ensures { λ r. ⌜ r ≡ oneTo most n ⌝ }
-{
-    if n < 1 {
-        return false;
-    }
-    if most < n {
-        return false;
-    }
-    true
-}
-
-// The head, which is the first word.
+// Reads the head, which is the first word.
 fn read_head(words: &[u32], limits: Limits) -> SystemRead
     ensures { λ r. ⌜ systemOutcome r ≡ told (systemHeadFrom (limitsOf limits)) (now (words .entry)) ⌝ }
 {
+    let place: usize = 0;
     if words.len() == 0 {
-        return SystemRead::Refused(4, 0);
+        return SystemRead::Refused(Refusal { number: 4, place });
     }
     let word = words[0];
     if kind_of(word) != 1 {
-        return SystemRead::Refused(1, 0);
+        return SystemRead::Refused(Refusal { number: 1, place });
     }
     if word / 16777216 % 16 != 0 {
-        return SystemRead::Refused(1, 0);
+        return SystemRead::Refused(Refusal { number: 1, place });
     }
     let modulus = (word % 65536) as u16;
     if !is_prime(modulus) {
-        return SystemRead::Refused(2, 0);
+        return SystemRead::Refused(Refusal { number: 2, place });
     }
-    let rows = (word / 65536 % 16) as u8;
-    if !one_to(limits.rows, rows) {
-        return SystemRead::Refused(3, 0);
+    let rows = word / 65536 % 16;
+    if !one_to(limits.rows as u32, rows) {
+        return SystemRead::Refused(Refusal { number: 3, place });
     }
-    let columns = (word / 1048576 % 16) as u8;
-    if !one_to(limits.columns, columns) {
-        return SystemRead::Refused(3, 0);
+    let columns = word / 1048576 % 16;
+    if !one_to(limits.columns as u32, columns) {
+        return SystemRead::Refused(Refusal { number: 3, place });
     }
     SystemRead::Accepted(Shape {
         modulus,
-        rows,
-        columns,
+        rows: rows as u8,
+        columns: columns as u8,
     })
 }
 
-// The whole system.
+// Reads the whole system.
 pub fn read_system(words: &[u32], limits: Limits) -> SystemRead
     ensures { λ r. ⌜ systemOutcome r ≡ mapped shape (readSystem (limitsOf limits) (now (words .entry))) ⌝ }
 {
@@ -87,10 +65,10 @@ pub fn read_system(words: &[u32], limits: Limits) -> SystemRead
                 rows * columns + rows,
             );
             match found {
-                WordsRead::Used(_) => SystemRead::Accepted(shape),
-                WordsRead::Refused(number, place) => SystemRead::Refused(number, place),
+                Counted::Count(_) => SystemRead::Accepted(shape),
+                Counted::Refused(refusal) => SystemRead::Refused(refusal),
             }
         }
-        SystemRead::Refused(number, place) => SystemRead::Refused(number, place),
+        SystemRead::Refused(refusal) => SystemRead::Refused(refusal),
     }
 }

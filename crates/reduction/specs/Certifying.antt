@@ -1,17 +1,17 @@
 -- Which w and Z: of all z = Z/w with z·A integral and z·b = 1/d modulo polynomials, the one that is short against the vectors of the
 -- span of A and b, in lowest terms. There is only one.
-use Prim.Native.Nat.{ℕ, zero, suc, _-_ as _-ₙ_, _<_, _≤_}
+use Prim.Native.Nat.{ℕ, zero, suc, _<_, _≤_}
 use Prim.Native.Nat.{_+_ as _+ₙ_}
-use mathlib.Core.Path.{_≡_, refl, sym, _∙_, ap, ap₂, subst}
+use mathlib.Core.Path.{_≡_, refl, sym, _∙_, ap, ap₂}
 use mathlib.Core.Logic.{_⊎_, inl, inr}
 use mathlib.Core.List.{[], _∷_}
 use native.Mathlib.Omega.{arith}
 use native.Mathlib.Decide.{decLe}
-use Rattle.ring.specs.Ring.{Ring, mul-zero, zero-mul}
-use Rattle.ring.specs.Sum.{sum, sum-ext, sum-add, sum-mul, mul-sum, sum-neg, sum-assoc}
+use Rattle.ring.specs.Ring.{Ring, mul-zero}
+use Rattle.ring.specs.Sum.{sum, sum-ext, sum-add, sum-mul, sum-assoc}
 use Rattle.ring.specs.Identity.{quotes, identity}
 use Rattle.ring.specs.Combination.{given, combination}
-use Rattle.algebra.specs.Sized.{Sized, mul-cancel, size-neg-equal, zero-decided, size-positive, positive-nonzero, size-of-zero, size-mul-nonzero, size-sub-less}
+use Rattle.algebra.specs.Sized.{Sized, mul-cancel, size-neg-equal, zero-decided, positive-nonzero, size-mul-nonzero}
 use Rattle.algebra.specs.Divides.{Divides, divides-size, divides-add, divides-mul, divides-zero, divides-equal}
 use Rattle.reduction.specs.Pivot.{Vanishes, Pivot}
 use Rattle.reduction.specs.Slots.{unweighted}

@@ -2,12 +2,12 @@
 -- terms against its entry at h. There is only one.
 use Prim.Native.Nat.{ℕ, _<_}
 use Prim.Native.Nat.{_+_ as _+ₙ_, _-_ as _-ₙ_}
-use mathlib.Core.Path.{_≡_, refl, sym, _∙_, ap, ap₂, subst}
+use mathlib.Core.Path.{_≡_, refl, sym, _∙_, ap, ap₂}
 use mathlib.Core.Logic.{_⊎_, inl, inr}
 use mathlib.Core.List.{[], _∷_}
 use native.Mathlib.Omega.{arith}
 use native.Mathlib.Decide.{ℕ-discrete}
-use Rattle.ring.specs.Ring.{Ring, mul-zero, zero-mul}
+use Rattle.ring.specs.Ring.{Ring, zero-mul}
 use Rattle.ring.specs.Sum.{sum, sum-ext, sum-add, sum-mul, sum-none, sum-assoc}
 use Rattle.ring.specs.Identity.{quotes, identity}
 use Rattle.ring.specs.Combination.{given, combination}

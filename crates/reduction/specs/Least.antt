@@ -10,7 +10,7 @@ use Rattle.ring.specs.Combination.{given, combination}
 use Rattle.algebra.specs.Sized.{Sized, zero-decided, size-positive, size-neg-equal}
 use Rattle.algebra.specs.Divides.{Divides}
 use Rattle.reduction.specs.Replace.{extend, extend-below, extend-at}
-use Rattle.reduction.specs.Pivot.{Vanishes, Pivot, pivot-ext, pivot-scale}
+use Rattle.reduction.specs.Pivot.{Vanishes, pivot-ext, pivot-scale}
 use Rattle.reduction.specs.Slots.{Slots, Filled}
 use Rattle.reduction.specs.Span.{combined, InSpan, InSpanWith, span-combine}
 use Rattle.reduction.specs.Independence.{span-independent, span-pivot}

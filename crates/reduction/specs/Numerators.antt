@@ -9,7 +9,7 @@ use Rattle.ring.specs.Ring.{Ring}
 use Rattle.ring.specs.Sum.{sum, sum-ext, sum-add, sum-neg}
 use Rattle.ring.specs.Identity.{quotes, identity}
 use Rattle.ring.specs.Combination.{given, combination}
-use Rattle.algebra.specs.Sized.{Sized, zero-decided, size-positive, size-sub-less}
+use Rattle.algebra.specs.Sized.{Sized, zero-decided, size-sub-less}
 
 module _ {A : Type 0} {R : Ring A} (S : Sized R) (n m : ℕ) (M : ℕ → ℕ → A) where
   open Ring R using (add as _+_, mul as _*_, neg as -_, zero as 𝟘, one as 𝟙)

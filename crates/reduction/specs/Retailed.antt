@@ -1,17 +1,17 @@
 -- Slots with other tails, which differ by multiples of the tail e of a hand whose block is zero: with that hand they span the same.
 use Prim.Native.Nat.{ℕ, suc, _<_}
-use mathlib.Core.Path.{_≡_, refl, sym, _∙_, ap, ap₂}
+use mathlib.Core.Path.{_≡_, refl, sym, _∙_, ap}
 use mathlib.Core.List.{[], _∷_}
 use native.Mathlib.Omega.{arith}
 use native.Mathlib.Decide.{ℕ-discrete}
-use Rattle.ring.specs.Ring.{Ring, zero-mul, mul-zero}
+use Rattle.ring.specs.Ring.{Ring, zero-mul}
 use Rattle.ring.specs.Sum.{sum, sum-ext, sum-add, mul-sum}
 use Rattle.ring.specs.Identity.{quotes, identity}
 use Rattle.ring.specs.Combination.{given, combination}
 use Rattle.reduction.specs.Replace.{below-suc}
 use Rattle.reduction.specs.Pivot.{Vanishes}
 use Rattle.reduction.specs.Slots.{Slots, SameBlocks}
-use Rattle.reduction.specs.Span.{combined, InSpan, InSpanWith}
+use Rattle.reduction.specs.Span.{combined, InSpanWith}
 
 module _ {A : Type 0} (R : Ring A) {n : ℕ} {U G : Slots A} (e : SameBlocks n U G) {hand : ℕ → A} (z : Vanishes R n hand) (s : ℕ → A)
     (tails : (q : ℕ) → q < n → 0 < U .size q → G .at q n ≡ R .add (U .at q n) (R .neg (R .mul (s q) (hand n)))) where

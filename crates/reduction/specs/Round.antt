@@ -3,7 +3,7 @@
 use Prim.Native.Nat.{ℕ, suc, _-_ as _-ₙ_, _<_, _≤_}
 use Prim.Native.Nat.{_+_ as _+ₙ_}
 use mathlib.Core.Path.{_≡_, refl, sym, _∙_, ap, ap₂, subst}
-use mathlib.Core.Logic.{_⊎_, inl, inr, ite}
+use mathlib.Core.Logic.{_⊎_, inl, inr}
 use mathlib.Core.List.{[], _∷_}
 use native.Mathlib.Omega.{arith}
 use native.Mathlib.Decide.{ℕ-discrete, decLt}
@@ -11,8 +11,8 @@ use Rattle.ring.specs.Ring.{Ring, mul-zero, zero-mul}
 use Rattle.ring.specs.Sum.{sum, sum-ext, sum-add, sum-mul, sum-none, without, sum-out}
 use Rattle.ring.specs.Identity.{quotes, identity}
 use Rattle.ring.specs.Combination.{given, combination}
-use Rattle.algebra.specs.Sized.{Sized, size-neg-equal, size-mul-le, zero-decided, size-longer, size-positive, positive-nonzero, size-of-zero, size-mul-nonzero, mul-nonzero, mul-nonzero-left, size-sub-less}
-use Rattle.reduction.specs.Pivot.{Vanishes, Pivot}
+use Rattle.algebra.specs.Sized.{Sized, size-neg-equal, size-mul-le, zero-decided, size-longer, size-positive, positive-nonzero, size-of-zero, size-mul-nonzero, mul-nonzero}
+use Rattle.reduction.specs.Pivot.{Vanishes}
 use Rattle.reduction.specs.Slots.{Slots, Filled, unweighted}
 use Rattle.reduction.specs.Row.{Last, find-last, row-size, row-rest}
 

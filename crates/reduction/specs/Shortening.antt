@@ -1,16 +1,15 @@
 -- The factor of a round over K[x]: a·x^k with the leading coefficient of z·c, of the degree that w lacks. Then w times it and z·c have the
 -- same leading term.
-use Prim.Native.Nat.{ℕ, suc, _<_, _≤_}
+use Prim.Native.Nat.{ℕ, suc, _<_}
 use Prim.Native.Nat.{_+_ as _+ₙ_, _-_ as _-ₙ_}
 use mathlib.Core.Path.{_≡_, sym, _∙_, ap, ap₂}
 use native.Mathlib.Omega.{arith}
 use Rattle.ring.specs.Ring.{Ring, one-mul}
 use Rattle.algebra.specs.Field.{Field, mul-nonzero}
 use Rattle.algebra.specs.Polynomial.{Polynomial, polynomials}
-use Rattle.algebra.specs.Expressions.{scale, shift}
+use Rattle.algebra.specs.Expressions.{shift}
 use Rattle.algebra.specs.Size.{size, leading, size-one, size-mul, size-scale, size-shift, leading-one, leading-positive}
-use Rattle.algebra.specs.Size.{leading-mul, leading-scale, leading-shift, sized}
-use Rattle.algebra.specs.Sized.{size-neg-equal}
+use Rattle.algebra.specs.Size.{leading-mul, leading-scale, leading-shift}
 use Rattle.algebra.specs.Monic.{Monic}
 use Rattle.algebra.specs.Cancellation.{size-difference}
 use Rattle.reduction.specs.Holds.{monomial}

@@ -1,3 +1,1 @@
-mod Digits
-mod Due
-mod Lines
+mod Giving

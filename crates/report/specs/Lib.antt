@@ -1,8 +1,4 @@
-pub mod Ascii
-pub mod Decimal
-pub mod DecimalLaws
-pub mod Text
-pub mod Longest
-pub mod Examples
-pub mod Written
-pub mod WrittenLaws
+-- interface, what contracts, other crates and PROVED.md cite: Reporting, ReportingLaws, Cases
+pub mod Reporting
+pub mod ReportingLaws
+pub mod Cases

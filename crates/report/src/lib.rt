@@ -1,42 +1,66 @@
-// The report, written into lent bytes (document 01, "The report"): of a solution, of none, and of a refusal.
-use crate::line::append_denominator;
-use crate::line::append_feedback;
-use crate::text::append;
-use crate::text::append_labelled;
+// The report (document 01, "The report"): from the bytes of a system's file to those of the text.
+use answers::Counted;
+use answers::Shape;
+use answers::SystemRead;
+use limits::Office;
+use reader::file::open_file;
+use reader::system::read_system;
+pub use report_text::SPACE;
+use report_text::write_none;
+use report_text::write_refusal;
+use report_text::write_solution;
+use solve_lattice::OUTPUT;
+use solver::certifying::certify_words;
+use writer::output::size_of;
 ghost use Prim.Native.Nat.{_≤_};
 ghost use lib.ListN.{length};
-ghost use Rattle.words.specs.Outcome.Outcome.{accepted, refused};
-ghost use Rattle.truth.specs.Solution.Answer.{none, least};
-ghost use Rattle.report.specs.Text.{reportText};
-ghost use Rattle.report.specs.Written.{Written};
+ghost use Rattle.words.specs.Limits.{office};
+ghost use Rattle.words.specs.System.{readSystem};
+ghost use Rattle.answers.specs.Answer.{shapeOf};
+ghost use Rattle.report_text.specs.Longest.{reportSpace};
+ghost use Rattle.solver.specs.Certified.{Read};
+ghost use Rattle.report.specs.Reporting.{Given, ReportsFile};
 
-mod line;
-mod text;
-
-// A solution's report, from the coefficients of its denominator d, lowest first. Gives the number of its bytes.
-pub fn write_solution(out: &mut [u8], d: &[u64]) -> usize
-    requires { ⌜ length (reportText (accepted (least (now d)))) ≤ length (now out) ⌝ }
-    ensures { λ r. ⌜ Written (reportText (accepted (least (now (d .entry))))) (now (out .entry)) (now (out .exit)) r ⌝ }
+// Writes the report of a system that was read.
+fn report_read(out: &mut [u8], system: &[u32], shape: Shape) -> usize
+    requires { ⌜ Read (shapeOf shape) (now system) × (reportSpace ≤ length (now out)) ⌝ }
+    ensures { λ r. ⌜ Given (readSystem office (now (system .entry))) (now (out .entry)) (now (out .exit)) r ⌝ }
 {
-    let first = append(out, 0, b"answer solution\n");
-    let second = append_denominator(out, first, d);
-    append_feedback(out, second, d)
+    let mut output = [0u64; OUTPUT];
+    let solved = certify_words(&mut output, system, shape);
+    if solved {
+        // the first polynomial is d
+        let size = size_of(&output, 0);
+        write_solution(out, &output[..size])
+    } else {
+        write_none(out)
+    }
 }
 
-// The report that there is no solution. Gives the number of its bytes.
-pub fn write_none(out: &mut [u8]) -> usize
-    requires { ⌜ length (reportText (accepted none)) ≤ length (now out) ⌝ }
-    ensures { λ r. ⌜ Written (reportText (accepted none)) (now (out .entry)) (now (out .exit)) r ⌝ }
+// Writes the report of the words of a file.
+fn report_words(out: &mut [u8], system: &[u32]) -> usize
+    requires { ⌜ reportSpace ≤ length (now out) ⌝ }
+    ensures { λ r. ⌜ Given (readSystem office (now (system .entry))) (now (out .entry)) (now (out .exit)) r ⌝ }
 {
-    append(out, 0, b"answer none\n")
+    let read = read_system(system, Office::limits());
+    match read {
+        SystemRead::Accepted(shape) => report_read(out, system, shape),
+        SystemRead::Refused(refusal) => write_refusal(out, refusal),
+    }
 }
 
-// The report of a refusal. Gives the number of its bytes.
-pub fn write_refusal(out: &mut [u8], number: u8, place: u32) -> usize
-    requires { ⌜ length (reportText (refused number place)) ≤ length (now out) ⌝ }
-    ensures { λ r. ⌜ Written (reportText (refused number place)) (now (out .entry)) (now (out .exit)) r ⌝ }
+// Writes the report of a system's file over the first of the lent bytes and gives the number of its bytes. Where fewer than `SPACE`
+// are lent, it writes nothing and gives 0.
+pub fn write_report(out: &mut [u8], file: &[u8]) -> usize
+    ensures { λ r. ⌜ ReportsFile office (now (file .entry)) (now (out .entry)) (now (out .exit)) r ⌝ }
 {
-    let numbered = append_labelled(out, 0, b"refused", number as u64);
-    let placed = append_labelled(out, numbered, b" at", place as u64);
-    append(out, placed, b"\n")
+    if out.len() < SPACE {
+        return 0;
+    }
+    let mut words = [0u32; Office::SYSTEM_WORDS];
+    let opened = open_file(&mut words, file, Office::FILE_BYTES);
+    match opened {
+        Counted::Count(count) => report_words(out, &words[..count]),
+        Counted::Refused(refusal) => write_refusal(out, refusal),
+    }
 }

@@ -1,3 +1,5 @@
+-- interface, what contracts, other crates and PROVED.md cite: Modulus, Barrett, Below, Sum
+-- inside: Primality
 pub mod Modulus
 pub mod Barrett
 pub mod Below

@@ -1,7 +1,7 @@
 -- Ring identities proved by computing: the goal is written once, the variables are listed, and `search` finds the expressions.
 --   squares : (a b : A) → (a + b) * (a + (- b)) ≡ a * a + (- (b * b))
 --   squares a b = identity R (a ∷ b ∷ []) (λ ρ qa qb. search quotes depth 16) refl
-use Prim.Native.Nat.{ℕ, zero, suc}
+use Prim.Native.Nat.{ℕ, suc}
 use mathlib.Core.Path.{_≡_, refl, sym, _∙_, ap, ap₂}
 use mathlib.Core.List.{List, [], _∷_}
 use Rattle.ring.specs.Ring.{Ring}

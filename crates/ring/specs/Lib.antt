@@ -1,3 +1,5 @@
+-- interface, what contracts, other crates and PROVED.md cite: Ring, Identity, Combination, Sum
+-- inside: Solver, Examples
 pub mod Ring
 pub mod Solver
 pub mod Identity

@@ -6,40 +6,60 @@ use Prim.Native.Nat.{ℕ}
 use native.Mathlib.Omega.{arith}
 use lib.ListN.{length}
 use Rattle.vector.specs.Bound.{AtMost}
+use Rattle.solve_lattice.specs.Room.{outputWords}
 use Rattle.words.specs.Limits.{office}
 use Rattle.words.specs.LimitsLaws.{office-fits}
 use Rattle.words.specs.Outcome.Outcome.{accepted}
-use Rattle.words.specs.System.{System, Shape, SystemWithin, ShapeWithin, shape, systemWords, readSystem}
+use Rattle.words.specs.OutcomeLaws.{mapped-accepted}
+use Rattle.words.specs.System.{System, Shape, SystemWithin, ShapeWithin, shape, readSystem}
 use Rattle.words.specs.SystemLaws.{system-written-of-read}
 use Rattle.words.specs.Certificate.{formOf}
-use Rattle.areas.specs.Input.{ValidInput}
-use Rattle.areas.specs.Output.{ValidOutput}
-use Rattle.ascent.specs.Certifies.{HasSystem, Certifies}
-use Rattle.columns.specs.HasWords.{HasWords, read-has-words}
-use Rattle.meaning.specs.Laid.{Laid}
-use Rattle.meaning.specs.Taken.{takenCertificate}
-use Rattle.meaning.specs.Equations.{equations}
-use Rattle.meaning.specs.LaidLaws.{laid-valid, laid-holds}
-use Rattle.meaning.specs.TakenRight.{taken-right, taken-within}
-use Rattle.meaning.specs.Answers.{right-answers}
-use Rattle.solver.specs.Certified.{Read, Certified}
+use Rattle.solve_lattice.specs.Input.{ValidInput}
+use Rattle.solve_lattice.specs.Output.{ValidOutput}
+use Rattle.solve_certify.specs.Certifies.{HasSystem, Certifies}
+use Rattle.solve_layout.specs.HasWords.{HasWords, read-has-words}
+use Rattle.solve_meaning.specs.Laid.{Laid}
+use Rattle.solve_meaning.specs.SystemIn.{systemIn, SystemArea}
+use Rattle.solve_meaning.specs.SystemInLaws.{laid-read, read-within, read-laid}
+use Rattle.solve_meaning.specs.Taken.{takenCertificate}
+use Rattle.solve_meaning.specs.Equations.{equations}
+use Rattle.solve_meaning.specs.LaidLaws.{laid-valid, laid-holds}
+use Rattle.solve_meaning.specs.TakenRight.{taken-right, taken-within}
+use Rattle.solve_meaning.specs.Answers.{right-answers}
+use Rattle.solver.specs.Certified.{HasShape, Read, Certified, CertifiedRead, certified-of}
 
-module _ (ws : List ℕ) {s : System} (read : readSystem office ws ≡ accepted s) where
-  written : (ws ≡ systemWords s) × SystemWithin office s
-  written = system-written-of-read office office-fits ws s read
+-- the system in the input area
+module _ {h : Shape} (within : ShapeWithin office h) {input : List ℕ} (area : SystemArea h input) where
+  -- p is the modulus in hand
+  module _ (p : ℕ) (is : p ≡ h .modulus) where
+    pub area-valid : ValidInput p input
+    area-valid = subst (λ q. ValidInput q input) (sym is) (laid-valid (read-laid h within input area))
 
-  certified-system : (input output : List ℕ) (solved : Bool) → Laid s input
-      → Certifies (s .modulus) (s .rows) (s .columns) input output solved → Certified s output solved
-  certified-system input output solved laid done =
-      let h = written .1 in
-      let within = taken-within office s h output (formOf solved) in
-      let right = taken-right office s h output solved (done .holds (h .shape .prime) (equations s h) (laid-holds s h laid)) in
-      record {
-        valid = done .valid;
-        within = within;
-        right = right;
-        answers = right-answers office s h (takenCertificate (shape s) (formOf solved) output) within right;
-      }
+    pub area-system : HasSystem p (h .rows) (h .columns) input
+    area-system = subst (λ q. HasSystem q (h .rows) (h .columns) input) (sym is) (record {
+      prime = read-within h within input .shape .prime;
+      equations = equations (systemIn h input) (read-within h within input);
+      holds = laid-holds (systemIn h input) (read-within h within input) (read-laid h within input area);
+    })
+
+    pub output-cleared : (output : List ℕ) → length output ≡ outputWords → AtMost 0 output → ValidOutput p output
+    output-cleared output room none = record { room = room; below = λ i. omega (arith, none i, within .prime .large) }
+
+    pub area-certified : {output : List ℕ} {solved : Bool} → Certifies p (h .rows) (h .columns) input output solved
+        → Certified (systemIn h input) output solved
+    area-certified {output} {solved} done =
+        let s = systemIn h input in
+        let w = read-within h within input in
+        let done′ = subst (λ q. Certifies q (h .rows) (h .columns) input output solved) is done in
+        let kept = taken-within office s w output (formOf solved) in
+        let right = taken-right office s w output solved
+        (done′ .holds (w .shape .prime) (equations s w) (laid-holds s w (read-laid h within input area))) in
+        record {
+          valid = done′ .valid;
+          within = kept;
+          right = right;
+          answers = right-answers office s w (takenCertificate (shape s) (formOf solved) output) kept right;
+        }
 
 accepted-same : {A : Type 0} {a b : A} → accepted a ≡ accepted b → a ≡ b
 accepted-same e = cc
@@ -49,45 +69,35 @@ module _ {h : Shape} {ws : List ℕ} (R : Read h ws) where
   pub same-shape : {s : System} → readSystem office ws ≡ accepted s → h ≡ shape s
   same-shape e = R .same-shape ∙ ap shape (accepted-same (sym (R .read) ∙ e))
 
-  has-words : {s : System} → readSystem office ws ≡ accepted s → HasWords s ws (h .rows) (h .columns)
-  has-words e = read-has-words e (sym (ap (λ (g : Shape). g .rows) (same-shape e))) (sym (ap (λ (g : Shape). g .columns) (same-shape e)))
+  written : SystemWithin office (R .system)
+  written = system-written-of-read office office-fits ws (R .system) (R .read) .1
 
   pub read-shape : ShapeWithin office h
-  read-shape = rw (R .same-shape) (written ws (R .read) .1 .shape)
+  read-shape = rw (R .same-shape) (written .shape)
+
+  has-words : HasWords (R .system) ws (h .rows) (h .columns)
+  has-words = read-has-words (R .read) (sym (ap (λ (g : Shape). g .rows) (R .same-shape)))
+      (sym (ap (λ (g : Shape). g .columns) (R .same-shape)))
 
   pub read-words : (s : System) × HasWords s ws (h .rows) (h .columns)
-  read-words = (R .system, has-words (R .read))
+  read-words = (R .system, has-words)
 
-  -- what `lay_system` says of every system with these words; p is the modulus in hand
-  module _ (p : ℕ) (is : p ≡ h .modulus) (input : List ℕ)
-      (lays : (s : System) → HasWords s ws (h .rows) (h .columns) → Laid s input) where
-    laid : {s : System} → readSystem office ws ≡ accepted s → Laid s input
-    laid e = lays _ (has-words e)
+  -- what `lay_system` says of every system with these words
+  module _ (input : List ℕ) (lays : (s : System) → HasWords s ws (h .rows) (h .columns) → Laid s input) where
+    laid : Laid (R .system) input
+    laid = lays (R .system) has-words
 
-    same-modulus : {s : System} → readSystem office ws ≡ accepted s → p ≡ s .modulus
-    same-modulus e = is ∙ ap (λ (g : Shape). g .modulus) (same-shape e)
+    pub lays-area : SystemArea h input
+    lays-area = subst (λ g. SystemArea g input) (sym (R .same-shape)) (laid .area)
 
-    pub lays-valid : ValidInput p input
-    lays-valid = subst (λ q. ValidInput q input) (sym (same-modulus (R .read))) (laid-valid (laid (R .read)))
+    -- it is the system in the input area
+    pub lays-certified : {output : List ℕ} {solved : Bool} → Certified (systemIn h input) output solved
+        → CertifiedRead (readSystem office ws) output solved
+    lays-certified {output} {solved} C = certified-of (R .read) (subst (λ s. Certified s output solved)
+        (ap (λ g. systemIn g input) (R .same-shape) ∙ laid-read (R .system) written laid) C)
 
-    pub lays-system : HasSystem p (h .rows) (h .columns) input
-    lays-system =
-        let within = written ws (R .read) .1 in
-        subst (λ q. HasSystem q (h .rows) (h .columns) input) (sym is)
-        (subst (λ (g : Shape). HasSystem (g .modulus) (g .rows) (g .columns) input) (sym (R .same-shape)) (record {
-          prime = within .shape .prime;
-          equations = equations (R .system) within;
-          holds = laid-holds (R .system) within (laid (R .read));
-        }))
-
-    pub lays-room : (output : List ℕ) → length output ≡ 2304 → AtMost 0 output → ValidOutput p output
-    lays-room output room none = record {
-      room = room;
-      below = λ i. omega (arith, none i, same-modulus (R .read), written ws (R .read) .1 .shape .prime .large);
-    }
-
-    pub certified : (output : List ℕ) (solved : Bool) → Certifies p (h .rows) (h .columns) input output solved
-        → (s : System) → readSystem office ws ≡ accepted s → Certified s output solved
-    certified output solved done s e = certified-system ws e input output solved (laid e)
-        (subst (λ (g : Shape). Certifies (g .modulus) (g .rows) (g .columns) input output solved) (same-shape e)
-        (subst (λ q. Certifies q (h .rows) (h .columns) input output solved) is done))
+-- the words by what reading gives
+pub told-read : {h : Shape} {ws : List ℕ} → HasShape h ws → Read h ws
+told-read told =
+    let found = mapped-accepted shape _ told in
+    record { system = found .0; read = found .1; same-shape = sym (found .2) }

@@ -1,3 +1,4 @@
 pub mod Reading
 mod CertifiedWords
 mod Writing
+mod FileWriting

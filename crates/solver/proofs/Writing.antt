@@ -7,23 +7,23 @@ use Rattle.words.specs.Limits.{office}
 use Rattle.words.specs.Outcome.Outcome.{accepted}
 use Rattle.words.specs.System.{System, Shape, shape, readSystem}
 use Rattle.words.specs.Certificate.{Form, formOf, certificateWords}
-use Rattle.framing.specs.Framing.{Wrote}
-use Rattle.areas.specs.Output.{ValidOutput}
-use Rattle.meaning.specs.Taken.{takenCertificate}
+use Rattle.write_frame.specs.Framing.{Wrote}
+use Rattle.solve_lattice.specs.Output.{ValidOutput}
+use Rattle.solve_meaning.specs.Taken.{takenCertificate}
 use Rattle.solver.specs.Solving.{Gives}
-use Rattle.solver.specs.Certified.{Read, Certified}
+use Rattle.solver.specs.Certified.{Read, CertifiedRead, certified-at}
 use Rattle.solver.proofs.CertifiedWords.{same-shape}
 
 module _ {h : Shape} {ws : List ℕ} (R : Read h ws) (output : List ℕ) (solved : Bool)
-    (certified : (s : System) → readSystem office ws ≡ accepted s → Certified s output solved) where
+    (certified : CertifiedRead (readSystem office ws) output solved) where
   pub output-valid : ValidOutput (h .modulus) output
-  output-valid = subst (λ (g : Shape). ValidOutput (g .modulus) output) (sym (R .same-shape)) (certified (R .system) (R .read) .valid)
+  output-valid = subst (λ (g : Shape). ValidOutput (g .modulus) output) (sym (R .same-shape)) (certified-at (R .read) certified .valid)
 
   pub gives : {form : Form} → form ≡ formOf solved → (entry exit : List ℕ) (count : ℕ)
       → Wrote (certificateWords (takenCertificate h form output)) entry exit count
       → (s : System) → readSystem office ws ≡ accepted s → Gives office certificateWords s entry exit count
   gives {form} is entry exit count wrote s e =
-      let C = certified s e in
+      let C = certified-at e certified in
       let W = subst (λ c. Wrote (certificateWords c) entry exit count)
       (ap₂ (λ g f. takenCertificate g f output) (same-shape R e) is) wrote in
       record {

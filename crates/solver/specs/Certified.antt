@@ -1,26 +1,48 @@
 -- A right certificate in the solver's output area, for a system that was read.
 use Prim.Native.Nat.{ℕ}
-use mathlib.Core.Path.{_≡_}
+use mathlib.Core.Path.{_≡_, sym, ap, _∙_, subst}
 use mathlib.Core.Bool.{Bool}
 use mathlib.Core.List.{List}
 use Rattle.words.specs.Limits.{office}
-use Rattle.words.specs.Outcome.Outcome.{accepted}
+use Rattle.words.specs.Outcome.{Outcome, mapped}
+use Rattle.words.specs.Outcome.Outcome.{accepted, refused}
 use Rattle.words.specs.System.{System, Shape, shape, readSystem}
 use Rattle.words.specs.Certificate.{CertificateWithin, formOf}
 use Rattle.truth.specs.Solution.{Answers}
 use Rattle.truth.specs.Right.{Right}
-use Rattle.areas.specs.Output.{ValidOutput}
-use Rattle.meaning.specs.Taken.{takenCertificate}
-use Rattle.meaning.specs.Answers.{answerOf}
+use Rattle.solve_lattice.specs.Output.{ValidOutput}
+use Rattle.solve_meaning.specs.Taken.{takenCertificate}
+use Rattle.solve_meaning.specs.Answers.{answerOf}
 
--- the words were read, and this is what their head says
-pub record Read (h : Shape) (ws : List ℕ) : Type 0 where
-  pub system : System
-  pub read : readSystem office ws ≡ accepted system
-  pub same-shape : h ≡ shape system
+-- reading the words gives a system of that shape
+abbrev pub HasShape : Shape → List ℕ → Type 0
+HasShape h ws = mapped shape (readSystem office ws) ≡ accepted h
 
 pub record Certified (s : System) (output : List ℕ) (solved : Bool) : Type 0 where
   pub valid : ValidOutput (s .modulus) output
   pub within : CertificateWithin office (shape s) (takenCertificate (shape s) (formOf solved) output)
   pub right : Right s (takenCertificate (shape s) (formOf solved) output)
   pub answers : Answers s (answerOf (takenCertificate (shape s) (formOf solved) output))
+
+-- what was read is certified; a refusal is not
+unfoldable pub CertifiedRead : Outcome System → (output : List ℕ) (solved : Bool) → Type 0
+CertifiedRead (accepted s) output solved = Certified s output solved
+CertifiedRead (refused number place) output solved = ⊥
+
+-- the system that was read, and this is what its head says
+pub record Read (h : Shape) (ws : List ℕ) : Type 0 where
+  pub system : System
+  pub read : readSystem office ws ≡ accepted system
+  pub same-shape : h ≡ shape system
+
+pub read-told : {h : Shape} {ws : List ℕ} → Read h ws → HasShape h ws
+read-told R = ap (mapped shape) (R .read) ∙ ap accepted (sym (R .same-shape))
+
+module _ {o : Outcome System} {s : System} (is : o ≡ accepted s) {output : List ℕ} {solved : Bool} where
+  pub certified-of : Certified s output solved → CertifiedRead o output solved
+  unfolding CertifiedRead
+  certified-of C = subst (λ o. CertifiedRead o output solved) (sym is) C
+
+  pub certified-at : CertifiedRead o output solved → Certified s output solved
+  unfolding CertifiedRead
+  certified-at C = subst (λ o. CertifiedRead o output solved) is C

@@ -18,12 +18,8 @@ use Rattle.words.specs.Bytes.{readSystemFile}
 use Rattle.words.specs.BytesLaws.{length-bytesOf, file-within}
 use Rattle.words.specs.Certificate.{certificateWords}
 use Rattle.words.specs.CertificateLaws.{certificateWords-most}
+use Rattle.answers.specs.Packed.{AnswerMost}
 use Rattle.solver.specs.Solving.{withRoom, fileToSolve, certificateBytes, Gives, SolvesOr, SolvesFile}
-
--- what an answer's numbers are at most
-pub record AnswerMost (count place : ℕ) (answer : Outcome ℕ) : Type 0 where
-  pub counts : (n : ℕ) → answer ≡ accepted n → n ≤ count
-  pub places : (number n : ℕ) → answer ≡ refused number n → n ≤ place
 
 -- 11 is at 0
 room-place : (most longest lent : ℕ) (o : Outcome System)

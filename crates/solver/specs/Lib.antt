@@ -1,6 +1,9 @@
+-- interface: what the solver gives, on words and on files, and what follows from it
 pub mod Solving
-pub mod Certified
-pub mod Answer
 pub mod SolvingLaws
-pub mod Examples
 pub mod FileLaws
+-- interface: a right certificate in the output area
+pub mod Certified
+pub mod OutputLaws
+-- document 01's examples for 11
+pub mod Examples

@@ -12,8 +12,8 @@ use Rattle.words.specs.Bytes.{bytesOf, readSystemFile}
 use Rattle.words.specs.Certificate.{Certificate, CertificateWithin, certificateWords}
 use Rattle.truth.specs.Solution.{Answers}
 use Rattle.truth.specs.Right.{Right}
-use Rattle.framing.specs.Overwriting.{overwritten}
-use Rattle.meaning.specs.Answers.{answerOf}
+use Rattle.write_frame.specs.Overwriting.{overwritten}
+use Rattle.solve_meaning.specs.Answers.{answerOf}
 
 -- what was read is the system to solve, if there is room for the longest certificate: "The solver reads the sheet, then looks at 11."
 abbrev pub withRoom : (longest lent : ℕ) → Outcome System → Outcome System

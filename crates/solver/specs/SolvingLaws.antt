@@ -19,7 +19,7 @@ use Rattle.words.specs.SystemLaws.{system-read-of-written, system-written-of-re
 use Rattle.words.specs.Certificate.{Certificate, certificateWords}
 use Rattle.truth.specs.Verdict.{verdict}
 use Rattle.truth.specs.Accepted.{accepted-of-words}
-use Rattle.framing.specs.Overwriting.{overwritten}
+use Rattle.write_frame.specs.Overwriting.{overwritten}
 use Rattle.solver.specs.Solving.{withRoom, systemToSolve, Gives, SolvesOr, Solves}
 
 accepted-same : {A : Type 0} {a b : A} → accepted a ≡ accepted b → a ≡ b

@@ -1,27 +1,44 @@
-// From the words of a system that was read to a right certificate in the output area.
-use ascent::certify;
-use columns::lay_system;
-use reader::system::Shape;
+// A right certificate in the output area, for a system that is laid out in the input area, or for the words of one that was read.
+use answers::Shape;
 use residue::modulus::Modulus;
+use solve_certify::certify;
+use solve_lattice::INPUT;
+use solve_lattice::Input;
+use solve_lattice::Output;
+use solve_layout::lay_system;
 ghost use mathlib.Core.Path.{_≡_};
 ghost use lib.ListN.{length};
 ghost use Rattle.vector.specs.Bound.{AtMost};
 ghost use Rattle.words.specs.Limits.{office};
-ghost use Rattle.words.specs.Outcome.Outcome.{accepted};
-ghost use Rattle.words.specs.System.{System, readSystem};
-ghost use Rattle.reader.specs.Answer.{shapeOf};
-ghost use Rattle.solver.specs.Certified.{Read, Certified};
+ghost use Rattle.words.specs.System.{ShapeWithin, readSystem};
+ghost use Rattle.solve_lattice.specs.Room.{outputWords};
+ghost use Rattle.solve_meaning.specs.SystemIn.{systemIn, SystemArea};
+ghost use Rattle.answers.specs.Answer.{shapeOf};
+ghost use Rattle.solver.specs.Certified.{HasShape, Certified, CertifiedRead};
 
+// Stores a right certificate of the system that is laid out in the input, of that shape, in the output, which is 0 at the start.
 // Returns whether there is a solution.
-pub fn certify_words(system: &[u32], shape: Shape, output: &mut [u64]) -> bool
-    requires { ⌜ Read (shapeOf shape) (now system) ⌝ }
-    requires room { ⌜ (length (now output) ≡ 2304) × AtMost 0 (now output) ⌝ }
-    ensures { λ r. ⌜ ((s : System) → readSystem office (now (system .entry)) ≡ accepted s → Certified s (now (output .exit)) r) ⌝ }
+pub fn certify_laid(output: &mut Output, input: &Input, shape: Shape) -> bool
+    requires { ⌜ ShapeWithin office (shapeOf shape) × SystemArea (shapeOf shape) (now input) ⌝ }
+    requires cleared { ⌜ (length (now output) ≡ outputWords) × AtMost 0 (now output) ⌝ }
+    ensures { λ r. ⌜ Certified (systemIn (shapeOf shape) (now (input .entry))) (now (output .exit)) r ⌝ }
 {
     let rows = shape.rows as usize;
     let columns = shape.columns as usize;
     let modulus = Modulus::new(shape.modulus as u64);
-    let mut input = [0u64; 1152];
-    lay_system(system, rows, columns, &mut input);
-    certify(&input, rows, columns, output, modulus)
+    certify(output, input, rows, columns, modulus)
+}
+
+// Stores a right certificate of the system that these words were read as, of that shape, in the output, which is 0 at the start.
+// Returns whether there is a solution.
+pub fn certify_words(output: &mut Output, system: &[u32], shape: Shape) -> bool
+    requires { ⌜ HasShape (shapeOf shape) (now system) ⌝ }
+    requires cleared { ⌜ (length (now output) ≡ outputWords) × AtMost 0 (now output) ⌝ }
+    ensures { λ r. ⌜ CertifiedRead (readSystem office (now (system .entry))) (now (output .exit)) r ⌝ }
+{
+    let rows = shape.rows as usize;
+    let columns = shape.columns as usize;
+    let mut input = [0u64; INPUT];
+    lay_system(&mut input, system, rows, columns);
+    certify_laid(output, &input, shape)
 }

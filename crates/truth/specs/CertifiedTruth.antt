@@ -1,10 +1,9 @@
 -- Document 002's conditions alone, with denominators monic or not and in lowest terms or not, certify "that y is a solution with minimal
 -- denominator", or "that the system has no rational solution".
 use Prim.Native.Nat.{ℕ, zero, suc, _<_}
-use mathlib.Core.Path.{_≡_, sym, _∙_, ap, subst}
+use mathlib.Core.Path.{_≡_, sym, _∙_, subst}
 use mathlib.Core.List.{List, [], _∷_}
 use native.Mathlib.Omega.{arith}
-use lib.ListN.{length, getD}
 use Rattle.ring.specs.Ring.{Ring}
 use Rattle.ring.specs.Sum.{sum}
 use Rattle.algebra.specs.Coefficients.{mul}

@@ -6,7 +6,7 @@ use mathlib.Core.List.{List, [], _∷_}
 use lib.ListN.{getD}
 use Rattle.ring.specs.Ring.{Ring}
 use Rattle.ring.specs.Sum.{sum}
-use Rattle.algebra.specs.Coefficients.{mul, add}
+use Rattle.algebra.specs.Coefficients.{add}
 use Rattle.algebra.specs.Divides.{Divides as DividesIn}
 use Rattle.modular.specs.Prime.{Prime}
 use Rattle.modular.specs.Modulo.{modulo}

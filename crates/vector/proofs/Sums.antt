@@ -5,8 +5,8 @@ use Prim.Native.Nat.{ℕ, _+_, _*_, _≤_, _<_}
 use native.Mathlib.Nat.{add-zero, add-assoc}
 use native.Mathlib.Omega.{arith}
 use lib.ListN.{getD}
-use Rattle.row.specs.Sum.{sumAt, SumFits, SumsFit, each-fits}
-use Rattle.row.specs.Stored.{rowStored}
+use Rattle.vector.specs.Sum.{sumAt, SumFits, SumsFit, each-fits}
+use Rattle.vector.specs.RowStored.{rowStored}
 use Rattle.vector.specs.Stored.{stored}
 use Rattle.vector.proofs.Storing.{Storing, storing-later, storing-reads, storing-row}
 

@@ -8,7 +8,7 @@ use native.Mathlib.Omega.{arith}
 use lib.ListN.{length, getD, take, drop}
 use Rattle.algebra.specs.Coefficients.{add, scale, shift}
 use Rattle.modular.specs.Modulo.{modulo}
-pub use Rattle.row.specs.Sum.{sumAt}
+pub use Rattle.vector.specs.Sum.{sumAt}
 use Rattle.vector.specs.Stored.{stored, stored-inside, stored-outside, below-or-not}
 use Rattle.vector.specs.Reduced.{polynomial, word-inside, word-behind, reduced-multiple}
 

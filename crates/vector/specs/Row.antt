@@ -6,7 +6,7 @@ use native.Mathlib.Nat.{zero-mod}
 use native.Mathlib.Omega.{arith}
 use lib.ListN.{length, getD, take}
 use lib.Bits.{bitOr, or-add-and, and-le-l, and-le-r}
-use Rattle.row.specs.Or.{orTo}
+use Rattle.vector.specs.Or.{orTo}
 use Rattle.vector.specs.Reduced.{reduced, residue-same}
 use Rattle.vector.specs.Size.{reduced-take-zero}
 

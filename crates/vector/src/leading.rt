@@ -7,8 +7,8 @@ ghost use Rattle.modular.specs.Modulo.{modulo};
 ghost use Rattle.residue.specs.Modulus.{ValidModulus};
 ghost use Rattle.vector.specs.Bound.{Reducible};
 ghost use Rattle.vector.specs.Reduced.{polynomial};
+use crate::or::or_of_row;
 use residue::modulus::Modulus;
-use row::or::or_of_row;
 
 // The number of a polynomial's coefficients, and the last of them; both 0 for the zero polynomial.
 pub struct Leading {

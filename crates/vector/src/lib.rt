@@ -4,6 +4,10 @@ pub mod leading;
 pub mod multiple;
 pub mod range;
 
+// Eight words at once: what the loops on long ranges do in one turn.
+pub mod or;
+pub mod sum;
+
 pub use leading::Leading;
 pub use leading::find_leading;
 pub use leading::find_leading_near;

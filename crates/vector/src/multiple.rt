@@ -4,8 +4,8 @@ ghost use Prim.Native.Nat.{ℕ, _+_, _<_, _≤_};
 ghost use lib.ListN.{length, getD};
 ghost use Rattle.vector.specs.Stored.{stored};
 ghost use Rattle.vector.specs.Multiple.{sumAt, GainsMultiple};
-use row::sum::add_row;
-use row::sum::sum_at;
+use crate::sum::add_row;
+use crate::sum::sum_at;
 
 // h[d + j] += c * s[a + j] for j below n, in rows of eight and what is left word by word.
 pub fn add_scaled(h: &mut [u64], d: usize, s: &[u64], a: usize, n: usize, c: u64)

@@ -1,73 +1,54 @@
--- What is decided of the bytes of files before their words are looked at, and that the words that there is room for decide.
-use mathlib.Core.Path.{_≡_, refl, sym, ap, _∙_}
+-- The check on two files, from what is told when they are opened.
+use mathlib.Core.Path.{_≡_, refl, sym, ap, ap₂, _∙_}
 use mathlib.Core.Bool.{Bool, true, false, _||_}
 use mathlib.Core.List.{List}
-use Prim.Native.Nat.{ℕ, _%_, _≤_, _<_}
-use native.Mathlib.Nat.{min-le-left}
+use Prim.Native.Nat.{ℕ, _*_, _≤_, _<_}
 use native.Mathlib.Omega.{arith}
-use lib.ListN.{length, take, drop}
-use lib.Seq.{length-take-le, take-at}
-use borrow.Author.Tests.{eq-eqb, ne-eqb, lt-ltb, le-ltb}
-use Rattle.words.specs.Limits.{office, longestCertificate}
+use lib.ListN.{length, take}
+use Rattle.words.specs.Limits.{office, longestSystem, longestCertificate}
 use Rattle.words.specs.LimitsLaws.{office-fits}
 use Rattle.words.specs.Outcome.{Outcome, refuse}
-use Rattle.words.specs.Outcome.Outcome.{refused}
-use Rattle.words.specs.Bytes.{wordsOf, broken, tooLong}
-use Rattle.unpacking.specs.Unpacking.{Unpacked}
+use Rattle.words.specs.Outcome.Outcome.{accepted, refused}
+use Rattle.words.specs.Bytes.{wordsOf, broken}
 use Rattle.truth.specs.Verdict.{verdict}
 use Rattle.truth.specs.Prefix.{verdict-room}
+use Rattle.reader.specs.Opening.{turnedBack, Opened}
+use Rattle.reader.specs.OpeningLaws.{unlimited, opened-stops, opened-passes, opened-first, opened-all}
 use Rattle.verifier.specs.File.{fileVerdict}
 
-module _ (bytes before after : List ℕ) (count : ℕ) (h : Unpacked bytes before after count) where
-  known : count ≤ length (wordsOf bytes)
-  known = let n = h .number in omega (arith, min-le-left (length (wordsOf bytes)) (length before))
+refuse-or : {A : Type 0} (a b : Bool) (next : Outcome A) → refuse (a || b) 10 0 next ≡ refuse a 10 0 (refuse b 10 0 next)
+refuse-or true b next = refl
+refuse-or false b next = refl
 
-  unpacked-prefix : take count after ≡ take count (wordsOf bytes)
-  unpacked-prefix =
-      ap (take count) (h .words)
-      ∙ take-at (take count (wordsOf bytes)) (drop count before) count (length-take-le count (wordsOf bytes) known)
-
-  pub unpacked-length : count ≡ length (take count after)
-  unpacked-length = sym (ap length unpacked-prefix ∙ length-take-le count (wordsOf bytes) known)
-
-  -- the words of a certificate's file for which there was room tell what all tell
-  pub unpacked-verdict : longestCertificate office < length before → (ws : List ℕ)
-      → verdict office ws (take count after) ≡ verdict office ws (wordsOf bytes)
-  unpacked-verdict room ws =
-      ap (verdict office ws) (unpacked-prefix ∙ ap (λ (n : ℕ). take n (wordsOf bytes)) (h .number))
-      ∙ verdict-room office office-fits ws (wordsOf bytes) (length before) room
-
--- ---- the system's file, then the certificate's, then the words
 module _ (bs cs : List ℕ) where
-  words : Outcome (Unit {0})
-  words = verdict office (wordsOf bs) (wordsOf cs)
+  abbrev second-verdict : Outcome (Unit {0})
+  second-verdict = refuse (turnedBack (length cs) cs) 10 0 (verdict office (wordsOf bs) (wordsOf cs))
 
-  fault : Bool
-  fault = broken bs || tooLong office bs
+  -- the system's file, then the certificate's, which has no limit, then the words
+  in-turn : refuse (turnedBack (4 * longestSystem office) bs) 10 0 second-verdict ≡ fileVerdict office bs cs
+  unfolding fileVerdict
+  in-turn =
+      ap (λ b. refuse (turnedBack (4 * longestSystem office) bs) 10 0 (refuse b 10 0 (verdict office (wordsOf bs) (wordsOf cs))))
+      (unlimited cs)
+      ∙ sym (refuse-or (turnedBack (4 * longestSystem office) bs) (broken cs) (verdict office (wordsOf bs) (wordsOf cs)))
 
-  first : (a b : Bool) → fault ≡ a → broken cs ≡ b → refuse (a || b) 10 0 words ≡ fileVerdict office bs cs
-  unfolding fileVerdict fault words
-  first a b ea eb = simp (sym ea, sym eb)
+  module _ {before after : List ℕ} {told : Outcome ℕ} (first : Opened (4 * longestSystem office) bs before after told) where
+    pub first-refused : {number place : ℕ} → told ≡ refused number place → refused number place ≡ fileVerdict office bs cs
+    first-refused e = sym (opened-stops first e second-verdict) ∙ in-turn
 
-  pub system-broken : (length bs % 4 ≡ 0 → ⊥) → refused 10 0 ≡ fileVerdict office bs cs
-  unfolding fault
-  system-broken h = first true (broken cs) (simp (ne-eqb (length bs % 4) 0 h)) refl
+    module _ {n : ℕ} (e : told ≡ accepted n) {before′ after′ : List ℕ} {told′ : Outcome ℕ}
+        (second : Opened (length cs) cs before′ after′ told′) where
+      passed : second-verdict ≡ fileVerdict office bs cs
+      passed = sym (opened-passes first e second-verdict) ∙ in-turn
 
-  pub system-long : length bs % 4 ≡ 0 → 4904 < length bs → refused 10 0 ≡ fileVerdict office bs cs
-  unfolding fault
-  system-long e h = first true (broken cs) (simp (eq-eqb (length bs % 4) 0 e, lt-ltb 4904 (length bs) h)) refl
+      pub second-refused : {number place : ℕ} → told′ ≡ refused number place → refused number place ≡ fileVerdict office bs cs
+      second-refused f = sym (opened-stops second f (verdict office (wordsOf bs) (wordsOf cs))) ∙ passed
 
-  module _ (e : length bs % 4 ≡ 0) (h : length bs ≤ 4904) where
-    whole : fault ≡ false
-    unfolding fault
-    whole = simp (eq-eqb (length bs % 4) 0 e, le-ltb 4904 (length bs) h)
-
-    pub certificate-broken : (length cs % 4 ≡ 0 → ⊥) → refused 10 0 ≡ fileVerdict office bs cs
-    certificate-broken n = first false true whole (simp (ne-eqb (length cs % 4) 0 n))
-
-    -- what is told of words that were unpacked
-    pub both-whole : length cs % 4 ≡ 0 → {tells : Outcome (Unit {0})} (vs us : List ℕ) → tells ≡ verdict office vs us
-        → vs ≡ wordsOf bs → verdict office vs us ≡ verdict office vs (wordsOf cs) → tells ≡ fileVerdict office bs cs
-    unfolding words
-    both-whole n vs us is same enough =
-        is ∙ enough ∙ ap (λ ws. verdict office ws (wordsOf cs)) same ∙ first false false whole (simp (eq-eqb (length cs % 4) 0 n))
+      -- the words of the certificate's file for which there was room tell what all tell
+      pub both-opened : {m : ℕ} → told′ ≡ accepted m → longestSystem office ≤ length before
+          → longestCertificate office < length before′
+          → {tells : Outcome (Unit {0})} → tells ≡ verdict office (take n after) (take m after′) → tells ≡ fileVerdict office bs cs
+      both-opened f room room′ is =
+          is ∙ ap₂ (verdict office) (opened-all first e (omega arith)) (opened-first second f)
+          ∙ verdict-room office office-fits (wordsOf bs) (wordsOf cs) (length before′) room′
+          ∙ sym (opened-passes second f (verdict office (wordsOf bs) (wordsOf cs))) ∙ passed

@@ -9,15 +9,17 @@ use lib.Seq.{getD-append-add, getD-at}
 use Rattle.words.specs.System.{System}
 use Rattle.truth.specs.Verdict.{solutionVerdict}
 use Rattle.loader.specs.Slot.{slot, Stands}
-use Rattle.products.specs.Areas.{vectorIn}
-use Rattle.products.specs.AreaLaws.{vector-is}
+use Rattle.check_conditions.specs.Widths.{certificateWidth}
+use Rattle.check_conditions.specs.Areas.{vectorIn}
+use Rattle.check_conditions.specs.AreaLaws.{vector-is}
 
-module _ (columns rows : ℕ) (area d : List ℕ) (N : List (List ℕ)) (w : List ℕ) (Z : List (List ℕ)) (eN : length N ≡ columns) (eZ : length Z ≡ rows)
-    (stands : Stands 122 area (d ∷ N ++ w ∷ Z)) where
+module _ (columns rows : ℕ) (area d : List ℕ) (N : List (List ℕ)) (w : List ℕ) (Z : List (List ℕ)) (eN : length N ≡ columns)
+    (eZ : length Z ≡ rows)
+    (stands : Stands certificateWidth area (d ∷ N ++ w ∷ Z)) where
   entries-count : length (d ∷ N ++ w ∷ Z) ≡ columns + 2 + rows
   entries-count = omega (arith, length-append N (w ∷ Z))
 
-  denominator-is : slot 122 area 0 ≡ d
+  denominator-is : slot certificateWidth area 0 ≡ d
   denominator-is = stands .slots 0 (omega (arith, entries-count))
 
   numerators-is : vectorIn columns 1 area ≡ N
@@ -26,8 +28,9 @@ module _ (columns rows : ℕ) (area d : List ℕ) (N : List (List ℕ)) (w : Lis
       let next : 1 + k ≡ suc k = omega arith in
       ap (λ (i : ℕ). getD (d ∷ N ++ w ∷ Z) i []) next ∙ List·getD-append N (w ∷ Z) [] k (omega arith))
 
-  certifying-denominator-is : slot 122 area (columns + 1) ≡ w
-  certifying-denominator-is = stands .slots (columns + 1) (omega (arith, entries-count)) ∙ getD-at (d ∷ N) w Z [] (columns + 1) (omega arith)
+  certifying-denominator-is : slot certificateWidth area (columns + 1) ≡ w
+  certifying-denominator-is =
+      stands .slots (columns + 1) (omega (arith, entries-count)) ∙ getD-at (d ∷ N) w Z [] (columns + 1) (omega arith)
 
   certifying-numerators-is : vectorIn rows (columns + 2) area ≡ Z
   certifying-numerators-is =
@@ -36,9 +39,11 @@ module _ (columns rows : ℕ) (area d : List ℕ) (N : List (List ℕ)) (w : Lis
       ap (λ (i : ℕ). getD (d ∷ N ++ w ∷ Z) i []) next ∙ getD-append-add (d ∷ N) (w ∷ Z) (suc k) [])
 
   pub solution-is : (s : System)
-      → solutionVerdict s (slot 122 area 0) (vectorIn columns 1 area) (slot 122 area (columns + 1)) (vectorIn rows (columns + 2) area) ≡ solutionVerdict s d N w Z
+      → solutionVerdict s (slot certificateWidth area 0) (vectorIn columns 1 area) (slot certificateWidth area (columns + 1))
+      (vectorIn rows (columns + 2) area) ≡ solutionVerdict s d N w Z
   solution-is s = rw (denominator-is, numerators-is, certifying-denominator-is, certifying-numerators-is)
 
-pub absence-is : (rows : ℕ) (area : List ℕ) (q : List (List ℕ)) → length q ≡ rows → Stands 122 area q → vectorIn rows 0 area ≡ q
+pub absence-is : (rows : ℕ) (area : List ℕ) (q : List (List ℕ)) → length q ≡ rows → Stands certificateWidth area q
+    → vectorIn rows 0 area ≡ q
 absence-is rows area q e stands =
     vector-is area q q rows 0 stands e (omega arith) (λ k lt. ap (λ (i : ℕ). getD q i []) (zero-add k))

@@ -13,17 +13,21 @@ use Rattle.words.specs.LimitsLaws.{office-fits}
 use Rattle.words.specs.Outcome.{Outcome, followedBy}
 use Rattle.words.specs.System.{System, Shape, SystemWithin, ShapeWithin, shape, systemEntries, systemWords}
 use Rattle.words.specs.SystemLaws.{system-written-of-read}
-use Rattle.words.specs.Certificate.{Certificate, Form, CertificateWithin, certificateForm, certificateEntries, certificateWords, entryCount, readCertificate}
+use Rattle.words.specs.Certificate.{Certificate, Form, CertificateWithin, certificateForm, certificateEntries, certificateWords}
+use Rattle.words.specs.Certificate.{entryCount, readCertificate}
 use Rattle.words.specs.Certificate.Certificate.{solution, absence}
 use Rattle.words.specs.Certificate.Form.{solving, absent}
 use Rattle.words.specs.CertificateLaws.{certificate-written-of-read}
 use Rattle.truth.specs.Verdict.{verdict, certificateVerdict, solutionVerdict, absenceVerdict}
 use Rattle.loader.specs.Slot.{Holds, Stands, Filled}
 use Rattle.loader.specs.SlotLaws.{stands-filled}
-use Rattle.loader.specs.HoldLaws.{system-holds, system-canonical, system-count, certificate-holds, certificate-canonical, certificate-count}
-use Rattle.products.specs.declared.layout.Layout.{Layout}
-use Rattle.products.specs.Areas.{systemIn, vectorIn, denominatorIn, numeratorsIn, certifyingDenominatorIn, certifyingNumeratorsIn, Loaded}
-use Rattle.products.specs.AreaLaws.{system-is}
+use Rattle.loader.specs.HoldLaws.{system-holds, system-canonical, system-count, certificate-holds, certificate-canonical}
+use Rattle.loader.specs.HoldLaws.{certificate-count}
+use Rattle.check_conditions.specs.Widths.{systemWidth, certificateWidth}
+use Rattle.check_conditions.specs.declared.layout.Layout.{Layout}
+use Rattle.check_conditions.specs.Areas.{systemIn, vectorIn, denominatorIn, numeratorsIn, certifyingDenominatorIn, certifyingNumeratorsIn}
+use Rattle.check_conditions.specs.Areas.{Loaded}
+use Rattle.check_conditions.specs.AreaLaws.{system-is}
 use Rattle.verifier.proofs.Parts.{solution-is, absence-is}
 use Rattle.verifier.specs.BothRead.{BothRead}
 
@@ -49,14 +53,17 @@ module _ {h : Shape} {form : Form} {ws cs : List ℕ} (b : BothRead h form ws cs
 
   -- ---- what `load` asks
 
-  pub read-system : Holds 17 ws (systemEntries s)
+  pub read-system : Holds systemWidth ws (systemEntries s)
   read-system = system-holds office office-fits ws s (system-part .0) (system-part .1)
 
   pub read-system-count : length (systemEntries s) ≡ h .rows * h .columns + h .rows
-  read-system-count = system-count office office-fits ws s (system-part .0) (system-part .1) ∙ ap (λ (g : Shape). g .rows * g .columns + g .rows) (sym (b .same-shape))
+  read-system-count =
+      system-count office office-fits ws s (system-part .0) (system-part .1)
+      ∙ ap (λ (g : Shape). g .rows * g .columns + g .rows) (sym (b .same-shape))
 
-  pub read-certificate : Holds 122 cs (certificateEntries c)
-  read-certificate = certificate-holds office office-fits cs (shape s) (system-part .1 .shape) c (certificate-part .0) (certificate-part .1)
+  pub read-certificate : Holds certificateWidth cs (certificateEntries c)
+  read-certificate =
+      certificate-holds office office-fits cs (shape s) (system-part .1 .shape) c (certificate-part .0) (certificate-part .1)
 
   certificate-entries : length (certificateEntries c) ≡ entryCount h form
   certificate-entries =
@@ -77,8 +84,7 @@ module _ {h : Shape} {form : Form} {ws cs : List ℕ} (b : BothRead h form ws cs
   verdict-read : certificateVerdict s c ≡ verdict office ws cs
   unfolding verdict
   verdict-read =
-      sym
-      (ap (λ o. followedBy o (λ t. followedBy (readCertificate office (shape t) cs) (certificateVerdict t))) (b .system-read)
+      sym (ap (λ o. followedBy o (λ t. followedBy (readCertificate office (shape t) cs) (certificateVerdict t))) (b .system-read)
       ∙ ap (λ o. followedBy o (certificateVerdict s)) (b .certificate-read))
 
   -- ---- the areas, loaded
@@ -88,10 +94,10 @@ module _ {h : Shape} {form : Form} {ws cs : List ℕ} (b : BothRead h form ws cs
       (valid : ValidModulus m)
       (same : m .p ≡ h .modulus)
       (A C : List ℕ)
-      (room-A : length A ≡ 1224)
-      (room-C : length C ≡ 2196)
-      (in-A : Stands 17 A (systemEntries s))
-      (in-C : Stands 122 C (certificateEntries c))
+      (room-A : length A ≡ 72 * systemWidth)
+      (room-C : length C ≡ 18 * certificateWidth)
+      (in-A : Stands systemWidth A (systemEntries s))
+      (in-C : Stands certificateWidth C (certificateEntries c))
     where
       abbrev l : Layout
       l = record { modulus = m; rows = h .rows; columns = h .columns }
@@ -99,17 +105,21 @@ module _ {h : Shape} {form : Form} {ws cs : List ℕ} (b : BothRead h form ws cs
       same-modulus : m .p ≡ s .modulus
       same-modulus = same ∙ ap (λ (g : Shape). g .modulus) (b .same-shape)
 
-      filled-system : (k : ℕ) → k < h .rows * h .columns + h .rows → Filled (m .p) 17 A k
+      filled-system : (k : ℕ) → k < h .rows * h .columns + h .rows → Filled (m .p) systemWidth A k
       filled-system k lt =
-          let few : length (systemEntries s) * 17 ≤ 1224 = omega (arith, read-system-count, read-places, read-shape .rows .1) in
+          let few : length (systemEntries s) * systemWidth ≤ 72 * systemWidth =
+          omega (arith, read-system-count, read-places, read-shape .rows .1) in
           stands-filled in-A k (omega (arith, read-system-count)) (omega arith) (read-system .sizes k)
-          (subst (λ (p : ℕ). Canonical p (getD (systemEntries s) k [])) (sym same-modulus) (system-canonical office office-fits ws s (system-part .0) (system-part .1) k))
+          (subst (λ (p : ℕ). Canonical p (getD (systemEntries s) k [])) (sym same-modulus)
+          (system-canonical office office-fits ws s (system-part .0) (system-part .1) k))
 
-      filled-certificate : length (certificateEntries c) ≤ 18 → (k : ℕ) → k < length (certificateEntries c) → Filled (m .p) 122 C k
+      filled-certificate : length (certificateEntries c) ≤ 18 → (k : ℕ) → k < length (certificateEntries c)
+          → Filled (m .p) certificateWidth C k
       filled-certificate few k lt =
           stands-filled in-C k lt (omega arith) (read-certificate .sizes k)
           (subst (λ (p : ℕ). Canonical p (getD (certificateEntries c) k [])) (sym same-modulus)
-          (certificate-canonical office office-fits cs (shape s) (system-part .1 .shape) c (certificate-part .0) (certificate-part .1) k))
+          (certificate-canonical office office-fits cs (shape s) (system-part .1 .shape) c (certificate-part .0)
+          (certificate-part .1) k))
 
       loaded : (count : ℕ) → length (certificateEntries c) ≡ count → count ≤ 18 → Loaded l count A C
       loaded count all few = record {
@@ -134,12 +144,15 @@ module _ {h : Shape} {form : Form} {ws cs : List ℕ} (b : BothRead h form ws cs
 
       system-in : systemIn l A ≡ s
       system-in =
-          system-is l A s in-A same-modulus (ap (λ (g : Shape). g .rows) (b .same-shape)) (ap (λ (g : Shape). g .columns) (b .same-shape))
+          system-is l A s in-A same-modulus (ap (λ (g : Shape). g .rows) (b .same-shape))
+          (ap (λ (g : Shape). g .columns) (b .same-shape))
           (system-part .1 .matrix .count) (system-part .1 .right .count)
 
       -- by the form of the certificate
-      solution-by : (x : Certificate) → solving ≡ certificateForm x → CertificateWithin office (shape s) x → Stands 122 C (certificateEntries x)
-          → solutionVerdict s (denominatorIn C) (numeratorsIn l C) (certifyingDenominatorIn l C) (certifyingNumeratorsIn l C) ≡ certificateVerdict s x
+      solution-by : (x : Certificate) → solving ≡ certificateForm x → CertificateWithin office (shape s) x
+          → Stands certificateWidth C (certificateEntries x)
+          → solutionVerdict s (denominatorIn C) (numeratorsIn l C) (certifyingDenominatorIn l C) (certifyingNumeratorsIn l C)
+          ≡ certificateVerdict s x
       unfolding certificateForm certificateEntries CertificateWithin certificateVerdict
       solution-by (solution d N w Z) e k stands =
           let eN : length N ≡ h .columns = k .numerators .count ∙ ap (λ (g : Shape). g .columns) (sym (b .same-shape)) in
@@ -147,7 +160,8 @@ module _ {h : Shape} {form : Form} {ws cs : List ℕ} (b : BothRead h form ws cs
           solution-is (h .columns) (h .rows) C d N w Z eN eZ stands s
       solution-by (absence q) e k stands = absurd (let z : _≡_ {A = ℕ} 0 1 = cc in omega arith)
 
-      absence-by : (x : Certificate) → absent ≡ certificateForm x → CertificateWithin office (shape s) x → Stands 122 C (certificateEntries x)
+      absence-by : (x : Certificate) → absent ≡ certificateForm x → CertificateWithin office (shape s) x
+          → Stands certificateWidth C (certificateEntries x)
           → absenceVerdict s (vectorIn (h .rows) 0 C) ≡ certificateVerdict s x
       unfolding certificateForm certificateEntries CertificateWithin certificateVerdict
       absence-by (solution d N w Z) e k stands = absurd (let z : _≡_ {A = ℕ} 0 1 = cc in omega arith)
@@ -155,15 +169,19 @@ module _ {h : Shape} {form : Form} {ws cs : List ℕ} (b : BothRead h form ws cs
           ap (absenceVerdict s) (absence-is (h .rows) C q (k .count ∙ ap (λ (g : Shape). g .rows) (sym (b .same-shape))) stands)
 
       pub verdict-solution : form ≡ solving → {told : Outcome (Unit {0})}
-          → told ≡ solutionVerdict (systemIn l A) (denominatorIn C) (numeratorsIn l C) (certifyingDenominatorIn l C) (certifyingNumeratorsIn l C)
+          → told ≡ solutionVerdict (systemIn l A) (denominatorIn C) (numeratorsIn l C) (certifyingDenominatorIn l C)
+          (certifyingNumeratorsIn l C)
           → told ≡ verdict office ws cs
       verdict-solution e is =
           is
-          ∙ ap (λ (t : System). solutionVerdict t (denominatorIn C) (numeratorsIn l C) (certifyingDenominatorIn l C) (certifyingNumeratorsIn l C)) system-in
+          ∙ ap (λ (t : System). solutionVerdict t (denominatorIn C) (numeratorsIn l C) (certifyingDenominatorIn l C)
+          (certifyingNumeratorsIn l C)) system-in
           ∙ solution-by c (sym e ∙ b .same-form) (certificate-part .1) in-C
           ∙ verdict-read
 
-      pub verdict-absence : form ≡ absent → {told : Outcome (Unit {0})} → told ≡ absenceVerdict (systemIn l A) (vectorIn (h .rows) 0 C)
+      pub verdict-absence : form ≡ absent → {told : Outcome (Unit {0})}
+          → told ≡ absenceVerdict (systemIn l A) (vectorIn (h .rows) 0 C)
           → told ≡ verdict office ws cs
       verdict-absence e is =
-          is ∙ ap (λ (t : System). absenceVerdict t (vectorIn (h .rows) 0 C)) system-in ∙ absence-by c (sym e ∙ b .same-form) (certificate-part .1) in-C ∙ verdict-read
+          is ∙ ap (λ (t : System). absenceVerdict t (vectorIn (h .rows) 0 C)) system-in
+          ∙ absence-by c (sym e ∙ b .same-form) (certificate-part .1) in-C ∙ verdict-read

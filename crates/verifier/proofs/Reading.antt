@@ -12,30 +12,36 @@ use Rattle.truth.specs.Verdict.{verdict, certificateVerdict}
 use Rattle.verifier.specs.BothRead.{BothRead}
 
 module _ (ws cs : List ℕ) (limits : Limits) (is : limits ≡ office) where
-  pub system-refused : {told : Outcome Shape} {number place : ℕ} → told ≡ mapped shape (readSystem limits ws) → told ≡ refused number place
+  pub system-refused : {told : Outcome Shape} {number place : ℕ} → told ≡ mapped shape (readSystem limits ws)
+      → told ≡ refused number place
       → _≡_ {A = Outcome (Unit {0})} (refused number place) (verdict office ws cs)
   unfolding verdict
   system-refused {told} {number} {place} tells e =
-      let r : readSystem office ws ≡ refused number place = mapped-refused shape _ (ap (λ (l : Limits). mapped shape (readSystem l ws)) (sym is) ∙ sym tells ∙ e) in
+      let r : readSystem office ws ≡ refused number place =
+      mapped-refused shape _ (ap (λ (l : Limits). mapped shape (readSystem l ws)) (sym is) ∙ sym tells ∙ e) in
       sym (ap (λ o. followedBy o (λ s. followedBy (readCertificate office (shape s) cs) (certificateVerdict s))) r)
 
   module _ {told : Outcome Shape} {h : Shape} (tells : told ≡ mapped shape (readSystem limits ws)) (e : told ≡ accepted h) where
     found-system : (s : System) × (readSystem office ws ≡ accepted s) × (shape s ≡ h)
     found-system = mapped-accepted shape _ (ap (λ (l : Limits). mapped shape (readSystem l ws)) (sym is) ∙ sym tells ∙ e)
 
-    module _ (limits′ : Limits) (is′ : limits′ ≡ office) {certificate-part : Outcome Form} (tells-certificate : certificate-part ≡ mapped certificateForm (readCertificate limits′ h cs)) where
-      certificate-part-told : {o : Outcome Form} → certificate-part ≡ o → mapped certificateForm (readCertificate office (shape (found-system .0)) cs) ≡ o
+    module _ (limits′ : Limits) (is′ : limits′ ≡ office) {certificate-part : Outcome Form}
+        (tells-certificate : certificate-part ≡ mapped certificateForm (readCertificate limits′ h cs)) where
+      certificate-part-told : {o : Outcome Form} → certificate-part ≡ o
+          → mapped certificateForm (readCertificate office (shape (found-system .0)) cs) ≡ o
       certificate-part-told f =
           ap (λ (g : Shape). mapped certificateForm (readCertificate office g cs)) (found-system .2)
           ∙ ap (λ (l : Limits). mapped certificateForm (readCertificate l h cs)) (sym is′)
           ∙ sym tells-certificate
           ∙ f
 
-      pub certificate-refused : {number place : ℕ} → certificate-part ≡ refused number place → _≡_ {A = Outcome (Unit {0})} (refused number place) (verdict office ws cs)
+      pub certificate-refused : {number place : ℕ} → certificate-part ≡ refused number place
+          → _≡_ {A = Outcome (Unit {0})} (refused number place) (verdict office ws cs)
       unfolding verdict
       certificate-refused {number} {place} f =
           let s = found-system .0 in
-          let r : readCertificate office (shape s) cs ≡ refused number place = mapped-refused certificateForm _ (certificate-part-told f) in
+          let r : readCertificate office (shape s) cs ≡ refused number place =
+          mapped-refused certificateForm _ (certificate-part-told f) in
           sym
           (ap (λ o. followedBy o (λ t. followedBy (readCertificate office (shape t) cs) (certificateVerdict t))) (found-system .1)
           ∙ ap (λ o. followedBy o (certificateVerdict s)) r)

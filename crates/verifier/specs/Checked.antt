@@ -1,5 +1,5 @@
--- Demands 2 and 3 of the check on files: it accepts two files exactly when they are the bytes of accepted words, the certificate then
--- tells the truth, and no system's file has accepted files of both kinds.
+-- Demands 2 and 3 of the check on files: it accepts two files exactly when they are the bytes of accepted words, the certificate
+-- then tells the truth, and no system's file has accepted files of both kinds.
 use Prim.Native.Nat.{ℕ, _*_, _%_, _≤_}
 use mathlib.Core.Path.{_≡_, refl, sym, _∙_, ap, ap₂, subst}
 use mathlib.Core.Logic.{_↔_}
@@ -62,16 +62,25 @@ pub whole-files : (limits : Limits) (f g : List ℕ) → Bytes f → Bytes g →
     → (f ≡ bytesOf (wordsOf f)) × (g ≡ bytesOf (wordsOf g))
 whole-files limits f g small-f small-g e =
     let first = or-left (broken f) (tooLong limits f) (or-left (broken f || tooLong limits f) (broken g) e) in
-    let second = or-right (broken f || tooLong limits f) (broken g) e in
-    (sym (bytesOf-wordsOf f small-f (eqb-true _ _ (not-false _ first))), sym (bytesOf-wordsOf g small-g (eqb-true _ _ (not-false _ second))))
+    let second = or-right (broken f || tooLong limits f) (broken g) e in (
+      sym (bytesOf-wordsOf f small-f (eqb-true _ _ (not-false _ first))),
+      sym (bytesOf-wordsOf g small-g (eqb-true _ _ (not-false _ second))),
+    )
 
 module _ (limits : Limits) (fit : LimitsFit limits) where
   -- of words that are not too many the files are as the words
-  pub bytes-verdict : (ws cs : List ℕ) → length ws ≤ longestSystem limits → fileVerdict limits (bytesOf ws) (bytesOf cs) ≡ verdict limits ws cs
+  pub bytes-verdict : (ws cs : List ℕ) → length ws ≤ longestSystem limits
+      → fileVerdict limits (bytesOf ws) (bytesOf cs) ≡ verdict limits ws cs
   unfolding fileVerdict
   bytes-verdict ws cs most =
       let n = length-bytesOf ws in
-      simp (whole-words ws, whole-words cs, le-ltb (4 * longestSystem limits) (length (bytesOf ws)) (omega arith), wordsOf-bytesOf ws, wordsOf-bytesOf cs)
+      simp (
+        whole-words ws,
+        whole-words cs,
+        le-ltb (4 * longestSystem limits) (length (bytesOf ws)) (omega arith),
+        wordsOf-bytesOf ws,
+        wordsOf-bytesOf cs,
+      )
 
   module _ (f g : List ℕ) (small-f : Bytes f) (small-g : Bytes g) where
     pub words-of-files : fileVerdict limits f g ≡ accepted tt → AcceptedFiles limits f g
@@ -144,9 +153,11 @@ module _ (limits : Limits) (fit : LimitsFit limits) where
   module _ (f g h : List ℕ) where
     pub files-agree : (a : CertifiedFiles limits f g) (b : CertifiedFiles limits f h) → Agree (a .certificate) (b .certificate)
     files-agree a b =
-        let words : systemWords (b .system) ≡ systemWords (a .system) = sym (wordsOf-bytesOf _) ∙ ap wordsOf (sym (b .system-file) ∙ a .system-file)
+        let words : systemWords (b .system) ≡ systemWords (a .system) =
+        sym (wordsOf-bytesOf _) ∙ ap wordsOf (sym (b .system-file) ∙ a .system-file)
         ∙ wordsOf-bytesOf _ in
-        let same : b .system ≡ a .system = systemWords-injective limits fit (b .system) (a .system) (b .system-within) (a .system-within) words in
+        let same : b .system ≡ a .system = systemWords-injective limits fit (b .system) (a .system) (b .system-within)
+        (a .system-within) words in
         true-agree limits (a .system) (a .system-within) (a .certificate) (b .certificate)
         (certified-true limits (a .system) (a .system-within) (a .certificate) (a .certificate-within) (a .certified))
         (subst (λ s. True s (b .certificate)) same

@@ -7,8 +7,8 @@ use Rattle.words.specs.Outcome.{Outcome, refuse}
 use Rattle.words.specs.Bytes.{wordsOf, broken, tooLong}
 use Rattle.truth.specs.Verdict.{verdict}
 
--- "10: file of bytes not a multiple of four, or over 4,904; 0". It is said of either file that is not whole words; the length limit is
--- the system's alone, since a certificate's file may be longer.
+-- "10: file of bytes not a multiple of four, or over 4,904; 0". It is said of either file that is not whole words; the length limit
+-- is the system's alone, since a certificate's file may be longer.
 abbrev pub filesBroken : Limits → List ℕ → List ℕ → Bool
 filesBroken limits system certificate = (broken system || tooLong limits system) || broken certificate
 

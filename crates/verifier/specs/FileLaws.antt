@@ -10,18 +10,15 @@ use lib.Dec.{ltb}
 use borrow.Author.Tests.{ltb-false}
 use Rattle.words.specs.Limits.{Limits, longestSystem, longestCertificate}
 use Rattle.words.specs.LimitsLaws.{LimitsFit}
-use Rattle.words.specs.Outcome.{Outcome, refuse}
+use Rattle.words.specs.Outcome.{refuse}
 use Rattle.words.specs.Outcome.Outcome.{refused}
 use Rattle.words.specs.Bytes.{wordsOf, broken, tooLong}
 use Rattle.words.specs.BytesLaws.{length-wordsOf}
 use Rattle.truth.specs.Verdict.{verdict}
 use Rattle.truth.specs.Places.{verdict-place}
 use Rattle.truth.specs.Prefix.{verdict-room}
+use Rattle.answers.specs.Packed.{VerdictMost}
 use Rattle.verifier.specs.File.{fileVerdict}
-
--- a refusal's place is at most so much
-pub record VerdictMost (most : ℕ) (v : Outcome (Unit {0})) : Type 0 where
-  pub places : (number place : ℕ) → v ≡ refused number place → place ≤ most
 
 -- files that pass have few words
 passed-short : (b t : Bool) (most n : ℕ) → ltb (4 * most) n ≡ t → b || t ≡ false → n / 4 ≤ most

@@ -1,29 +1,28 @@
-// The check (document 01, "Turned back"): reads the system, then the certificate, then tries 31 to 36, which are in `conditions`.
+// The check (document 01, "Turned back"): reads the system, then the certificate, then tries 31 to 36, which are in `check_conditions`.
 pub mod file;
 
-pub use conditions::Verdict;
-use conditions::absence::check_absence;
-use conditions::solution::check_solution;
+use answers::CertificateRead;
+use answers::Form;
+use answers::Shape;
+use answers::SystemRead;
+pub use answers::Verdict;
+use check_conditions::absence::check_absence;
+use check_conditions::layout::Layout;
+use check_conditions::products::CERTIFICATE_WIDTH;
+use check_conditions::products::SYSTEM_WIDTH;
+use check_conditions::solution::check_solution;
 use limits::Office;
 use loader::load;
-use products::CERTIFICATE_WIDTH;
-use products::SYSTEM_WIDTH;
-use products::layout::Layout;
-use reader::certificate::CertificateRead;
-use reader::certificate::Form;
 use reader::certificate::read_certificate;
-use reader::system::Shape;
-use reader::system::SystemRead;
 use reader::system::read_system;
 use residue::modulus::Modulus;
 ghost use mathlib.Core.Path.{_≡_};
 ghost use Rattle.words.specs.Limits.{office};
-ghost use Rattle.reader.specs.Answer.{shapeOf, formOf};
+ghost use Rattle.answers.specs.Answer.{shapeOf, formOf, verdictOutcome};
 ghost use Rattle.truth.specs.Verdict.{verdict};
-ghost use Rattle.conditions.specs.Answer.{verdictOutcome};
 ghost use Rattle.verifier.specs.BothRead.{BothRead};
 
-// 31 to 36, of a system and a certificate that were read.
+// Tries 31 to 36 on a system and a certificate that were read.
 fn check_read(system: &[u32], certificate: &[u32], shape: Shape, form: Form) -> Verdict
     requires { ⌜ BothRead (shapeOf shape) (formOf form) (now system) (now certificate) ⌝ }
     ensures { λ r. ⌜ verdictOutcome r ≡ verdict office (now (system .entry)) (now (certificate .entry)) ⌝ }
@@ -56,7 +55,7 @@ fn check_read(system: &[u32], certificate: &[u32], shape: Shape, form: Form) -> 
     }
 }
 
-// The verdict on the words of a system and of a certificate.
+// Gives the verdict on the words of a system and of a certificate.
 pub fn check(system: &[u32], certificate: &[u32]) -> Verdict
     ensures { λ r. ⌜ verdictOutcome r ≡ verdict office (now (system .entry)) (now (certificate .entry)) ⌝ }
 {
@@ -66,9 +65,9 @@ pub fn check(system: &[u32], certificate: &[u32]) -> Verdict
             let found = read_certificate(certificate, shape, Office::limits());
             match found {
                 CertificateRead::Accepted(form) => check_read(system, certificate, shape, form),
-                CertificateRead::Refused(number, place) => Verdict::Refused(number, place),
+                CertificateRead::Refused(refusal) => Verdict::Refused(refusal),
             }
         }
-        SystemRead::Refused(number, place) => Verdict::Refused(number, place),
+        SystemRead::Refused(refusal) => Verdict::Refused(refusal),
     }
 }

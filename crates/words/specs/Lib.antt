@@ -1,3 +1,8 @@
+-- interface, what contracts, other crates and PROVED.md cite: Limits, Word, Outcome, OutcomeLaws, Reading, Polynomial, Frame,
+--   System, Certificate, Bytes, Examples, WordLaws, ReadingLaws, PolynomialLaws, FrameLaws, LimitsLaws, VectorLaws,
+--   SystemHeadLaws, SystemLaws, CertificateLaws, LongestLaws, WidthLaws, BytesLaws, ForwardLaws, PlaceLaws, PrefixLaws,
+--   FaultLaws, Table, FirstFault, RefusedLaws
+-- inside: FormatLaws, TableLaws, PassLaws, CompleteLaws, OnTableLaws, FirstFaultLaws, TableExamples
 pub mod Limits
 pub mod Word
 pub mod Outcome

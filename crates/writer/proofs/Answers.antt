@@ -13,50 +13,57 @@ use Rattle.words.specs.Polynomial.{Within, AllWithin}
 use Rattle.words.specs.Limits.{Limits}
 use Rattle.words.specs.Frame.{framedWords}
 use Rattle.words.specs.System.{Shape}
-use Rattle.words.specs.Certificate.{Form}
 use Rattle.words.specs.VectorLaws.{all-at}
 use Rattle.words.specs.WidthLaws.{below-nil, below-cons}
-use Rattle.writer.specs.declared.answer.Written.{Written}
-use Rattle.writer.specs.declared.answer.Written.the-variants.{Count, Refused}
-use Rattle.framing.specs.declared.format.Format.{Format}
-use Rattle.writer.specs.Writing.{refuseShape, refuseRoom, writeSystem, writeCertificate, lentAfter}
-use Rattle.trial.specs.Trial.{passed, refusePolynomials}
-use Rattle.trial.specs.TrialLaws.{after, polynomials-first, polynomials-passed}
+use Rattle.answers.specs.declared.answer.Refusal.{Refusal}
+use Rattle.answers.specs.declared.answer.Counted.{Counted}
+use Rattle.answers.specs.declared.answer.Counted.the-variants.{Count, Refused}
+use Rattle.write_frame.specs.declared.format.Format.{Format}
+use Rattle.writer.specs.Writing.{refuseShape, refuseRoom, lentAfter, Writes}
+use Rattle.write_frame.specs.Trial.{passed, refusePolynomials}
+use Rattle.write_frame.specs.TrialLaws.{after, polynomials-first, polynomials-passed}
 use Rattle.writer.specs.WritingLaws.{shape-first}
-use Rattle.framing.specs.Values.{polynomialIn}
-use Rattle.framing.specs.ValuesLaws.{length-polynomialIn, getD-polynomialsIn}
-use Rattle.writer.specs.Values.{systemIn, certificateIn}
-use Rattle.framing.specs.Framing.{Writable, Wrote, entriesIn}
-use Rattle.writer.specs.Formats.{writeFramed, systemFormat, certificateFormat, system-framed, certificate-framed}
-use Rattle.writer.specs.Answer.{Writes}
+use Rattle.write_frame.specs.Values.{polynomialIn}
+use Rattle.write_frame.specs.ValuesLaws.{length-polynomialIn, getD-polynomialsIn}
+use Rattle.write_frame.specs.Framing.{Writable, Wrote, entriesIn}
+use Rattle.writer.specs.Formats.{writeFramed}
+
+-- an outcome under another name
+pub writes-as : {outcome same : Outcome (List ℕ)} {entry exit : List ℕ} {answer : Counted} → outcome ≡ same
+    → Writes same entry answer exit → Writes outcome entry answer exit
+writes-as {entry = entry} {exit = exit} {answer = answer} e = subst (λ (o : Outcome (List ℕ)). Writes o entry answer exit) (sym e)
 
 -- ---- a trial before the rest
 
 module _ (trial : Outcome (Unit {0})) (next outcome : Outcome (List ℕ)) (first : outcome ≡ after trial next) where
-  pub writes-refused : (entry : List ℕ) (number place : ℕ) → refused number place ≡ trial
-      → Writes outcome entry (Refused number place) entry
+  pub writes-refused : (entry : List ℕ) (r : Refusal) → refused (r .number) (r .place) ≡ trial
+      → Writes outcome entry (Refused r) entry
   unfolding lentAfter
-  writes-refused entry number place e =
-      let o : outcome ≡ refused number place = first ∙ ap (λ (t : Outcome (Unit {0})). after t next) (sym e) in
+  writes-refused entry r e =
+      let o : outcome ≡ refused (r .number) (r .place) = first ∙ ap (λ (t : Outcome (Unit {0})). after t next) (sym e) in
       record { told = sym (ap (mapped length) o); lent = sym (ap (λ (p : Outcome (List ℕ)). lentAfter p entry) o) }
 
-  pub writes-passed : (entry exit : List ℕ) (answer : Written) → passed ≡ trial → Writes next entry answer exit
+  pub writes-passed : (entry exit : List ℕ) (answer : Counted) → passed ≡ trial → Writes next entry answer exit
       → Writes outcome entry answer exit
   writes-passed entry exit answer e w =
-      let o : outcome ≡ next = first ∙ ap (λ (t : Outcome (Unit {0})). after t next) (sym e) in
-      subst (λ (p : Outcome (List ℕ)). Writes p entry answer exit) (sym o) w
+      writes-as (first ∙ ap (λ (t : Outcome (Unit {0})). after t next) (sym e)) w
 
 -- ---- room
 
+-- 11, at 0
+abbrev pub short : Counted
+short = Refused (record { number = 11; place = 0 })
+
 module _ (longest lent : ℕ) (ws entry : List ℕ) where
-  pub writes-short : lent < longest → Writes (refuseRoom longest lent (accepted ws)) entry (Refused 11 0) entry
+  pub writes-short : lent < longest → Writes (refuseRoom longest lent (accepted ws)) entry short entry
   unfolding lentAfter
   writes-short h = record { told = simp (lt-ltb lent longest h); lent = simp (lt-ltb lent longest h) }
 
   pub writes-words : (exit : List ℕ) (n : ℕ) → longest ≤ lent → Wrote ws entry exit n
       → Writes (refuseRoom longest lent (accepted ws)) entry (Count n) exit
   unfolding lentAfter
-  writes-words exit n h w = record { told = simp (le-ltb lent longest h) (ap accepted (w .count)); lent = simp (le-ltb lent longest h) (w .words) }
+  writes-words exit n h w =
+      record { told = simp (le-ltb lent longest h) (ap accepted (w .count)); lent = simp (le-ltb lent longest h) (w .words) }
 
 -- ---- polynomials in which nothing was refused can be written
 
@@ -70,15 +77,18 @@ writable : (format : Format) (sizes coefficients : List ℕ) (p : ℕ) → p ≤
     → AllWithin p (format .limit) (entriesIn format sizes coefficients)
     → Writable format sizes coefficients
 writable format sizes coefficients p small all = record {
-  few = λ k h. omega (arith, within k h .size, length-polynomialIn (format .limit) sizes coefficients k);
+  few = λ k h. omega (arith, within k h .size, length-polynomialIn (format .stride) sizes coefficients k);
   payloads =
-      λ k h. canonical-below p 268435456 small (omega arith) (polynomialIn (format .limit) sizes coefficients k) (within k h .canonical);
+      λ k h. canonical-below p 268435456 small (omega arith) (polynomialIn (format .stride) sizes coefficients k)
+      (within k h .canonical);
 }
   where
-    within : (k : ℕ) → k < format .count → Within p (format .limit) (polynomialIn (format .limit) sizes coefficients k)
+    within : (k : ℕ) → k < format .count → Within p (format .limit) (polynomialIn (format .stride) sizes coefficients k)
     within k h =
         let z : _≡_ {A = ℕ} (0 + k) k = omega arith in
-        subst (Within p (format .limit)) (getD-polynomialsIn (format .limit) sizes coefficients 0 (format .count) k h ∙ ap (polynomialIn (format .limit) sizes coefficients) z)
+        subst (Within p (format .limit))
+        (getD-polynomialsIn (format .stride) sizes coefficients 0 (format .count) k h
+        ∙ ap (polynomialIn (format .stride) sizes coefficients) z)
         (all-at p (format .limit) (entriesIn format sizes coefficients) all k)
 
 -- ---- what writing values gives
@@ -106,69 +116,34 @@ module _ (format : Format) (p : ℕ) (sizes coefficients : List ℕ) where
     trial-first : all ≡ after trial rest
     trial-first = polynomials-first p (format .limit) (format .by) rest 1 entries
 
-    pub values-refused : (number place : ℕ) → refused number place ≡ trial → Writes all lent (Refused number place) lent
+    pub values-refused : (r : Refusal) → refused (r .number) (r .place) ≡ trial → Writes all lent (Refused r) lent
     values-refused = writes-refused trial rest all trial-first lent
 
-    pub values-short : passed ≡ trial → length lent < format .longest → Writes all lent (Refused 11 0) lent
+    pub values-short : passed ≡ trial → length lent < format .longest → Writes all lent short lent
     values-short e h =
-        writes-passed trial rest all trial-first lent lent (Refused 11 0) e (writes-short (format .longest) (length lent) (framedWords (format .head) entries) lent h)
+        writes-passed trial rest all trial-first lent lent short e
+        (writes-short (format .longest) (length lent) (framedWords (format .head) entries) lent h)
 
     pub values-words : passed ≡ trial → format .longest ≤ length lent → (exit : List ℕ) (n : ℕ)
         → Wrote (framedWords (format .head) entries) lent exit n
         → Writes all lent (Count n) exit
     values-words e h exit n w =
-        writes-passed trial rest all trial-first lent exit (Count n) e (writes-words (format .longest) (length lent) (framedWords (format .head) entries) lent exit n h w)
+        writes-passed trial rest all trial-first lent exit (Count n) e
+        (writes-words (format .longest) (length lent) (framedWords (format .head) entries) lent exit n h w)
 
 -- ---- a shape before values
 
-module _ (limits : Limits) (h : Shape) (format : Format) (sizes coefficients lent : List ℕ) {outcome : Outcome (List ℕ)}
-    (framed : outcome ≡ refuseShape limits h (writeFramed format (h .modulus) (length lent) sizes coefficients))
-  where
-    -- first the shape, then the values
-    first : outcome ≡ after (refuseShape limits h passed) (writeFramed format (h .modulus) (length lent) sizes coefficients)
-    first = framed ∙ shape-first limits h (writeFramed format (h .modulus) (length lent) sizes coefficients)
+module _ (limits : Limits) (h : Shape) (format : Format) (sizes coefficients lent : List ℕ) where
+  abbrev next : Format → Outcome (List ℕ)
+  next f = writeFramed f (h .modulus) (length lent) sizes coefficients
 
-    shape-refused : (number place : ℕ) → refused number place ≡ refuseShape limits h passed
-        → Writes outcome lent (Refused number place) lent
-    shape-refused = writes-refused _ _ outcome first lent
+  pub shape-refused : (r : Refusal) → refused (r .number) (r .place) ≡ refuseShape limits h passed
+      → Writes (refuseShape limits h (next format)) lent (Refused r) lent
+  shape-refused = writes-refused _ _ _ (shape-first limits h (next format)) lent
 
-    -- the format is what code computed
-    shape-written : {computed : Format} {answer : Written} {exit : List ℕ} → passed ≡ refuseShape limits h passed
-        → computed ≡ format
-        → Writes (writeFramed computed (h .modulus) (length lent) sizes coefficients) lent answer exit
-        → Writes outcome lent answer exit
-    shape-written {computed} {answer} {exit} e f w =
-        writes-passed _ _ outcome first lent exit answer e
-        (subst (λ (g : Format). Writes (writeFramed g (h .modulus) (length lent) sizes coefficients) lent answer exit) f w)
-
-module _ (limits : Limits) (h : Shape) (sizes coefficients lent : List ℕ) where
-  abbrev system : Outcome (List ℕ)
-  system = writeSystem limits (length lent) (systemIn limits h sizes coefficients)
-
-  pub system-refused : (number place : ℕ) → refused number place ≡ refuseShape limits h passed
-      → Writes system lent (Refused number place) lent
-  system-refused =
-      shape-refused limits h (systemFormat limits h) sizes coefficients lent (system-framed limits h sizes coefficients (length lent))
-
-  pub system-written : {computed : Format} {answer : Written} {exit : List ℕ} → passed ≡ refuseShape limits h passed
-      → computed ≡ systemFormat limits h
-      → Writes (writeFramed computed (h .modulus) (length lent) sizes coefficients) lent answer exit
-      → Writes system lent answer exit
-  system-written =
-      shape-written limits h (systemFormat limits h) sizes coefficients lent (system-framed limits h sizes coefficients (length lent))
-
-  module _ (form : Form) where
-    abbrev certificate : Outcome (List ℕ)
-    certificate = writeCertificate limits (length lent) h (certificateIn limits h form sizes coefficients)
-
-    pub certificate-refused : (number place : ℕ) → refused number place ≡ refuseShape limits h passed
-        → Writes certificate lent (Refused number place) lent
-    certificate-refused =
-        shape-refused limits h (certificateFormat limits h form) sizes coefficients lent (certificate-framed limits h sizes coefficients (length lent) form)
-
-    pub certificate-written : {computed : Format} {answer : Written} {exit : List ℕ} → passed ≡ refuseShape limits h passed
-        → computed ≡ certificateFormat limits h form
-        → Writes (writeFramed computed (h .modulus) (length lent) sizes coefficients) lent answer exit
-        → Writes certificate lent answer exit
-    certificate-written =
-        shape-written limits h (certificateFormat limits h form) sizes coefficients lent (certificate-framed limits h sizes coefficients (length lent) form)
+  -- the format is what code computed
+  pub shape-written : {computed : Format} {answer : Counted} {exit : List ℕ} → passed ≡ refuseShape limits h passed
+      → computed ≡ format → Writes (next computed) lent answer exit → Writes (refuseShape limits h (next format)) lent answer exit
+  shape-written {computed} {answer} {exit} e f w =
+      writes-passed _ _ _ (shape-first limits h (next format)) lent exit answer e
+      (subst (λ (g : Format). Writes (next g) lent answer exit) f w)

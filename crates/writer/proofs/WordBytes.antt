@@ -6,18 +6,14 @@ use native.Mathlib.Omega.{arith}
 use lib.ListN.{length, getD, take, set, length-append}
 use lib.Seq.{take-suc, take-all, length-take-le}
 use Rattle.words.specs.Bytes.{bytesOf}
-use Rattle.framing.specs.Overwriting.{overwritten}
-use Rattle.framing.proofs.Overwriting.{set-written, length-overwritten}
+use Rattle.words.specs.BytesLaws.{length-bytesOf}
+use Rattle.write_frame.specs.Overwriting.{overwritten}
+use Rattle.write_frame.proofs.Overwriting.{set-written, length-overwritten}
 
 pub bytes-append : (vs ws : List ℕ) → bytesOf (vs ++ ws) ≡ bytesOf vs ++ bytesOf ws
 unfolding bytesOf
 bytes-append [] ws = refl
 bytes-append (v ∷ vs) ws = ap (λ l. v % 256 ∷ v / 256 % 256 ∷ v / 65536 % 256 ∷ v / 16777216 ∷ l) (bytes-append vs ws)
-
-pub length-bytes : (ws : List ℕ) → length (bytesOf ws) ≡ 4 * length ws
-unfolding bytesOf
-length-bytes [] = refl
-length-bytes (w ∷ ws) = omega (arith, length-bytes ws)
 
 -- four bytes behind a list
 module _ (vs lent now : List ℕ) (at a b c d : ℕ) (is : now ≡ overwritten vs lent) (place : at ≡ length vs)
@@ -72,13 +68,14 @@ module _ (ws lent : List ℕ) (room : 4 * length ws ≤ length lent) where
       (4 * i + 2) (getD ws i 0 / 65536 % 256)) (4 * i + 3) (getD ws i 0 / 16777216) → BytesWritten ws lent after (i + 1)
   unfolding bytesOf
   bytes-next now i t h after is =
-      let n = length-bytes (take i ws) in
+      let n = length-bytesOf (take i ws) in
       let m = length-take-le i ws (omega arith) in
       let e : suc i ≡ i + 1 = omega arith in
-      let written = is ∙ four-written (bytesOf (take i ws)) lent now (4 * i) _ _ _ _ (t .bytes) (omega (arith, n, m)) (omega (arith, n, m))
+      let written = is ∙ four-written (bytesOf (take i ws)) lent now (4 * i) _ _ _ _ (t .bytes) (omega (arith, n, m))
+      (omega (arith, n, m))
       ∙ ap (λ l. overwritten l lent) (sym (bytes-append (take i ws) (getD ws i 0 ∷ []))
       ∙ ap bytesOf (sym (take-suc ws i 0 h) ∙ ap (λ k. take k ws) e)) in
-      let n′ = length-bytes (take (i + 1) ws) in
+      let n′ = length-bytesOf (take (i + 1) ws) in
       let m′ = length-take-le (i + 1) ws (omega arith) in
       record {
         within = omega arith;

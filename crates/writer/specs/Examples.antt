@@ -12,7 +12,7 @@ use Rattle.words.specs.Certificate.Certificate.{solution, absence}
 use Rattle.words.specs.Certificate.Form.{solving}
 use Rattle.modular.specs.Prime.{prime?}
 use Rattle.writer.specs.Writing.{writeSystem, writeCertificate, lentAfter}
-use Rattle.writer.specs.Values.{shapeOf, systemIn, certificateIn}
+use Rattle.writer.specs.Values.{shapeWith, systemIn, certificateIn}
 
 -- ---- case 1: p = 2, A = (x), b = 1
 
@@ -22,12 +22,12 @@ system1 = record { modulus = 2; rows = 1; columns = 1; matrix = (0 ∷ 1 ∷ [])
 certificate1 : Certificate
 certificate1 = solution (0 ∷ 1 ∷ []) ((1 ∷ []) ∷ []) (0 ∷ 1 ∷ []) ((1 ∷ []) ∷ [])
 
-system1-in : systemIn office (shapeOf 2 1 1) (2 ∷ 1 ∷ []) (0 ∷ 1 ∷ replicate 14 0 ++ 1 ∷ []) ≡ system1
+system1-in : systemIn office (shapeWith 2 1 1) (2 ∷ 1 ∷ []) (0 ∷ 1 ∷ replicate 14 0 ++ 1 ∷ []) ≡ system1
 unfolding systemIn system1
 system1-in = refl
 
 -- beyond an array there is 0: two zero polynomials
-certificate-in : certificateIn office (shapeOf 2 1 1) solving (2 ∷ 1 ∷ []) (0 ∷ 1 ∷ replicate 119 0 ++ 1 ∷ [])
+certificate-in : certificateIn (shapeWith 2 1 1) solving (2 ∷ 1 ∷ []) (0 ∷ 1 ∷ replicate 126 0 ++ 1 ∷ [])
     ≡ solution (0 ∷ 1 ∷ []) ((1 ∷ []) ∷ []) [] ([] ∷ [])
 unfolding certificateIn
 certificate-in = refl
@@ -47,7 +47,7 @@ certificate1-words =
     ∷ 0x4000000C
     ∷ []
 
-certificate1-written : writeCertificate office 2198 (shapeOf 2 1 1) certificate1 ≡ accepted certificate1-words
+certificate1-written : writeCertificate office 2198 (shapeWith 2 1 1) certificate1 ≡ accepted certificate1-words
 unfolding writeCertificate certificate1 certificate1-words prime?
 certificate1-written = refl
 
@@ -92,12 +92,12 @@ systems-refused = refl
 -- ---- refusals of an absence
 
 -- 2 before 3; 3; 26; 27; 28; 11, where 121 coefficients are fine
-certificates-refused : writeCertificate office 2198 (shapeOf 4 9 1) (absence [])
-    ∷ writeCertificate office 2198 (shapeOf 2 1 9) (absence [])
-    ∷ writeCertificate office 2197 (shapeOf 2 1 1) (absence (replicate 122 1 ∷ []))
-    ∷ writeCertificate office 2197 (shapeOf 2 1 1) (absence ((2 ∷ []) ∷ []))
-    ∷ writeCertificate office 2197 (shapeOf 2 1 1) (absence ((0 ∷ []) ∷ []))
-    ∷ writeCertificate office 2197 (shapeOf 2 1 1) (absence (replicate 121 1 ∷ []))
+certificates-refused : writeCertificate office 2198 (shapeWith 4 9 1) (absence [])
+    ∷ writeCertificate office 2198 (shapeWith 2 1 9) (absence [])
+    ∷ writeCertificate office 2197 (shapeWith 2 1 1) (absence (replicate 122 1 ∷ []))
+    ∷ writeCertificate office 2197 (shapeWith 2 1 1) (absence ((2 ∷ []) ∷ []))
+    ∷ writeCertificate office 2197 (shapeWith 2 1 1) (absence ((0 ∷ []) ∷ []))
+    ∷ writeCertificate office 2197 (shapeWith 2 1 1) (absence (replicate 121 1 ∷ []))
     ∷ []
     ≡ refused 2 0 ∷ refused 3 0 ∷ refused 26 1 ∷ refused 27 2 ∷ refused 28 2 ∷ refused 11 0 ∷ []
 unfolding writeCertificate prime?

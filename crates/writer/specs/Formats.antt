@@ -2,17 +2,20 @@
 use mathlib.Core.Path.{_≡_, ap, ap₂}
 use mathlib.Core.List.{List}
 use Prim.Native.Nat.{ℕ}
-use Rattle.words.specs.Limits.{Limits, systemCount, longestSystem, longestCertificate}
+use Rattle.words.specs.Limits.{Limits, systemCount, solutionCount, longestSystem, longestCertificate}
 use Rattle.words.specs.Outcome.{Outcome}
 use Rattle.words.specs.Outcome.Outcome.{accepted}
 use Rattle.words.specs.Frame.{framedWords}
 use Rattle.words.specs.System.{Shape, headWord, systemWords}
 use Rattle.words.specs.Certificate.{Form, formWord, entryCount, certificateWords}
-use Rattle.framing.specs.declared.format.Format.{Format}
-use Rattle.framing.specs.Framing.{entriesIn}
-use Rattle.trial.specs.Trial.{refusePolynomials}
+use Rattle.answers.specs.Answer.{formOf}
+use Rattle.write_frame.specs.declared.format.Format.{Format}
+use Rattle.write_frame.specs.Framing.{entriesIn}
+use Rattle.write_frame.specs.Trial.{refusePolynomials}
+use Rattle.writer.specs.declared.format.Kind.{Kind}
+use Rattle.writer.specs.declared.format.Kind.the-variants as kind
 use Rattle.writer.specs.Writing.{refuseShape, refuseRoom, writeSystem, writeCertificate}
-use Rattle.writer.specs.Values.{systemIn, certificateIn}
+use Rattle.writer.specs.Values.{systemIn, certificateIn, certificateStride}
 use Rattle.writer.specs.ValuesLaws.{systemIn-entries, certificateIn-entries, certificateIn-form}
 
 -- all that is tried of the polynomials in arrays, in order, and their words
@@ -27,6 +30,7 @@ systemFormat limits h = record {
   head = headWord h;
   count = systemCount (h .rows) (h .columns);
   limit = limits .systemCoefficients;
+  stride = limits .systemCoefficients;
   by = 0;
   longest = longestSystem limits;
 }
@@ -36,9 +40,23 @@ certificateFormat limits h form = record {
   head = formWord form;
   count = entryCount h form;
   limit = limits .certificateCoefficients;
+  stride = certificateStride;
   by = 20;
   longest = longestCertificate limits;
 }
+
+-- of what is written: the format, the most polynomials, and how far apart they lie
+abbrev pub formatOf : Limits → Shape → Kind → Format
+formatOf limits h kind.System = systemFormat limits h
+formatOf limits h (kind.Certificate form) = certificateFormat limits h (formOf form)
+
+abbrev pub mostOf : Limits → Kind → ℕ
+mostOf limits kind.System = systemCount (limits .rows) (limits .columns)
+mostOf limits (kind.Certificate form) = solutionCount (limits .rows) (limits .columns)
+
+abbrev pub strideOf : Limits → Kind → ℕ
+strideOf limits kind.System = limits .systemCoefficients
+strideOf limits (kind.Certificate form) = certificateStride
 
 module _ (limits : Limits) (h : Shape) (sizes coefficients : List ℕ) (lent : ℕ) where
   pub system-framed : writeSystem limits lent (systemIn limits h sizes coefficients)
@@ -51,7 +69,7 @@ module _ (limits : Limits) (h : Shape) (sizes coefficients : List ℕ) (lent : �
       (accepted (framedWords (headWord h) fs)))))
       (systemIn-entries limits h sizes coefficients)
 
-  pub certificate-framed : (form : Form) → writeCertificate limits lent h (certificateIn limits h form sizes coefficients)
+  pub certificate-framed : (form : Form) → writeCertificate limits lent h (certificateIn h form sizes coefficients)
       ≡ refuseShape limits h (writeFramed (certificateFormat limits h form) (h .modulus) lent sizes coefficients)
   unfolding writeCertificate certificateWords
   certificate-framed form =
@@ -59,5 +77,5 @@ module _ (limits : Limits) (h : Shape) (sizes coefficients : List ℕ) (lent : �
       (refusePolynomials (h .modulus) (limits .certificateCoefficients) 20 1 fs
       (refuseRoom (longestCertificate limits) lent
       (accepted (framedWords (formWord head) fs)))))
-      (certificateIn-form limits h sizes coefficients form)
-      (certificateIn-entries limits h sizes coefficients form)
+      (certificateIn-form h sizes coefficients form)
+      (certificateIn-entries h sizes coefficients form)

@@ -1,8 +1,12 @@
+-- interface: what the writers do, how values are handed to them, and how the solver's words are
 pub mod Writing
-pub mod WritingLaws
 pub mod Values
-pub mod ValuesLaws
+pub mod Output
+-- what a caller may cite: what is written is read back; what sizes say
 pub mod WrittenLaws
-pub mod Answer
+pub mod OutputLaws
+-- inside
 pub mod Formats
+pub mod ValuesLaws
+pub mod WritingLaws
 pub mod Examples

@@ -7,10 +7,10 @@ use Rattle.words.specs.System.{System, Shape}
 use Rattle.words.specs.Certificate.{Certificate, Form}
 use Rattle.words.specs.Certificate.Certificate.{solution, absence}
 use Rattle.words.specs.Certificate.Form.{solving, absent}
-use Rattle.framing.specs.Values.{polynomialIn, polynomialsIn}
+use Rattle.write_frame.specs.Values.{polynomialIn, polynomialsIn}
 
-abbrev pub shapeOf : ℕ → ℕ → ℕ → Shape
-shapeOf p n m = record { modulus = p; rows = n; columns = m }
+abbrev pub shapeWith : ℕ → ℕ → ℕ → Shape
+shapeWith p n m = record { modulus = p; rows = n; columns = m }
 
 -- "A row by row, b"
 unfoldable pub systemIn : Limits → Shape → List ℕ → List ℕ → System
@@ -23,16 +23,18 @@ systemIn limits h sizes coefficients = record {
   right = polynomialsIn (limits .systemCoefficients) sizes coefficients (h .rows * h .columns) (h .rows);
 }
 
+-- how far apart the polynomials of a certificate lie: as the solver leaves them
+abbrev pub certificateStride : ℕ
+certificateStride = 128
+
 -- "d, N, w, Z or else q", for a system of that shape
-unfoldable pub certificateIn : Limits → Shape → Form → List ℕ → List ℕ → Certificate
+unfoldable pub certificateIn : Shape → Form → List ℕ → List ℕ → Certificate
 unfolding polynomialIn polynomialsIn
-certificateIn limits h solving sizes coefficients =
-    let room = limits .certificateCoefficients in
+certificateIn h solving sizes coefficients =
     let m = h .columns in
     solution
-    (polynomialIn room sizes coefficients 0)
-    (polynomialsIn room sizes coefficients 1 m)
-    (polynomialIn room sizes coefficients (1 + m))
-    (polynomialsIn room sizes coefficients (1 + m + 1) (h .rows))
-certificateIn limits h absent sizes coefficients =
-    absence (polynomialsIn (limits .certificateCoefficients) sizes coefficients 0 (h .rows))
+    (polynomialIn certificateStride sizes coefficients 0)
+    (polynomialsIn certificateStride sizes coefficients 1 m)
+    (polynomialIn certificateStride sizes coefficients (1 + m))
+    (polynomialsIn certificateStride sizes coefficients (1 + m + 1) (h .rows))
+certificateIn h absent sizes coefficients = absence (polynomialsIn certificateStride sizes coefficients 0 (h .rows))

@@ -7,9 +7,9 @@ use Rattle.words.specs.Limits.{Limits, systemCount}
 use Rattle.words.specs.System.{Shape, shape, systemEntries}
 use Rattle.words.specs.Certificate.{Form, certificateForm, certificateEntries, entryCount}
 use Rattle.words.specs.Certificate.Form.{solving, absent}
-use Rattle.framing.specs.Values.{polynomialIn, polynomialsIn}
-use Rattle.framing.specs.ValuesLaws.{polynomialsIn-append}
-use Rattle.writer.specs.Values.{systemIn, certificateIn}
+use Rattle.write_frame.specs.Values.{polynomialIn, polynomialsIn}
+use Rattle.write_frame.specs.ValuesLaws.{polynomialsIn-append}
+use Rattle.writer.specs.Values.{systemIn, certificateIn, certificateStride}
 
 module _ (limits : Limits) (h : Shape) (sizes coefficients : List ℕ) where
   pub systemIn-shape : shape (systemIn limits h sizes coefficients) ≡ h
@@ -26,20 +26,20 @@ module _ (limits : Limits) (h : Shape) (sizes coefficients : List ℕ) where
       ap (λ (k : ℕ). polynomialsIn room sizes coefficients 0 A ++ polynomialsIn room sizes coefficients k (h .rows)) e
       ∙ polynomialsIn-append room sizes coefficients 0 A (h .rows)
 
-  pub certificateIn-form : (form : Form) → certificateForm (certificateIn limits h form sizes coefficients) ≡ form
+module _ (h : Shape) (sizes coefficients : List ℕ) where
+  pub certificateIn-form : (form : Form) → certificateForm (certificateIn h form sizes coefficients) ≡ form
   unfolding certificateIn certificateForm
   certificateIn-form solving = refl
   certificateIn-form absent = refl
 
-  pub certificateIn-entries : (form : Form) → certificateEntries (certificateIn limits h form sizes coefficients)
-      ≡ polynomialsIn (limits .certificateCoefficients) sizes coefficients 0 (entryCount h form)
+  pub certificateIn-entries : (form : Form) → certificateEntries (certificateIn h form sizes coefficients)
+      ≡ polynomialsIn certificateStride sizes coefficients 0 (entryCount h form)
   unfolding certificateIn certificateEntries entryCount polynomialsIn
   certificateIn-entries solving =
-      let room = limits .certificateCoefficients in
       let m = h .columns in
       let n = h .rows in
       let e : 1 + m + 1 + n ≡ suc (m + suc n) = omega arith in
-      ap (λ (rest : List (List ℕ)). polynomialIn room sizes coefficients 0 ∷ rest)
-      (polynomialsIn-append room sizes coefficients 1 m (suc n))
-      ∙ ap (polynomialsIn room sizes coefficients 0) (sym e)
+      ap (λ (rest : List (List ℕ)). polynomialIn certificateStride sizes coefficients 0 ∷ rest)
+      (polynomialsIn-append certificateStride sizes coefficients 1 m (suc n))
+      ∙ ap (polynomialsIn certificateStride sizes coefficients 0) (sym e)
   certificateIn-entries absent = refl

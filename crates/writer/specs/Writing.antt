@@ -1,17 +1,21 @@
--- What the writers do (document 01, "Turned back"): they take values, and "the first value at fault in written order decides, ..., at
--- the place its word would have; after these comes 11". Else the words are the written form, and the lent words behind it stay.
+-- What the writers do (document 01, "Turned back"): they take values, and "the first value at fault in written order decides, ...,
+-- at the place its word would have; after these comes 11". Else the words are the written form, and the lent words behind it stay.
 use Prim.Native.Nat.{ℕ}
+use mathlib.Core.Path.{_≡_}
 use mathlib.Core.Bool.{not, _&&_, _||_}
 use mathlib.Core.List.{List}
+use lib.ListN.{length}
 use lib.Dec.{ltb}
 use Rattle.modular.specs.Prime.{prime?}
 use Rattle.words.specs.Limits.{Limits, largestModulus, longestSystem, longestCertificate}
-use Rattle.words.specs.Outcome.{Outcome, refuse}
+use Rattle.words.specs.Outcome.{Outcome, refuse, mapped}
 use Rattle.words.specs.Outcome.Outcome.{accepted, refused}
 use Rattle.words.specs.System.{System, Shape, shape, oneTo, systemEntries, systemWords}
 use Rattle.words.specs.Certificate.{Certificate, certificateEntries, certificateWords}
-use Rattle.framing.specs.Overwriting.{overwritten}
-use Rattle.trial.specs.Trial.{refusePolynomials}
+use Rattle.answers.specs.declared.answer.Counted.{Counted}
+use Rattle.answers.specs.Answer.{countedOutcome}
+use Rattle.write_frame.specs.Overwriting.{overwritten}
+use Rattle.write_frame.specs.Trial.{refusePolynomials}
 
 -- p, n and m: 2, then 3, at place 0
 abbrev pub refuseShape : {A : Type 0} → Limits → Shape → Outcome A → Outcome A
@@ -46,3 +50,8 @@ writeCertificate limits lent h c =
 unfoldable pub lentAfter : Outcome (List ℕ) → List ℕ → List ℕ
 lentAfter (accepted ws) lent = overwritten ws lent
 lentAfter (refused number place) lent = lent
+
+-- a writer that is to give an outcome answers with it, and leaves the lent words so
+pub record Writes (outcome : Outcome (List ℕ)) (entry : List ℕ) (answer : Counted) (exit : List ℕ) : Type 0 where
+  pub told : countedOutcome answer ≡ mapped length outcome
+  pub lent : exit ≡ lentAfter outcome entry

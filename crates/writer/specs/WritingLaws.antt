@@ -14,8 +14,8 @@ use Rattle.words.specs.OutcomeLaws.{refuse-passed}
 use Rattle.words.specs.System.{Shape, ShapeWithin, oneTo}
 use Rattle.words.specs.ReadingLaws.{and-passed}
 use Rattle.words.specs.SystemHeadLaws.{oneTo-true, oneTo-from}
-use Rattle.trial.specs.Trial.{passed}
-use Rattle.trial.specs.TrialLaws.{after, refuse-after}
+use Rattle.write_frame.specs.Trial.{passed}
+use Rattle.write_frame.specs.TrialLaws.{after, refuse-after}
 use Rattle.writer.specs.Writing.{refuseShape}
 
 or-passed : (a b : Bool) → a || b ≡ false → (a ≡ false) × (b ≡ false)
@@ -52,4 +52,10 @@ module _ {A : Type 0} (limits : Limits) (h : Shape) (next : Outcome A) where
   shape-within w =
       let r = w .rows in
       let c = w .columns in
-      simp (true-of-prime (h .modulus) (w .prime), le-ltb largestModulus (h .modulus) (w .modulus), oneTo-true _ _ (r .0) (r .1), oneTo-true _ _ (c .0) (c .1))
+      simp (
+        true-of-prime (h .modulus) (w .prime),
+        le-ltb largestModulus (h .modulus) (w .modulus),
+        oneTo-true _ _ (r .0)
+            (r .1),
+        oneTo-true _ _ (c .0) (c .1),
+      )

@@ -13,20 +13,20 @@ use Rattle.words.specs.Outcome.{Outcome}
 use Rattle.words.specs.Outcome.Outcome.{accepted, refused}
 use Rattle.words.specs.Polynomial.{AllWithin}
 use Rattle.words.specs.System.{System, Shape, shape, ShapeWithin, SystemWithin, systemWords, systemEntries, readSystem}
-use Rattle.words.specs.Certificate.{Certificate, Form, SolutionWithin, CertificateWithin, certificateWords, certificateEntries, readCertificate}
+use Rattle.words.specs.Certificate.{Certificate, Form, SolutionWithin, CertificateWithin, certificateWords, certificateEntries}
+use Rattle.words.specs.Certificate.{readCertificate}
 use Rattle.words.specs.Certificate.Form.{solving, absent}
 use Rattle.words.specs.LimitsLaws.{LimitsFit}
 use Rattle.words.specs.SystemLaws.{system-laws, system-read-of-written}
 use Rattle.words.specs.CertificateLaws.{certificate-laws, certificate-read-of-written}
 use Rattle.words.specs.OutcomeLaws.{refuse-passed}
-use Rattle.framing.specs.ValuesLaws.{length-polynomialsIn}
-use Rattle.trial.specs.Trial.{refusePolynomials}
-use Rattle.trial.specs.TrialLaws.{polynomials-passed, polynomials-within}
-use Rattle.writer.specs.Writing.{refuseShape, refuseRoom, writeSystem, writeCertificate, lentAfter}
+use Rattle.answers.specs.declared.answer.Counted.the-variants.{Count}
+use Rattle.write_frame.specs.ValuesLaws.{length-polynomialsIn}
+use Rattle.write_frame.specs.Trial.{refusePolynomials}
+use Rattle.write_frame.specs.TrialLaws.{polynomials-passed, polynomials-within}
+use Rattle.writer.specs.Writing.{refuseShape, refuseRoom, writeSystem, writeCertificate, lentAfter, Writes}
 use Rattle.writer.specs.WritingLaws.{shape-passed, shape-within}
-use Rattle.writer.specs.Values.{systemIn, certificateIn}
-use Rattle.writer.specs.declared.answer.Written.the-variants.{Count}
-use Rattle.writer.specs.Answer.{Writes}
+use Rattle.writer.specs.Values.{systemIn, certificateIn, certificateStride}
 
 -- ---- both writers
 
@@ -67,7 +67,8 @@ module _ (limits : Limits) (lent : ℕ) where
       → writeSystem limits lent s ≡ accepted (systemWords s)
   unfolding writeSystem
   system-writes fit s h room =
-      write-within limits (shape s) (limits .systemCoefficients) 0 (longestSystem limits) lent (systemEntries s) (systemWords s) (h .shape)
+      write-within limits (shape s) (limits .systemCoefficients) 0 (longestSystem limits) lent (systemEntries s) (systemWords s)
+      (h .shape)
       (system-laws limits fit .apart s h .entries .entries) room
 
   module _ (h : Shape) (sizes coefficients : List ℕ) where
@@ -103,7 +104,8 @@ module _ (limits : Limits) (lent : ℕ) (h : Shape) where
       → writeCertificate limits lent h c ≡ accepted (certificateWords c)
   unfolding writeCertificate
   certificate-writes shape c k room =
-      write-within limits h (limits .certificateCoefficients) 20 (longestCertificate limits) lent (certificateEntries c) (certificateWords c) shape
+      write-within limits h (limits .certificateCoefficients) 20 (longestCertificate limits) lent (certificateEntries c)
+      (certificateWords c) shape
       (certificate-laws limits h .apart c k .entries .entries) room
 
   solution-within : (d : List ℕ) (N : List (List ℕ)) (w : List ℕ) (Z : List (List ℕ)) → length N ≡ h .columns → length Z ≡ h .rows
@@ -120,16 +122,16 @@ module _ (limits : Limits) (lent : ℕ) (h : Shape) where
 
   module _ (sizes coefficients : List ℕ) where
     abbrev certificate : Form → Certificate
-    certificate form = certificateIn limits h form sizes coefficients
+    certificate form = certificateIn h form sizes coefficients
 
     certificate-within : (form : Form)
         → AllWithin (h .modulus) (limits .certificateCoefficients) (certificateEntries (certificate form))
         → CertificateWithin limits h (certificate form)
     unfolding certificateIn certificateEntries CertificateWithin
     certificate-within solving k =
-        let count = length-polynomialsIn (limits .certificateCoefficients) sizes coefficients in
+        let count = length-polynomialsIn certificateStride sizes coefficients in
         solution-within _ _ _ _ (count _ _) (count _ _) k
-    certificate-within absent k = record { entries = k; count = length-polynomialsIn (limits .certificateCoefficients) sizes coefficients _ _ }
+    certificate-within absent k = record { entries = k; count = length-polynomialsIn certificateStride sizes coefficients _ _ }
 
     pub record CertificateWritten (form : Form) (ws : List ℕ) : Type 0 where
       pub shape : ShapeWithin limits h
@@ -141,7 +143,8 @@ module _ (limits : Limits) (lent : ℕ) (h : Shape) where
     unfolding writeCertificate
     certificate-accepted form ws e =
         let c = certificate form in
-        let w = write-accepted limits h (limits .certificateCoefficients) 20 (longestCertificate limits) lent (certificateEntries c) (certificateWords c) ws e in
+        let w = write-accepted limits h (limits .certificateCoefficients) 20 (longestCertificate limits) lent
+        (certificateEntries c) (certificateWords c) ws e in
         record { shape = w .shape; within = certificate-within form (w .entries); words = w .form }
 
     pub certificate-written-is-read : LimitsFit limits → (form : Form) (ws : List ℕ)
@@ -169,7 +172,7 @@ module _ (limits : Limits) (fit : LimitsFit limits) (h : Shape) (sizes coefficie
   system-call-is-read w = system-written-is-read limits (length entry) h sizes coefficients fit (take n exit) (count-words _ w)
 
   pub certificate-call-is-read : (form : Form)
-      → Writes (writeCertificate limits (length entry) h (certificateIn limits h form sizes coefficients)) entry (Count n) exit
-      → readCertificate limits h (take n exit) ≡ accepted (certificateIn limits h form sizes coefficients)
+      → Writes (writeCertificate limits (length entry) h (certificateIn h form sizes coefficients)) entry (Count n) exit
+      → readCertificate limits h (take n exit) ≡ accepted (certificateIn h form sizes coefficients)
   certificate-call-is-read form w =
       certificate-written-is-read limits (length entry) h sizes coefficients fit form (take n exit) (count-words _ w)

@@ -3,10 +3,10 @@ ghost use mathlib.Core.Path.{_≡_};
 ghost use Prim.Native.Nat.{_+_, _*_, _/_, _%_, _≤_};
 ghost use lib.ListN.{length, set};
 ghost use Rattle.words.specs.Bytes.{bytesOf};
-ghost use Rattle.framing.specs.Overwriting.{overwritten};
+ghost use Rattle.write_frame.specs.Overwriting.{overwritten};
 
-// The four bytes of a word, from the place `at` on.
-fn write_word(word: u32, bytes: &mut [u8], at: usize)
+// Writes the four bytes of a word, from the place `at` on.
+fn write_word(bytes: &mut [u8], at: usize, word: u32)
     requires { ⌜ at + 4 ≤ length (now bytes) ⌝ }
     ensures { λ _. ⌜ now (bytes .exit) ≡ set (set (set (set (now (bytes .entry)) at (word % 256)) (at + 1) (word / 256 % 256))
         (at + 2) (word / 65536 % 256)) (at + 3) (word / 16777216) ⌝ }
@@ -17,14 +17,14 @@ fn write_word(word: u32, bytes: &mut [u8], at: usize)
     bytes[at + 3] = (word / 16777216) as u8;
 }
 
-// The words as bytes, over the first of those lent.
-pub fn write_bytes(words: &[u32], bytes: &mut [u8])
+// Writes the words as bytes, over the first of those lent.
+pub fn write_bytes(bytes: &mut [u8], words: &[u32])
     requires { ⌜ 4 * length (now words) ≤ length (now bytes) ⌝ }
     ensures { λ _. ⌜ now (bytes .exit) ≡ overwritten (bytesOf (now (words .entry))) (now (bytes .entry)) ⌝ }
 {
     let mut i: usize = 0;
     while i < words.len() {
-        write_word(words[i], bytes, 4 * i);
+        write_word(bytes, 4 * i, words[i]);
         i = i + 1;
     }
 }

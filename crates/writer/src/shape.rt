@@ -1,42 +1,46 @@
 // Trying p, n and m.
+use answers::Refusal;
+use answers::Verdict;
+use answers::number::one_to;
 use limits::Office;
 use residue::prime::is_prime;
-use trial::Tried;
 ghost use mathlib.Core.Path.{_≡_};
 ghost use Rattle.words.specs.Limits.{office};
-ghost use Rattle.words.specs.System.{oneTo};
-ghost use Rattle.trial.specs.Trial.{passed};
+ghost use Rattle.answers.specs.Answer.{verdictOutcome};
+ghost use Rattle.write_frame.specs.Trial.{passed};
 ghost use Rattle.writer.specs.Writing.{refuseShape};
-ghost use Rattle.writer.specs.Values.{shapeOf};
-ghost use Rattle.trial.specs.Answer.{trialOf};
+ghost use Rattle.writer.specs.Values.{shapeWith};
 
 // "p: any prime from 2 to 65,521"
 const LARGEST_MODULUS: u32 = 65521;
 
-fn one_to(most: u8, n: u32) -> bool
-    ensures { λ r. ⌜ r ≡ oneTo most n ⌝ }
+// Tries p, n and m: 2, then 3, at place 0.
+pub fn try_shape(rows: u32, columns: u32, modulus: u32) -> Verdict
+    ensures { λ r. ⌜ verdictOutcome r ≡ refuseShape office (shapeWith modulus rows columns) passed ⌝ }
 {
-    if n < 1 {
-        return false;
+    if LARGEST_MODULUS < modulus {
+        return Verdict::Refused(Refusal {
+            number: 2,
+            place: 0,
+        });
     }
-    n <= most as u32
-}
-
-// 2, then 3, at place 0.
-pub fn try_shape(p: u32, rows: u32, columns: u32) -> Tried
-    ensures { λ r. ⌜ trialOf r ≡ refuseShape office (shapeOf p rows columns) passed ⌝ }
-{
-    if LARGEST_MODULUS < p {
-        return Tried::Refused(2, 0);
+    if !is_prime(modulus as u16) {
+        return Verdict::Refused(Refusal {
+            number: 2,
+            place: 0,
+        });
     }
-    if !is_prime(p as u16) {
-        return Tried::Refused(2, 0);
+    if !one_to(Office::ROWS as u32, rows) {
+        return Verdict::Refused(Refusal {
+            number: 3,
+            place: 0,
+        });
     }
-    if !one_to(Office::ROWS, rows) {
-        return Tried::Refused(3, 0);
+    if !one_to(Office::COLUMNS as u32, columns) {
+        return Verdict::Refused(Refusal {
+            number: 3,
+            place: 0,
+        });
     }
-    if !one_to(Office::COLUMNS, columns) {
-        return Tried::Refused(3, 0);
-    }
-    Tried::Passed
+    Verdict::Accepted
 }

@@ -16,9 +16,6 @@ Inv-loop h₀ s factors counts t₀ h t = Rounding h₀ s factors counts h t
 abbrev μ-loop : tie.MeasureT-loop
 μ-loop h₀ s factors counts t₀ h t = length factors - t
 
-steps-fit-requires : tie.Need-steps-fit-requires Inv-loop μ-loop
-steps-fit-requires c κs = search needs
-
 same-length : tie.Need-same-length Inv-loop μ-loop
 same-length c = refl
 
@@ -35,12 +32,6 @@ mul-add-scaled c = omega (arith, c .before .before .loop .inv .given .all)
 shared-slice-read-add-scaled : tie.Need-shared-slice-read-add-scaled Inv-loop μ-loop
 shared-slice-read-add-scaled c = omega (arith, c .before .before .before .loop .inv .given .all)
 
-mul-add-scaled-2 : tie.Need-mul-add-scaled-2 Inv-loop μ-loop
-mul-add-scaled-2 c = omega arith
-
-shared-slice-read-add-scaled-2 : tie.Need-shared-slice-read-add-scaled-2 Inv-loop μ-loop
-shared-slice-read-add-scaled-2 c = omega arith
-
 add-scaled-requires : tie.Need-add-scaled-requires Inv-loop μ-loop
 add-scaled-requires c κs =
     let L = c .before .before .before .before in
@@ -51,12 +42,6 @@ add-scaled-requires c κs =
       (omega arith, omega arith, omega arith),
       ((λ j lt. omega (arith, I .given .slot (0 + j))), sums-fit I (c .before .before .before .loop-test .taken)),
     )
-
-add-t : tie.Need-add-t Inv-loop μ-loop
-add-t c = omega arith
-
-loop-less : tie.Need-loop-less Inv-loop μ-loop
-loop-less c = omega arith
 
 loop-again : tie.Need-loop-again Inv-loop μ-loop
 loop-again c =
@@ -86,17 +71,17 @@ bench-add-scaled-spec =
     (tie.spec
     Inv-loop
     μ-loop
-    steps-fit-requires
+    (λ c κs. search needs)
     same-length
     returns
     loop-holds
     mul-add-scaled
     shared-slice-read-add-scaled
-    mul-add-scaled-2
-    shared-slice-read-add-scaled-2
+    (λ c. omega arith)
+    (λ c. omega arith)
     add-scaled-requires
-    add-t
-    loop-less
+    (λ c. omega arith)
+    (λ c. omega arith)
     loop-again
     same-length-2
     returns-2)

@@ -18,9 +18,6 @@ returns-3 : tie.Need-returns-3
 unfolding fit
 returns-3 c = rw (le-leb _ _ (c .before .before .if1 .left), le-leb _ _ (c .before .if2 .left), le-ltb _ _ (c .if3 .taken))
 
-all-at-most-requires : tie.Need-all-at-most-requires
-all-at-most-requires c κs = search needs
-
 returns-4 : tie.Need-returns-4
 unfolding fit
 returns-4 c =
@@ -31,9 +28,6 @@ returns-4 c =
       lt-ltb _ _ (three .if3 .left),
       sym (c .before .all-at-most .ensures) ∙ not-true _ (c .if4 .taken),
     )
-
-words-small-requires : tie.Need-words-small-requires
-words-small-requires c κs = search needs
 
 returns-5 : tie.Need-returns-5
 unfolding fit
@@ -51,4 +45,4 @@ returns-5 c =
 pub steps-fit-spec : {M : Type 1} → statement M
 steps-fit-spec =
     tie.close
-    (tie.spec returns returns-2 returns-3 all-at-most-requires returns-4 words-small-requires returns-5)
+    (tie.spec returns returns-2 returns-3 (λ c κs. search needs) returns-4 (λ c κs. search needs) returns-5)

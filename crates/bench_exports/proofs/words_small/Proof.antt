@@ -6,15 +6,9 @@ use Rattle.bench_exports.specs.Rounds.{small}
 use Rattle.bench_exports.proofs.words_small.Statement.{statement}
 use Rattle.bench_exports.proofs.words_small.Tie as tie
 
-all-at-most-requires : tie.Need-all-at-most-requires
-all-at-most-requires c κs = search needs
-
 returns : tie.Need-returns
 unfolding small
 returns c = rw (sym (c .before .all-at-most .ensures) ∙ not-true _ (c .if1 .taken))
-
-all-at-most-requires-2 : tie.Need-all-at-most-requires-2
-all-at-most-requires-2 c κs = search needs
 
 returns-2 : tie.Need-returns-2
 unfolding small
@@ -24,9 +18,6 @@ returns-2 c =
       sym (one .before .all-at-most .ensures) ∙ not-false _ (one .if1 .left),
       sym (c .before .all-at-most2 .ensures) ∙ not-true _ (c .if2 .taken),
     )
-
-all-at-most-requires-3 : tie.Need-all-at-most-requires-3
-all-at-most-requires-3 c κs = search needs
 
 returns-3 : tie.Need-returns-3
 unfolding small
@@ -42,4 +33,4 @@ returns-3 c =
 pub words-small-spec : {M : Type 1} → statement M
 words-small-spec =
     tie.close
-    (tie.spec all-at-most-requires returns all-at-most-requires-2 returns-2 all-at-most-requires-3 returns-3)
+    (tie.spec (λ c κs. search needs) returns (λ c κs. search needs) returns-2 (λ c κs. search needs) returns-3)

@@ -4,16 +4,12 @@ use Prim.Native.Nat.{ℕ, _+_, _<_}
 use native.Mathlib.Omega.{arith}
 use lib.ListN.{length}
 use borrow.Author.Needs.{needs}
-use Rattle.algebra.specs.Coefficients.{leading}
 use Rattle.modular.specs.Modulo.{modulo}
 use Rattle.residue.specs.Modulus.{ValidModulus}
 use Rattle.polynomial.specs.Value.{coefficientsOf, word-below, leading-residue, represents-is}
 use Rattle.division.proofs.Values.{divisor, divided}
 use Rattle.division.proofs.divide.Statement.{statement}
 use Rattle.division.proofs.divide.Tie as tie
-
-leading-requires : tie.Need-leading-requires
-leading-requires c κs = search needs
 
 inverse-requires : tie.Need-inverse-requires
 inverse-requires c κs =
@@ -23,18 +19,6 @@ inverse-requires c κs =
     let first = leading-residue p (S .args .t2) (S .pre .2) (omega (arith, m .prime .large)) (S .pre .3) in
     let is = c .leading .ensures p in
     (m, rw is (first .0), rw is (first .1))
-
-zeros-requires : tie.Need-zeros-requires
-zeros-requires c κs = search needs
-
-slice-aggregate-divide-words : tie.Need-slice-aggregate-divide-words
-slice-aggregate-divide-words c = search needs
-
-slice-aggregate-divide-words-2 : tie.Need-slice-aggregate-divide-words-2
-slice-aggregate-divide-words-2 c = search needs
-
-sub-divide-words : tie.Need-sub-divide-words
-sub-divide-words c = search needs
 
 divide-words-requires : tie.Need-divide-words-requires
 unfolding coefficientsOf
@@ -58,18 +42,12 @@ divide-words-requires c κs =
       ),
     )
 
-slice-aggregate-from-words : tie.Need-slice-aggregate-from-words
-slice-aggregate-from-words c = search needs
-
 from-words-requires : tie.Need-from-words-requires
 from-words-requires c κs =
     let S = c .before .before .before .before .before .before .before .before .before .before .before .before .before in
     let called = c .before .before .before .divide-words in
     let long : length (called .last .1 .1 .0) ≡ 256 = search needs in
     ((S .pre .0, omega (arith, S .pre .1 .within), omega (arith, S .pre .1 .within)), λ i lt. called .ensures .small-quotient (0 + i))
-
-slice-aggregate-from-words-2 : tie.Need-slice-aggregate-from-words-2
-slice-aggregate-from-words-2 c = search needs
 
 from-words-requires-2 : tie.Need-from-words-requires-2
 from-words-requires-2 c κs =
@@ -93,15 +71,15 @@ pub divide-spec : {M : Type 1} → statement M
 divide-spec =
     tie.close
     (tie.spec
-    leading-requires
+    (λ c κs. search needs)
     inverse-requires
-    zeros-requires
-    slice-aggregate-divide-words
-    slice-aggregate-divide-words-2
-    sub-divide-words
+    (λ c κs. search needs)
+    (λ c. search needs)
+    (λ c. search needs)
+    (λ c. search needs)
     divide-words-requires
-    slice-aggregate-from-words
+    (λ c. search needs)
     from-words-requires
-    slice-aggregate-from-words-2
+    (λ c. search needs)
     from-words-requires-2
     returns)

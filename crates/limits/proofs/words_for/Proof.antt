@@ -6,9 +6,6 @@ use borrow.Author.Needs.{needs}
 use Rattle.limits.proofs.words_for.Statement.{statement}
 use Rattle.limits.proofs.words_for.Tie as tie
 
-add-result : tie.Need-add-result
-add-result c = search needs
-
 mul-result : tie.Need-mul-result
 mul-result c =
     let a : c .args .count ≤ 65535 = omega arith in
@@ -21,8 +18,5 @@ add-result-2 c =
     let b : 1 + c .args .coefficients ≤ 65536 = omega arith in
     omega (arith, mul-le-mul a b)
 
-returns : tie.Need-returns
-returns c = search needs
-
 pub words-for-spec : {M : Type 1} → statement M
-words-for-spec = tie.close (tie.spec add-result mul-result add-result-2 returns)
+words-for-spec = tie.close (tie.spec (λ c. search needs) mul-result add-result-2 (λ c. search needs))

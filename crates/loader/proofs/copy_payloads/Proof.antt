@@ -17,36 +17,6 @@ abbrev μ-loop : tie.MeasureT-loop
 loop-holds : tie.Need-loop-holds Inv-loop μ-loop
 loop-holds c = storing-start _ _ _ _
 
-add-payload-of : tie.Need-add-payload-of Inv-loop μ-loop
-add-payload-of c = omega arith
-
-mul-payload-of : tie.Need-mul-payload-of Inv-loop μ-loop
-mul-payload-of c = omega arith
-
-shared-slice-read-payload-of : tie.Need-shared-slice-read-payload-of Inv-loop μ-loop
-shared-slice-read-payload-of c = omega arith
-
-payload-of-requires : tie.Need-payload-of-requires Inv-loop μ-loop
-payload-of-requires c κs = search needs
-
-cast-area : tie.Need-cast-area Inv-loop μ-loop
-cast-area c = search needs
-
-add-area : tie.Need-add-area Inv-loop μ-loop
-add-area c = omega arith
-
-mul-area : tie.Need-mul-area Inv-loop μ-loop
-mul-area c = omega arith
-
-slice-write-area : tie.Need-slice-write-area Inv-loop μ-loop
-slice-write-area c = omega arith
-
-add-j : tie.Need-add-j Inv-loop μ-loop
-add-j c = omega arith
-
-loop-less : tie.Need-loop-less Inv-loop μ-loop
-loop-less c = omega arith
-
 loop-again : tie.Need-loop-again Inv-loop μ-loop
 loop-again c = storing-turn (c .before .before .before .loop .inv) _ (c .before .before .loop-test .taken) (c .payload-of .ensures)
 
@@ -63,16 +33,16 @@ copy-payloads-spec =
     Inv-loop
     μ-loop
     loop-holds
-    add-payload-of
-    mul-payload-of
-    shared-slice-read-payload-of
-    payload-of-requires
-    cast-area
-    add-area
-    mul-area
-    slice-write-area
-    add-j
-    loop-less
+    (λ c. omega arith)
+    (λ c. omega arith)
+    (λ c. omega arith)
+    (λ c κs. search needs)
+    (λ c. search needs)
+    (λ c. omega arith)
+    (λ c. omega arith)
+    (λ c. omega arith)
+    (λ c. omega arith)
+    (λ c. omega arith)
     loop-again
     same-length
     returns)

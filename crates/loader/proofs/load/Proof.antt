@@ -25,15 +25,6 @@ shared-slice-read-payload-of c =
     let S = c .before .before .before .before .before in
     omega (arith, turn-room (c .before .before .loop .inv) (c .before .loop-test .taken) (S .pre .1) (S .pre .0 .0) (S .pre .0 .1) (S .pre .0 .2))
 
-payload-of-requires : tie.Need-payload-of-requires Inv-loop μ-loop
-payload-of-requires c κs = search needs
-
-cast-n : tie.Need-cast-n Inv-loop μ-loop
-cast-n c = search needs
-
-add-n : tie.Need-add-n Inv-loop μ-loop
-add-n c = search needs
-
 mul-copy-payloads : tie.Need-mul-copy-payloads Inv-loop μ-loop
 mul-copy-payloads c =
     let S = c .before .before .before .before .before .before .before in
@@ -70,12 +61,6 @@ add-at c =
       turn-count (at .loop .inv) taken (P .1) (P .0 .0) (P .0 .1) (P .0 .2),
     )
 
-add-k : tie.Need-add-k Inv-loop μ-loop
-add-k c = search needs
-
-loop-less : tie.Need-loop-less Inv-loop μ-loop
-loop-less c = search needs
-
 loop-again : tie.Need-loop-again Inv-loop μ-loop
 loop-again c =
     let S = c .before .before .before .before .before .before .before .before .before .before in
@@ -98,14 +83,14 @@ load-spec =
     loop-holds
     mul-payload-of
     shared-slice-read-payload-of
-    payload-of-requires
-    cast-n
-    add-n
+    (λ c κs. search needs)
+    (λ c. search needs)
+    (λ c. search needs)
     mul-copy-payloads
     copy-payloads-requires
     add-at
-    add-k
-    loop-less
+    (λ c. search needs)
+    (λ c. search needs)
     loop-again
     same-length
     returns)

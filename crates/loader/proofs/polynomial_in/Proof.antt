@@ -9,9 +9,6 @@ use Rattle.loader.specs.SlotLaws.{taken-canonical, taken-size, canonical
 use Rattle.loader.proofs.polynomial_in.Statement.{statement}
 use Rattle.loader.proofs.polynomial_in.Tie as tie
 
-coefficients-in-requires : tie.Need-coefficients-in-requires
-coefficients-in-requires c κs = search needs
-
 from-words-requires : tie.Need-from-words-requires
 from-words-requires c κs =
     let S = c .before .before in
@@ -30,4 +27,4 @@ returns c =
     represents-is (c .from-words .ensures) (canonical-polynomial _ positive _ (taken-canonical is (S .pre .1)) ∙ is)
 
 pub polynomial-in-spec : {M : Type 1} → statement M
-polynomial-in-spec = tie.close (tie.spec coefficients-in-requires from-words-requires returns)
+polynomial-in-spec = tie.close (tie.spec (λ c κs. search needs) from-words-requires returns)

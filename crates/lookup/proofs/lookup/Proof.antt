@@ -51,15 +51,6 @@ module _ (p : tie.After-part) where
       found-place (limitsOf (a .limits)) (a .system .now) (a .certificate .now) (sideOf (a .side)) (a .number) from to
       (found f _ (p .part .given .1)) words (f .before .words-on .ensures .0)
 
-words-on-requires : tie.Need-words-on-requires
-words-on-requires c κs = search needs
-
-lookup-part-requires : tie.Need-lookup-part-requires
-lookup-part-requires c κs = search needs
-
-enum-known-part : tie.Need-enum-known-part
-enum-known-part c = search needs
-
 mul-result : tie.Need-mul-result
 mul-result c = let h = cut (c .before) in search needs
 
@@ -71,12 +62,6 @@ part-result-start c = let h = cut (c .before) in search needs
 
 part-result-end : tie.Need-part-result-end
 part-result-end c = let h = cut (c .before) in search needs
-
-enum-told : tie.Need-enum-told
-enum-told c = search needs
-
-slice-aggregate-result : tie.Need-slice-aggregate-result
-slice-aggregate-result c = search needs
 
 returns : tie.Need-returns
 returns c =
@@ -97,14 +82,14 @@ pub lookup-spec : {M : Type 1} → statement M
 lookup-spec =
     tie.close
     (tie.spec
-    words-on-requires
-    lookup-part-requires
-    enum-known-part
+    (λ c κs. search needs)
+    (λ c κs. search needs)
+    (λ c. search needs)
     mul-result
     sub-result
     part-result-start
     part-result-end
-    enum-told
-    slice-aggregate-result
+    (λ c. search needs)
+    (λ c. search needs)
     returns
     returns-2)

@@ -1,98 +1,107 @@
 -- `lookup::lookup_part` meets its contract, from what the two readers tell and what is found in the words of the side.
-use mathlib.Core.Path.{sym, ap, _∙_}
+use mathlib.Core.Path.{_≡_, sym, ap, _∙_}
+use mathlib.Core.List.{List}
 use native.Mathlib.Omega.{arith}
-use Rattle.reader.specs.Answer.{shapeOf, formOf, systemOutcome, certificateOutcome}
+use Rattle.answers.specs.Answer.{shapeOf, formOf, systemOutcome, certificateOutcome}
 use Rattle.limits.specs.Value.{limitsOf}
-use Rattle.lookup.specs.Answer.{sideOf}
+use Prim.Native.Nat.{ℕ}
+use Rattle.lookup.specs.Lookup.{on, shown, polynomialLookup, boundsShown}
+use Rattle.lookup.specs.Answer.{sideOf, partOutcome}
+use Rattle.lookup.specs.Holding.{Holds, Holding}
+use Rattle.lookup.specs.declared.Side.{Side}
+use Rattle.lookup.specs.declared.part.Part.{Part}
 use Rattle.lookup.proofs.FindSteps.{find-system-refused, find-certificate-refused, find-holding, find-part}
 use borrow.Author.Needs.{needs}
 use Rattle.lookup.proofs.lookup_part.Statement.{statement}
 use Rattle.lookup.proofs.lookup_part.Tie as tie
 
-read-system-requires : tie.Need-read-system-requires
-read-system-requires c κs = search needs
+-- both were read
+module _ (f : tie.After-enum-told) where
+  abbrev y : tie.After-read-certificate
+  y = f .before .before
 
-enum-known-read : tie.Need-enum-known-read
-enum-known-read c = search needs
+  abbrev r : tie.After-read-system
+  r = y .before .before .before .before
 
-read-certificate-requires : tie.Need-read-certificate-requires
-read-certificate-requires c κs = search needs
+  abbrev start : tie.Start
+  start = r .before .before .before
 
-enum-told : tie.Need-enum-told
-enum-told c = search needs
+  abbrev of-side : Side → List ℕ
+  of-side side = on (sideOf side) (start .args .system .now) (start .args .certificate .now)
 
-words-on-requires : tie.Need-words-on-requires
-words-on-requires c κs = search needs
+  holding : (side : Side) → start .args .side ≡ side → Holding (of-side side)
+  holding side is =
+      let a = start .args in
+      let e = y .before .before .read .given in
+      let g = f .enum-told .given in
+      find-holding (limitsOf (a .limits)) (a .system .now) (a .certificate .now) (sideOf (a .side)) (a .number)
+      (shapeOf (e .0 .0)) (ap systemOutcome (sym (e .1)) ∙ r .read-system .ensures)
+      (formOf (g .0 .0)) (ap certificateOutcome (sym (g .1)) ∙ y .read-certificate .ensures)
+      (omega (arith, start .good)) (omega (arith, start .good)) (of-side side) (ap of-side (sym is))
+
+  tells : (side : Side) → start .args .side ≡ side → (part : Part)
+      → ((fs : List (List ℕ)) → Holds (of-side side) fs → partOutcome part ≡ boundsShown (shown (start .args .number) fs))
+      → partOutcome part ≡ boundsShown (polynomialLookup (limitsOf (start .args .limits)) (start .args .system .now)
+      (start .args .certificate .now) (sideOf (start .args .side)) (start .args .number))
+  tells side is =
+      let a = start .args in
+      let e = y .before .before .read .given in
+      let g = f .enum-told .given in
+      find-part (limitsOf (a .limits)) (a .system .now) (a .certificate .now) (sideOf (a .side)) (a .number)
+      (shapeOf (e .0 .0)) (ap systemOutcome (sym (e .1)) ∙ r .read-system .ensures)
+      (formOf (g .0 .0)) (ap certificateOutcome (sym (g .1)) ∙ y .read-certificate .ensures)
+      (omega (arith, start .good)) (omega (arith, start .good)) (of-side side) (ap of-side (sym is))
 
 part-of-requires : tie.Need-part-of-requires
-part-of-requires c κs =
-    let w = c in
-    let y = w .before .before .before in
-    let r = y .before .before .before .before in
-    let S = r .before .before .before in
-    let a = S .args in
-    let e = y .before .before .read .given in
-    let f = w .before .enum-told .given in
-    let system = ap systemOutcome (sym (e .1)) ∙ r .read-system .ensures in
-    let certificate = ap certificateOutcome (sym (f .1)) ∙ y .read-certificate .ensures in
-    find-holding (limitsOf (a .limits)) (a .system .now) (a .certificate .now) (sideOf (a .side)) (a .number)
-    (shapeOf (e .0 .0)) system (formOf (f .0 .0)) certificate (omega (arith, S .good)) (omega (arith, S .good))
-    (w .words-on .result .now) (w .words-on .ensures .0)
+part-of-requires c κs = holding (c .before .before) _ (c .enum-told2 .given .1)
 
-enum-known-read-2 : tie.Need-enum-known-read-2
-enum-known-read-2 c = search needs
-
-enum-known-read-3 : tie.Need-enum-known-read-3
-enum-known-read-3 c = search needs
+part-of-requires-2 : tie.Need-part-of-requires-2
+part-of-requires-2 c κs = holding (c .before .before) _ (c .enum-told3 .given .1)
 
 returns : tie.Need-returns
 returns c =
-    let w = c .before in
-    let y = w .before .before .before in
-    let r = y .before .before .before .before in
-    let S = r .before .before .before in
-    let a = S .args in
-    let e = y .before .before .read .given in
-    let f = w .before .enum-told .given in
-    let system = ap systemOutcome (sym (e .1)) ∙ r .read-system .ensures in
-    let certificate = ap certificateOutcome (sym (f .1)) ∙ y .read-certificate .ensures in
-    find-part (limitsOf (a .limits)) (a .system .now) (a .certificate .now) (sideOf (a .side)) (a .number)
-    (shapeOf (e .0 .0)) system (formOf (f .0 .0)) certificate (omega (arith, S .good)) (omega (arith, S .good))
-    (w .words-on .result .now) (w .words-on .ensures .0)
-    (c .part-of .result) (c .part-of .ensures)
+    let g = c .before in
+    tells (g .before .before) _ (g .enum-told2 .given .1) (c .part-of .result) (c .part-of .ensures)
 
 returns-2 : tie.Need-returns-2
 returns-2 c =
+    let g = c .before in
+    tells (g .before .before) _ (g .enum-told3 .given .1) (c .part-of2 .result) (c .part-of2 .ensures)
+
+returns-3 : tie.Need-returns-3
+returns-3 c =
     let y = c .before .before .before in
     let r = y .before .before .before .before in
     let a = r .before .before .before .args in
     let e = y .before .before .read .given in
-    let f = c .before .read2 .given in
-    let system = ap systemOutcome (sym (e .1)) ∙ r .read-system .ensures in
-    let certificate = ap certificateOutcome (sym (f .1)) ∙ y .read-certificate .ensures in
+    let g = c .before .read2 .given in
     find-certificate-refused (limitsOf (a .limits)) (a .system .now) (a .certificate .now) (sideOf (a .side)) (a .number)
-    (shapeOf (e .0 .0)) system _ _ certificate
+    (shapeOf (e .0 .0)) (ap systemOutcome (sym (e .1)) ∙ r .read-system .ensures) _
+    (ap certificateOutcome (sym (g .1)) ∙ y .read-certificate .ensures)
 
-returns-3 : tie.Need-returns-3
-returns-3 c =
+returns-4 : tie.Need-returns-4
+returns-4 c =
     let r = c .before .before .before in
     let a = r .before .before .before .args in
     let e = c .before .read3 .given in
-    let system = ap systemOutcome (sym (e .1)) ∙ r .read-system .ensures in
-    find-system-refused (limitsOf (a .limits)) (a .system .now) (a .certificate .now) (sideOf (a .side)) (a .number) _ _ system
+    find-system-refused (limitsOf (a .limits)) (a .system .now) (a .certificate .now) (sideOf (a .side)) (a .number) _
+    (ap systemOutcome (sym (e .1)) ∙ r .read-system .ensures)
 
 pub lookup-part-spec : {M : Type 1} → statement M
 lookup-part-spec =
     tie.close
     (tie.spec
-    read-system-requires
-    enum-known-read
-    read-certificate-requires
-    enum-told
-    words-on-requires
+    (λ c κs. search needs)
+    (λ c. search needs)
+    (λ c κs. search needs)
+    (λ c. search needs)
+    (λ c. search needs)
     part-of-requires
-    enum-known-read-2
-    enum-known-read-3
+    (λ c. search needs)
+    part-of-requires-2
+    (λ c. search needs)
+    (λ c. search needs)
     returns
     returns-2
-    returns-3)
+    returns-3
+    returns-4)

@@ -18,15 +18,6 @@ told f =
 found : (f : tie.After-lookup-part) (p : PartValue) → f .lookup-part .result ≡ p → partOutcome p ≡ boundsShown (told f)
 found f p e = ap partOutcome (sym e) ∙ f .lookup-part .ensures
 
-lookup-part-requires : tie.Need-lookup-part-requires
-lookup-part-requires c κs = search needs
-
-enum-told : tie.Need-enum-told
-enum-told c = search needs
-
-enum-known-part : tie.Need-enum-known-part
-enum-known-part c = search needs
-
 returns : tie.Need-returns
 returns c =
     let e = c .enum-told .given in
@@ -41,4 +32,4 @@ returns-2 c =
 
 pub lookup-refusal-spec : {M : Type 1} → statement M
 lookup-refusal-spec =
-    tie.close (tie.spec lookup-part-requires enum-told enum-known-part returns returns-2)
+    tie.close (tie.spec (λ c κs. search needs) (λ c. search needs) (λ c. search needs) returns returns-2)

@@ -1,20 +1,11 @@
 -- The reader's refusals, then 11; else what `solve_read` gives (`Reading`).
 use mathlib.Core.Path.{refl, ap}
 use Rattle.words.specs.Certificate.{certificateWords}
-use Rattle.reader.specs.Answer.{systemOutcome}
+use Rattle.answers.specs.Answer.{systemOutcome}
 use Rattle.solver.proofs.Reading.{was-read, was-refused, solves-refused, solves-short, solves-given}
 use borrow.Author.Needs.{needs}
 use Rattle.solver.proofs.solve.Statement.{statement}
 use Rattle.solver.proofs.solve.Tie as tie
-
-limits-requires : tie.Need-limits-requires
-limits-requires c κs = search needs
-
-read-system-requires : tie.Need-read-system-requires
-read-system-requires c κs = search needs
-
-enum-known-read : tie.Need-enum-known-read
-enum-known-read c = search needs
 
 returns : tie.Need-returns
 returns c =
@@ -29,12 +20,6 @@ solve-read-requires c κs =
     let read = c .before .before .before in
     let told = read .before .before in
     (was-read _ _ (told .before .limits .ensures) (told .read-system .ensures) (ap systemOutcome (read .read .given .1)), search needs)
-
-enum-known-read-2 : tie.Need-enum-known-read-2
-enum-known-read-2 c = search needs
-
-same-length : tie.Need-same-length
-same-length c = search needs
 
 returns-2 : tie.Need-returns-2
 returns-2 c =
@@ -54,12 +39,12 @@ pub solve-spec : {M : Type 1} → statement M
 solve-spec =
     tie.close
     (tie.spec
-    limits-requires
-    read-system-requires
-    enum-known-read
+    (λ c κs. search needs)
+    (λ c κs. search needs)
+    (λ c. search needs)
     returns
     solve-read-requires
-    enum-known-read-2
-    same-length
+    (λ c. search needs)
+    (λ c. search needs)
     returns-2
     returns-3)

@@ -14,9 +14,6 @@ abbrev μ-loop : tie.MeasureT-loop
 loop-holds : tie.Need-loop-holds Inv-loop μ-loop
 loop-holds c = descending-start _ _ _ (c .pre .1) (c .pre .2)
 
-remainder-requires : tie.Need-remainder-requires Inv-loop μ-loop
-remainder-requires c κs = search needs
-
 loop-less : tie.Need-loop-less Inv-loop μ-loop
 loop-less c =
     let S = c .before .before .before .before in
@@ -26,9 +23,6 @@ loop-again : tie.Need-loop-again Inv-loop μ-loop
 loop-again c =
     let S = c .before .before .before .before in
     descending-turn _ (S .pre .0 .prime) _ _ _ _ (c .before .before .before .loop .inv) (omega arith) _ (c .remainder .ensures)
-
-monic-requires : tie.Need-monic-requires Inv-loop μ-loop
-monic-requires c κs = search needs
 
 returns : tie.Need-returns Inv-loop μ-loop
 returns c =
@@ -42,8 +36,8 @@ gcd-spec =
     Inv-loop
     μ-loop
     loop-holds
-    remainder-requires
+    (λ c κs. search needs)
     loop-less
     loop-again
-    monic-requires
+    (λ c κs. search needs)
     returns)

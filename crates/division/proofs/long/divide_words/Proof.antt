@@ -33,15 +33,6 @@ loop-holds c =
     let by = task (S .args .m) (S .pre .0 .0) (S .pre .0 .2) (S .pre .0 .3) (S .pre .1 .0 .0) (S .pre .1 .1 .0) in
     (dividing-start by (S .pre .1 .1 .1) (S .pre .1 .0 .1), omega arith)
 
-sub-k : tie.Need-sub-k Inv-loop μ-loop
-sub-k c = search needs
-
-mul-reduce : tie.Need-mul-reduce Inv-loop μ-loop
-mul-reduce c = search needs
-
-slice-read-reduce : tie.Need-slice-read-reduce Inv-loop μ-loop
-slice-read-reduce c = search needs
-
 reduce-requires : tie.Need-reduce-requires Inv-loop μ-loop
 reduce-requires c κs =
     let S = c .before .before .before .before .before .before in
@@ -60,21 +51,6 @@ mul-requires c κs =
       rw (c .reduce .ensures) (mod-lt _ (omega (arith, m .prime .large))),
       rw (S .pre .1 .1 .0 .inverts) (inverse-below (S .args .m .p) (m .prime .large) _),
     )
-
-sub-q : tie.Need-sub-q Inv-loop μ-loop
-sub-q c = search needs
-
-mul-q : tie.Need-mul-q Inv-loop μ-loop
-mul-q c = search needs
-
-slice-write-q : tie.Need-slice-write-q Inv-loop μ-loop
-slice-write-q c = search needs
-
-sub-add-scaled : tie.Need-sub-add-scaled Inv-loop μ-loop
-sub-add-scaled c = search needs
-
-add-add-scaled : tie.Need-add-add-scaled Inv-loop μ-loop
-add-add-scaled c = search needs
 
 sub-add-scaled-2 : tie.Need-sub-add-scaled-2 Inv-loop μ-loop
 sub-add-scaled-2 c =
@@ -110,9 +86,6 @@ add-scaled-requires c κs =
       ),
     )
 
-loop-less : tie.Need-loop-less Inv-loop μ-loop
-loop-less c = search needs
-
 loop-again : tie.Need-loop-again Inv-loop μ-loop
 loop-again c =
     let S = c .before .before .before .before .before .before .before .before .before .before .before .before .before in
@@ -134,12 +107,6 @@ loop-again c =
     (L .inv .0) in
     (dividing-turn by i so-far (omega arith) _ (rw place at factor) (called .ensures .0) (called .ensures .1), omega arith)
 
-same-length : tie.Need-same-length Inv-loop μ-loop
-same-length c = search needs
-
-same-length-2 : tie.Need-same-length-2 Inv-loop μ-loop
-same-length-2 c = search needs
-
 returns : tie.Need-returns Inv-loop μ-loop
 returns c =
     let S = c .before .before .before .before .before in
@@ -153,20 +120,20 @@ divide-words-spec =
     Inv-loop
     μ-loop
     loop-holds
-    sub-k
-    mul-reduce
-    slice-read-reduce
+    (λ c. search needs)
+    (λ c. search needs)
+    (λ c. search needs)
     reduce-requires
     mul-requires
-    sub-q
-    mul-q
-    slice-write-q
-    sub-add-scaled
-    add-add-scaled
+    (λ c. search needs)
+    (λ c. search needs)
+    (λ c. search needs)
+    (λ c. search needs)
+    (λ c. search needs)
     sub-add-scaled-2
     add-scaled-requires
-    loop-less
+    (λ c. search needs)
     loop-again
-    same-length
-    same-length-2
+    (λ c. search needs)
+    (λ c. search needs)
     returns)

@@ -6,12 +6,6 @@ use borrow.Author.Needs.{needs}
 use Rattle.limits.proofs.Limits.system_words.Statement.{statement}
 use Rattle.limits.proofs.Limits.system_words.Tie as tie
 
-cast-rows : tie.Need-cast-rows
-cast-rows c = search needs
-
-cast-columns : tie.Need-cast-columns
-cast-columns c = search needs
-
 mul-words-for : tie.Need-mul-words-for
 mul-words-for c =
     let n : c .before .before .args .self .rows ≤ 255 = omega arith in
@@ -24,11 +18,5 @@ add-words-for c =
     let m : c .before .before .args .self .columns ≤ 255 = omega arith in
     omega (arith, mul-le-mul n m)
 
-words-for-requires : tie.Need-words-for-requires
-words-for-requires c κs = search needs
-
-returns : tie.Need-returns
-returns c = search needs
-
 pub system-words-spec : {M : Type 1} → statement M
-system-words-spec = tie.close (tie.spec cast-rows cast-columns mul-words-for add-words-for words-for-requires returns)
+system-words-spec = tie.close (tie.spec (λ c. search needs) (λ c. search needs) mul-words-for add-words-for (λ c κs. search needs) (λ c. search needs))

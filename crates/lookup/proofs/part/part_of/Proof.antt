@@ -6,9 +6,6 @@ use borrow.Author.Needs.{needs}
 use Rattle.lookup.proofs.part.part_of.Statement.{statement}
 use Rattle.lookup.proofs.part.part_of.Tie as tie
 
-start-of-requires : tie.Need-start-of-requires
-start-of-requires c κs = search needs
-
 mul-word : tie.Need-mul-word
 mul-word c =
     let h = stands-inside (c .start-of .ensures) (c .before .before .pre) in
@@ -16,9 +13,6 @@ mul-word c =
 
 shared-slice-read-word : tie.Need-shared-slice-read-word
 shared-slice-read-word c = stands-inside (c .before .start-of .ensures) (c .before .before .before .pre)
-
-kind-of-requires : tie.Need-kind-of-requires
-kind-of-requires c κs = search needs
 
 returns : tie.Need-returns
 returns c =
@@ -30,14 +24,8 @@ add-t5 c =
     let s = c .before .before .before in
     omega (arith, stands-inside (s .start-of .ensures) (s .before .before .pre))
 
-payload-of-requires : tie.Need-payload-of-requires
-payload-of-requires c κs = search needs
-
-cast-t9 : tie.Need-cast-t9
-cast-t9 c = search needs
-
-add-t10 : tie.Need-add-t10
-add-t10 c =
+add-t11 : tie.Need-add-t11
+add-t11 c =
     let k = c .before .before in
     let s = k .before .before in
     let two = sym (k .kind-of .ensures) ∙ c .before .if1 .left in
@@ -53,13 +41,13 @@ pub part-of-spec : {M : Type 1} → statement M
 part-of-spec =
     tie.close
     (tie.spec
-    start-of-requires
+    (λ c κs. search needs)
     mul-word
     shared-slice-read-word
-    kind-of-requires
+    (λ c κs. search needs)
     returns
     add-t5
-    payload-of-requires
-    cast-t9
-    add-t10
+    (λ c κs. search needs)
+    (λ c. search needs)
+    add-t11
     returns-2)

@@ -26,9 +26,6 @@ mul-word c =
 shared-slice-read-word : tie.Need-shared-slice-read-word Inv-loop μ-loop
 shared-slice-read-word c = stands-inside (c .before .before .loop .inv .1) (c .before .before .before .before .pre)
 
-kind-of-requires : tie.Need-kind-of-requires Inv-loop μ-loop
-kind-of-requires c κs = search needs
-
 returns : tie.Need-returns Inv-loop μ-loop
 returns c =
     let k = c .before in
@@ -39,24 +36,12 @@ add-at c =
     let l = c .before .before .before .before in
     omega (arith, stands-inside (l .loop .inv .1) (l .before .before .pre))
 
-payload-of-requires : tie.Need-payload-of-requires Inv-loop μ-loop
-payload-of-requires c κs = search needs
-
-cast-at : tie.Need-cast-at Inv-loop μ-loop
-cast-at c = search needs
-
 add-at-2 : tie.Need-add-at-2 Inv-loop μ-loop
 add-at-2 c =
     let k = c .before .before in
     let l = k .before .before .before in
     let two = sym (k .kind-of .ensures) ∙ c .before .if1 .left in
     omega (arith, stands-more (l .loop .inv .1) two _ (c .payload-of .ensures) (l .before .before .pre))
-
-sub-left : tie.Need-sub-left Inv-loop μ-loop
-sub-left c = search needs
-
-loop-less : tie.Need-loop-less Inv-loop μ-loop
-loop-less c = search needs
 
 loop-again : tie.Need-loop-again Inv-loop μ-loop
 loop-again c =
@@ -79,13 +64,13 @@ start-of-spec =
     loop-holds
     mul-word
     shared-slice-read-word
-    kind-of-requires
+    (λ c κs. search needs)
     returns
     add-at
-    payload-of-requires
-    cast-at
+    (λ c κs. search needs)
+    (λ c. search needs)
     add-at-2
-    sub-left
-    loop-less
+    (λ c. search needs)
+    (λ c. search needs)
     loop-again
     returns-2)

@@ -15,12 +15,6 @@ abbrev μ-loop : tie.MeasureT-loop
 loop-holds : tie.Need-loop-holds Inv-loop μ-loop
 loop-holds c = adding-start _ _ _ _ _
 
-mul-add-scaled : tie.Need-mul-add-scaled Inv-loop μ-loop
-mul-add-scaled c = search needs
-
-shared-slice-read-add-scaled : tie.Need-shared-slice-read-add-scaled Inv-loop μ-loop
-shared-slice-read-add-scaled c = search needs
-
 add-scaled-requires : tie.Need-add-scaled-requires Inv-loop μ-loop
 add-scaled-requires c κs =
     let S = c .before .before .before .before .before .before .before in
@@ -33,21 +27,12 @@ add-scaled-requires c κs =
       ),
     )
 
-add-i : tie.Need-add-i Inv-loop μ-loop
-add-i c = search needs
-
-loop-less : tie.Need-loop-less Inv-loop μ-loop
-loop-less c = search needs
-
 loop-again : tie.Need-loop-again Inv-loop μ-loop
 loop-again c =
     let S = c .before .before .before .before .before .before .before .before .before .before in
     let L = c .before .before .before .before .before .before .loop in
     let called = c .before .before .add-scaled in
     adding-turn _ _ _ _ _ _ _ (L .inv) (called .last .0) (omega arith) (omega arith) (called .ensures .0) (called .ensures .1)
-
-same-length : tie.Need-same-length Inv-loop μ-loop
-same-length c = search needs
 
 returns : tie.Need-returns Inv-loop μ-loop
 returns c = adding-end _ _ _ _ _ _ _ (c .before .loop .inv) (omega arith)
@@ -59,11 +44,11 @@ add-rows-spec =
     Inv-loop
     μ-loop
     loop-holds
-    mul-add-scaled
-    shared-slice-read-add-scaled
+    (λ c. search needs)
+    (λ c. search needs)
     add-scaled-requires
-    add-i
-    loop-less
+    (λ c. search needs)
+    (λ c. search needs)
     loop-again
-    same-length
+    (λ c. search needs)
     returns)

@@ -2,22 +2,12 @@
 use mathlib.Core.Path.{sym, ap, _∙_}
 use native.Mathlib.Omega.{arith}
 use Rattle.limits.specs.Value.{limitsOf}
-use Rattle.frames.specs.Answer.{wordsOutcome}
-use Rattle.reader.specs.Answer.{shapeOf, formOf, certificateOutcome}
+use Rattle.answers.specs.Answer.{shapeOf, formOf, countedOutcome, certificateOutcome}
 use Rattle.reader.proofs.CertificateSteps.{certificate-head-refused, certificate-some, certificate-body-refused}
 use Rattle.reader.proofs.CertificateSteps.{certificate-read}
 use borrow.Author.Needs.{needs}
 use Rattle.reader.proofs.certificate.read_certificate.Statement.{statement}
 use Rattle.reader.proofs.certificate.read_certificate.Tie as tie
-
-read-head-requires : tie.Need-read-head-requires
-read-head-requires c κs = search needs
-
-enum-known-head : tie.Need-enum-known-head
-enum-known-head c = search needs
-
-entry-count-requires : tie.Need-entry-count-requires
-entry-count-requires c κs = search needs
 
 read-body-requires : tie.Need-read-body-requires
 read-body-requires c κs =
@@ -27,28 +17,19 @@ read-body-requires c κs =
     certificate-some (limitsOf (a .limits)) (shapeOf (a .shape)) (a .words .now) (formOf (e .0 .0))
     (ap certificateOutcome (sym (e .1)) ∙ r .read-head .ensures)
 
-enum-told : tie.Need-enum-told
-enum-told c = search needs
-
-enum-known-found : tie.Need-enum-known-found
-enum-known-found c = search needs
-
-add-t14 : tie.Need-add-t14
-add-t14 c =
-    let r = c .before .before .before .before .before .before .before .before in
-    let e = c .before .before .before .before .before .before .head .given in
+add-t12 : tie.Need-add-t12
+add-t12 c =
+    let r = c .before .before .before .before .before .before .before .before .before in
+    let e = c .before .before .before .before .before .before .before .head .given in
     let a = r .before .before .args in
-    let k = c .before .before .before in
-    let f = c .before .found .given in
+    let k = c .before .before .before .before in
+    let f = c .before .before .found .given in
     omega (
       arith,
       certificate-body-refused (limitsOf (a .limits)) (shapeOf (a .shape)) (a .words .now) (formOf (e .0 .0))
-          (ap certificateOutcome (sym (e .1)) ∙ r .read-head .ensures) _ (k .before .entry-count .ensures) (f .0 .0) (f .0 .1 .0)
-          (ap wordsOutcome (sym (f .1)) ∙ k .read-body .ensures) .0,
+          (ap certificateOutcome (sym (e .1)) ∙ r .read-head .ensures) _ (k .before .entry-count .ensures)
+          (f .0 .0 .number) (f .0 .0 .place) (ap countedOutcome (sym (f .1)) ∙ k .read-body .ensures) .0,
     )
-
-enum-known-head-2 : tie.Need-enum-known-head-2
-enum-known-head-2 c = search needs
 
 returns : tie.Need-returns
 returns c =
@@ -59,39 +40,39 @@ returns c =
     let f = c .enum-told .given in
     sym (certificate-read (limitsOf (a .limits)) (shapeOf (a .shape)) (a .words .now) (formOf (e .0 .0))
     (ap certificateOutcome (sym (e .1)) ∙ r .read-head .ensures) _ (k .before .entry-count .ensures) _
-    (ap wordsOutcome (sym (f .1)) ∙ k .read-body .ensures))
+    (ap countedOutcome (sym (f .1)) ∙ k .read-body .ensures))
 
 returns-2 : tie.Need-returns-2
 returns-2 c =
-    let r = c .before .before .before .before .before .before .before .before in
-    let e = c .before .before .before .before .before .before .head .given in
+    let r = c .before .before .before .before .before .before .before .before .before in
+    let e = c .before .before .before .before .before .before .before .head .given in
     let a = r .before .before .args in
-    let k = c .before .before .before in
-    let f = c .before .found .given in
+    let k = c .before .before .before .before in
+    let f = c .before .before .found .given in
     sym (certificate-body-refused (limitsOf (a .limits)) (shapeOf (a .shape)) (a .words .now) (formOf (e .0 .0))
-    (ap certificateOutcome (sym (e .1)) ∙ r .read-head .ensures) _ (k .before .entry-count .ensures) (f .0 .0) (f .0 .1 .0)
-    (ap wordsOutcome (sym (f .1)) ∙ k .read-body .ensures) .1)
+    (ap certificateOutcome (sym (e .1)) ∙ r .read-head .ensures) _ (k .before .entry-count .ensures)
+    (f .0 .0 .number) (f .0 .0 .place) (ap countedOutcome (sym (f .1)) ∙ k .read-body .ensures) .1)
 
 returns-3 : tie.Need-returns-3
 returns-3 c =
     let r = c .before .before .before in
     let e = c .before .head2 .given in
     let a = r .before .before .args in
-    sym (certificate-head-refused (limitsOf (a .limits)) (shapeOf (a .shape)) (a .words .now) (e .0 .0) (e .0 .1 .0)
+    sym (certificate-head-refused (limitsOf (a .limits)) (shapeOf (a .shape)) (a .words .now) (e .0 .0 .number) (e .0 .0 .place)
     (ap certificateOutcome (sym (e .1)) ∙ r .read-head .ensures))
 
 pub read-certificate-spec : {M : Type 1} → statement M
 read-certificate-spec =
     tie.close
     (tie.spec
-    read-head-requires
-    enum-known-head
-    entry-count-requires
+    (λ c κs. search needs)
+    (λ c. search needs)
+    (λ c κs. search needs)
     read-body-requires
-    enum-told
-    enum-known-found
-    add-t14
-    enum-known-head-2
+    (λ c. search needs)
+    (λ c. search needs)
+    add-t12
+    (λ c. search needs)
     returns
     returns-2
     returns-3)

@@ -8,19 +8,10 @@ use Rattle.reader.proofs.certificate.read_head.Tie as tie
 returns : tie.Need-returns
 returns c = sym (head-missing _ (c .if1 .taken))
 
-shared-slice-read-word : tie.Need-shared-slice-read-word
-shared-slice-read-word c = search needs
-
-kind-of-requires : tie.Need-kind-of-requires
-kind-of-requires c κs = search needs
-
 returns-2 : tie.Need-returns-2
 returns-2 c =
     let k = c .before in
     sym (head-kind _ (k .before .before .if1 .left) (λ e. c .if2 .taken (k .kind-of .ensures ∙ e)))
-
-payload-of-requires : tie.Need-payload-of-requires
-payload-of-requires c κs = search needs
 
 returns-3 : tie.Need-returns-3
 returns-3 c =
@@ -52,10 +43,10 @@ read-head-spec =
     tie.close
     (tie.spec
     returns
-    shared-slice-read-word
-    kind-of-requires
+    (λ c. search needs)
+    (λ c κs. search needs)
     returns-2
-    payload-of-requires
+    (λ c κs. search needs)
     returns-3
     returns-4
     returns-5)

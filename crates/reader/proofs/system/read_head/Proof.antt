@@ -10,12 +10,6 @@ use Rattle.reader.proofs.system.read_head.Tie as tie
 returns : tie.Need-returns
 returns c = sym (head-missing _ _ (c .if1 .taken))
 
-shared-slice-read-word : tie.Need-shared-slice-read-word
-shared-slice-read-word c = search needs
-
-kind-of-requires : tie.Need-kind-of-requires
-kind-of-requires c κs = search needs
-
 returns-2 : tie.Need-returns-2
 returns-2 c =
     let k = c .before in
@@ -27,12 +21,6 @@ returns-3 c =
     let k = e .before in
     sym (head-bits _ _ (k .before .before .if1 .left) (sym (k .kind-of .ensures) ∙ e .if2 .left) (c .if3 .taken))
 
-cast-modulus : tie.Need-cast-modulus
-cast-modulus c = search needs
-
-is-prime-requires : tie.Need-is-prime-requires
-is-prime-requires c κs = search needs
-
 returns-4 : tie.Need-returns-4
 returns-4 c =
     let q = c .before in
@@ -42,71 +30,64 @@ returns-4 c =
     sym (head-composite _ _ (k .before .before .if1 .left) (sym (k .kind-of .ensures) ∙ e .if2 .left) (t .if3 .left)
     (sym (q .is-prime .ensures) ∙ not-true _ (c .if4 .taken)))
 
-cast-rows : tie.Need-cast-rows
-cast-rows c = search needs
-
-one-to-requires : tie.Need-one-to-requires
-one-to-requires c κs = search needs
-
 returns-5 : tie.Need-returns-5
 returns-5 c =
     let r = c .before in
-    let q = r .before .before in
+    let q = r .before .before .before in
     let t = q .before in
     let e = t .before in
     let k = e .before in
     sym
     (head-rows _ _ (k .before .before .if1 .left) (sym (k .kind-of .ensures) ∙ e .if2 .left) (t .if3 .left)
-    (sym (q .is-prime .ensures) ∙ not-false _ (r .before .if4 .left)) (sym (r .one-to .ensures) ∙ not-true _ (c .if5 .taken)))
-
-cast-columns : tie.Need-cast-columns
-cast-columns c = search needs
-
-one-to-requires-2 : tie.Need-one-to-requires-2
-one-to-requires-2 c κs = search needs
+    (sym (q .is-prime .ensures) ∙ not-false _ (r .before .before .if4 .left))
+    (sym (r .one-to .ensures) ∙ not-true _ (c .if5 .taken)))
 
 returns-6 : tie.Need-returns-6
 returns-6 c =
     let m = c .before in
-    let r = m .before .before in
-    let q = r .before .before in
+    let r = m .before .before .before in
+    let q = r .before .before .before in
     let t = q .before in
     let e = t .before in
     let k = e .before in
     sym
     (head-columns _ _ (k .before .before .if1 .left) (sym (k .kind-of .ensures) ∙ e .if2 .left) (t .if3 .left)
-    (sym (q .is-prime .ensures) ∙ not-false _ (r .before .if4 .left))
-    (sym (r .one-to .ensures) ∙ not-false _ (m .before .if5 .left)) (sym (m .one-to2 .ensures) ∙ not-true _ (c .if6 .taken)))
+    (sym (q .is-prime .ensures) ∙ not-false _ (r .before .before .if4 .left))
+    (sym (r .one-to .ensures) ∙ not-false _ (m .before .before .if5 .left))
+    (sym (m .one-to2 .ensures) ∙ not-true _ (c .if6 .taken)))
 
 returns-7 : tie.Need-returns-7
 returns-7 c =
     let m = c .before in
-    let r = m .before .before in
-    let q = r .before .before in
+    let r = m .before .before .before in
+    let q = r .before .before .before in
     let t = q .before in
     let e = t .before in
     let k = e .before in
     sym
     (head-right _ _ (k .before .before .if1 .left) (sym (k .kind-of .ensures) ∙ e .if2 .left) (t .if3 .left)
-    (sym (q .is-prime .ensures) ∙ not-false _ (r .before .if4 .left))
-    (sym (r .one-to .ensures) ∙ not-false _ (m .before .if5 .left)) (sym (m .one-to2 .ensures) ∙ not-false _ (c .if6 .left)))
+    (sym (q .is-prime .ensures) ∙ not-false _ (r .before .before .if4 .left))
+    (sym (r .one-to .ensures) ∙ not-false _ (m .before .before .if5 .left))
+    (sym (m .one-to2 .ensures) ∙ not-false _ (c .if6 .left)))
 
 pub read-head-spec : {M : Type 1} → statement M
 read-head-spec =
     tie.close
     (tie.spec
     returns
-    shared-slice-read-word
-    kind-of-requires
+    (λ c. search needs)
+    (λ c κs. search needs)
     returns-2
     returns-3
-    cast-modulus
-    is-prime-requires
+    (λ c. search needs)
+    (λ c κs. search needs)
     returns-4
-    cast-rows
-    one-to-requires
+    (λ c. search needs)
+    (λ c κs. search needs)
     returns-5
-    cast-columns
-    one-to-requires-2
+    (λ c. search needs)
+    (λ c κs. search needs)
     returns-6
+    (λ c. search needs)
+    (λ c. search needs)
     returns-7)

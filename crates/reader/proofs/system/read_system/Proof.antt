@@ -4,24 +4,11 @@ use Prim.Native.Nat.{_≤_}
 use native.Mathlib.Nat.{mul-le-mul}
 use native.Mathlib.Omega.{arith}
 use Rattle.limits.specs.Value.{limitsOf}
-use Rattle.frames.specs.Answer.{wordsOutcome}
-use Rattle.reader.specs.Answer.{shapeOf, systemOutcome}
+use Rattle.answers.specs.Answer.{shapeOf, countedOutcome, systemOutcome}
 use Rattle.reader.proofs.SystemSteps.{system-head-refused, system-some, system-body-refused, system-read}
 use borrow.Author.Needs.{needs}
 use Rattle.reader.proofs.system.read_system.Statement.{statement}
 use Rattle.reader.proofs.system.read_system.Tie as tie
-
-read-head-requires : tie.Need-read-head-requires
-read-head-requires c κs = search needs
-
-enum-known-head : tie.Need-enum-known-head
-enum-known-head c = search needs
-
-cast-rows : tie.Need-cast-rows
-cast-rows c = search needs
-
-cast-columns : tie.Need-cast-columns
-cast-columns c = search needs
 
 mul-read-body : tie.Need-mul-read-body
 mul-read-body c =
@@ -44,15 +31,6 @@ read-body-requires c κs =
     let a = r .before .before .args in
     system-some (limitsOf (a .limits)) (a .words .now) (shapeOf (e .0 .0)) (ap systemOutcome (sym (e .1)) ∙ r .read-head .ensures)
 
-enum-told : tie.Need-enum-told
-enum-told c = search needs
-
-enum-known-found : tie.Need-enum-known-found
-enum-known-found c = search needs
-
-enum-known-head-2 : tie.Need-enum-known-head-2
-enum-known-head-2 c = search needs
-
 returns : tie.Need-returns
 returns c =
     let r = c .before .before .before .before .before .before .before .before in
@@ -61,7 +39,7 @@ returns c =
     let f = c .enum-told .given in
     sym (system-read (limitsOf (a .limits)) (a .words .now) (shapeOf (e .0 .0))
     (ap systemOutcome (sym (e .1)) ∙ r .read-head .ensures) _
-    (ap wordsOutcome (sym (f .1)) ∙ c .before .before .read-body .ensures))
+    (ap countedOutcome (sym (f .1)) ∙ c .before .before .read-body .ensures))
 
 returns-2 : tie.Need-returns-2
 returns-2 c =
@@ -71,30 +49,30 @@ returns-2 c =
     let f = c .before .found .given in
     sym (system-body-refused (limitsOf (a .limits)) (a .words .now) (shapeOf (e .0 .0))
     (ap systemOutcome (sym (e .1)) ∙ r .read-head .ensures) _ _
-    (ap wordsOutcome (sym (f .1)) ∙ c .before .before .before .read-body .ensures))
+    (ap countedOutcome (sym (f .1)) ∙ c .before .before .before .read-body .ensures))
 
 returns-3 : tie.Need-returns-3
 returns-3 c =
     let r = c .before .before .before in
     let e = c .before .head2 .given in
     let a = r .before .before .args in
-    sym (system-head-refused (limitsOf (a .limits)) (a .words .now) (e .0 .0) (e .0 .1 .0)
+    sym (system-head-refused (limitsOf (a .limits)) (a .words .now) (e .0 .0 .number) (e .0 .0 .place)
     (ap systemOutcome (sym (e .1)) ∙ r .read-head .ensures))
 
 pub read-system-spec : {M : Type 1} → statement M
 read-system-spec =
     tie.close
     (tie.spec
-    read-head-requires
-    enum-known-head
-    cast-rows
-    cast-columns
+    (λ c κs. search needs)
+    (λ c. search needs)
+    (λ c. search needs)
+    (λ c. search needs)
     mul-read-body
     add-read-body
     read-body-requires
-    enum-told
-    enum-known-found
-    enum-known-head-2
+    (λ c. search needs)
+    (λ c. search needs)
+    (λ c. search needs)
     returns
     returns-2
     returns-3)

@@ -22,22 +22,13 @@ abbrev μ-loop : tie.MeasureT-loop
 returns : tie.Need-returns Inv-loop μ-loop
 returns c = sym (false-of-composite _ (λ h. omega (arith, h .large)))
 
-loop-holds : tie.Need-loop-holds Inv-loop μ-loop
-loop-holds c = search needs
-
 mul-loop : tie.Need-mul-loop Inv-loop μ-loop
 mul-loop c = omega (arith, mul-le-mul {n₁ = c .loop .d} {m₁ = c .loop .d} {n₂ = 256} {m₂ = 256} (omega arith) (omega arith))
-
-rem-if2 : tie.Need-rem-if2 Inv-loop μ-loop
-rem-if2 c = search needs
 
 returns-2 : tie.Need-returns-2 Inv-loop μ-loop
 returns-2 c =
     let i = c .before .before .loop .inv in
     sym (false-of-composite _ (composite-of-root _ (c .before .before .loop .d) (i .1) (omega arith) (c .if2 .taken)))
-
-add-d : tie.Need-add-d Inv-loop μ-loop
-add-d c = omega arith
 
 loop-less : tie.Need-loop-less Inv-loop μ-loop
 loop-less c = let root = root-short (c .before .before .loop .d) (omega arith) in omega arith
@@ -60,11 +51,11 @@ is-prime-spec =
     Inv-loop
     μ-loop
     returns
-    loop-holds
+    (λ c. search needs)
     mul-loop
-    rem-if2
+    (λ c. search needs)
     returns-2
-    add-d
+    (λ c. omega arith)
     loop-less
     loop-again
     returns-3)

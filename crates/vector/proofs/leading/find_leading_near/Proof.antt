@@ -19,15 +19,6 @@ abbrev μ-loop : tie.MeasureT-loop
 loop-holds : tie.Need-loop-holds Inv-loop μ-loop
 loop-holds c = (omega arith, refl)
 
-sub-i : tie.Need-sub-i Inv-loop μ-loop
-sub-i c = omega arith
-
-mul-reduce : tie.Need-mul-reduce Inv-loop μ-loop
-mul-reduce c = omega arith
-
-shared-slice-read-reduce : tie.Need-shared-slice-read-reduce Inv-loop μ-loop
-shared-slice-read-reduce c = omega arith
-
 reduce-requires : tie.Need-reduce-requires Inv-loop μ-loop
 reduce-requires c κs =
     let L = c .before .before in
@@ -45,9 +36,6 @@ returns c =
       sym (ap length (L .loop .inv .1) ∙ size-take (A .modulus .p) (A .h .now) _ _ next inside counts),
       value ∙ sym (ap (leading _) (L .loop .inv .1) ∙ leading-take (A .modulus .p) (A .h .now) _ _ next inside counts),
     )
-
-loop-less : tie.Need-loop-less Inv-loop μ-loop
-loop-less c = omega arith
 
 loop-again : tie.Need-loop-again Inv-loop μ-loop
 loop-again c =
@@ -72,11 +60,11 @@ find-leading-near-spec =
     Inv-loop
     μ-loop
     loop-holds
-    sub-i
-    mul-reduce
-    shared-slice-read-reduce
+    (λ c. omega arith)
+    (λ c. omega arith)
+    (λ c. omega arith)
     reduce-requires
     returns
-    loop-less
+    (λ c. omega arith)
     loop-again
     returns-2)

@@ -9,8 +9,8 @@ use Rattle.vector.proofs.multiple.add_scaled.Statement.{statement}
 use Rattle.vector.proofs.multiple.add_scaled.Tie as tie
 use Rattle.vector.proofs.multiple.add_scaled.Reads as reads
 use Rattle.vector.proofs.multiple.add_scaled.Lts as lts
-use Rattle.row.proofs.sum.add_row.Reads as add-row-reads
-use Rattle.row.proofs.sum.sum_at.Reads as sum-at-reads
+use Rattle.vector.proofs.sum.add_row.Reads as add-row-reads
+use Rattle.vector.proofs.sum.sum_at.Reads as sum-at-reads
 
 abbrev Inv-loop : tie.InvT-loop
 Inv-loop h₀ d s a n c j₀ h j = Storing (sumAt h₀ d s a c) h₀ d n h j
@@ -46,27 +46,12 @@ stands L = L .loop2 .inv _ (L .before .before .loop .inv)
 loop-holds : tie.Need-loop-holds Inv-loop μ-loop Inv-loop2 μ-loop2
 loop-holds c = storing-start _ _ _ _
 
-sub-loop : tie.Need-sub-loop Inv-loop μ-loop Inv-loop2 μ-loop2
-sub-loop c = omega arith
-
-add-add-row : tie.Need-add-add-row Inv-loop μ-loop Inv-loop2 μ-loop2
-add-add-row c = omega arith
-
-add-add-row-2 : tie.Need-add-add-row-2 Inv-loop μ-loop Inv-loop2 μ-loop2
-add-add-row-2 c = omega arith
-
 add-row-requires : tie.Need-add-row-requires Inv-loop μ-loop Inv-loop2 μ-loop2
 add-row-requires c κs =
     let L = c .before .before in
     let start = L .before .before .before in
     let A = start .args in
     row-fits (A .h .now) (A .d) (A .s .now) (A .a) (A .n) (A .c) (L .loop .inv) (start .pre) 8 (omega arith)
-
-add-j : tie.Need-add-j Inv-loop μ-loop Inv-loop2 μ-loop2
-add-j c = omega arith
-
-loop-less : tie.Need-loop-less Inv-loop μ-loop Inv-loop2 μ-loop2
-loop-less c = omega arith
 
 loop-again : tie.Need-loop-again Inv-loop μ-loop Inv-loop2 μ-loop2
 loop-again c =
@@ -85,20 +70,8 @@ sum-at-requires c κs =
     let A = start .args in
     next-fits (A .h .now) (A .d) (A .s .now) (A .a) (A .n) (A .c) (stands L) (start .pre) (c .before .loop2-test .taken)
 
-add-h : tie.Need-add-h Inv-loop μ-loop Inv-loop2 μ-loop2
-add-h c = omega arith
-
-mul-h : tie.Need-mul-h Inv-loop μ-loop Inv-loop2 μ-loop2
-mul-h c = omega arith
-
 slice-write-h : tie.Need-slice-write-h Inv-loop μ-loop Inv-loop2 μ-loop2
 slice-write-h c = let so-far = stands (c .before .before .before) in omega arith
-
-add-j-2 : tie.Need-add-j-2 Inv-loop μ-loop Inv-loop2 μ-loop2
-add-j-2 c = omega arith
-
-loop2-less : tie.Need-loop2-less Inv-loop μ-loop Inv-loop2 μ-loop2
-loop2-less c = omega arith
 
 loop2-again : tie.Need-loop2-again Inv-loop μ-loop Inv-loop2 μ-loop2
 loop2-again c l first =
@@ -130,20 +103,20 @@ add-scaled-spec =
     Inv-loop2
     μ-loop2
     loop-holds
-    sub-loop
-    add-add-row
-    add-add-row-2
+    (λ c. omega arith)
+    (λ c. omega arith)
+    (λ c. omega arith)
     add-row-requires
-    add-j
-    loop-less
+    (λ c. omega arith)
+    (λ c. omega arith)
     loop-again
     loop2-holds
     sum-at-requires
-    add-h
-    mul-h
+    (λ c. omega arith)
+    (λ c. omega arith)
     slice-write-h
-    add-j-2
-    loop2-less
+    (λ c. omega arith)
+    (λ c. omega arith)
     loop2-again
     same-length
     returns)

@@ -15,21 +15,6 @@ abbrev μ-loop : tie.MeasureT-loop
 loop-holds : tie.Need-loop-holds Inv-loop μ-loop
 loop-holds c = storing-start _ _ _ _
 
-add-h : tie.Need-add-h Inv-loop μ-loop
-add-h c = omega arith
-
-mul-h : tie.Need-mul-h Inv-loop μ-loop
-mul-h c = omega arith
-
-slice-write-h : tie.Need-slice-write-h Inv-loop μ-loop
-slice-write-h c = omega arith
-
-add-j : tie.Need-add-j Inv-loop μ-loop
-add-j c = omega arith
-
-loop-less : tie.Need-loop-less Inv-loop μ-loop
-loop-less c = omega arith
-
 loop-again : tie.Need-loop-again Inv-loop μ-loop
 loop-again c = storing-turn (c .before .loop .inv) _ (c .loop-test .taken) refl
 
@@ -46,11 +31,11 @@ clear-spec =
     Inv-loop
     μ-loop
     loop-holds
-    add-h
-    mul-h
-    slice-write-h
-    add-j
-    loop-less
+    (λ c. omega arith)
+    (λ c. omega arith)
+    (λ c. omega arith)
+    (λ c. omega arith)
+    (λ c. omega arith)
     loop-again
     same-length
     returns)

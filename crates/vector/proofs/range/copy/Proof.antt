@@ -16,30 +16,6 @@ abbrev μ-loop : tie.MeasureT-loop
 loop-holds : tie.Need-loop-holds Inv-loop μ-loop
 loop-holds c = storing-start _ _ _ _
 
-add-h : tie.Need-add-h Inv-loop μ-loop
-add-h c = omega arith
-
-mul-h : tie.Need-mul-h Inv-loop μ-loop
-mul-h c = omega arith
-
-shared-slice-read-h : tie.Need-shared-slice-read-h Inv-loop μ-loop
-shared-slice-read-h c = omega arith
-
-add-h-2 : tie.Need-add-h-2 Inv-loop μ-loop
-add-h-2 c = omega arith
-
-mul-h-2 : tie.Need-mul-h-2 Inv-loop μ-loop
-mul-h-2 c = omega arith
-
-slice-write-h : tie.Need-slice-write-h Inv-loop μ-loop
-slice-write-h c = omega arith
-
-add-j : tie.Need-add-j Inv-loop μ-loop
-add-j c = omega arith
-
-loop-less : tie.Need-loop-less Inv-loop μ-loop
-loop-less c = omega arith
-
 loop-again : tie.Need-loop-again Inv-loop μ-loop
 loop-again c = storing-turn (c .before .before .loop .inv) _ (c .before .loop-test .taken) refl
 
@@ -56,14 +32,14 @@ copy-spec =
     Inv-loop
     μ-loop
     loop-holds
-    add-h
-    mul-h
-    shared-slice-read-h
-    add-h-2
-    mul-h-2
-    slice-write-h
-    add-j
-    loop-less
+    (λ c. omega arith)
+    (λ c. omega arith)
+    (λ c. omega arith)
+    (λ c. omega arith)
+    (λ c. omega arith)
+    (λ c. omega arith)
+    (λ c. omega arith)
+    (λ c. omega arith)
     loop-again
     same-length
     returns)

@@ -19,48 +19,12 @@ abbrev μ-loop : tie.MeasureT-loop
 loop-holds : tie.Need-loop-holds Inv-loop μ-loop
 loop-holds c = (storing-start _ _ _ _, storing-start _ _ _ _)
 
-mul-reduce : tie.Need-mul-reduce Inv-loop μ-loop
-mul-reduce c = omega arith
-
-slice-read-reduce : tie.Need-slice-read-reduce Inv-loop μ-loop
-slice-read-reduce c = omega arith
-
 reduce-requires : tie.Need-reduce-requires Inv-loop μ-loop
 reduce-requires c κs =
     let L = c .before .before in
     let given = L .before .before .before .pre in
     let reads = storing-reads-at (L .loop .inv .0) (L .loop .j) (sym (zero-add (L .loop .j))) in
     (given .0 .0, rw reads (given .1 (L .loop .j) (c .before .loop-test .taken)))
-
-add-h : tie.Need-add-h Inv-loop μ-loop
-add-h c = omega arith
-
-mul-h : tie.Need-mul-h Inv-loop μ-loop
-mul-h c = omega arith
-
-slice-read-h : tie.Need-slice-read-h Inv-loop μ-loop
-slice-read-h c = omega arith
-
-mul-h-2 : tie.Need-mul-h-2 Inv-loop μ-loop
-mul-h-2 c = omega arith
-
-slice-write-h : tie.Need-slice-write-h Inv-loop μ-loop
-slice-write-h c = omega arith
-
-add-s : tie.Need-add-s Inv-loop μ-loop
-add-s c = omega arith
-
-mul-s : tie.Need-mul-s Inv-loop μ-loop
-mul-s c = omega arith
-
-slice-write-s : tie.Need-slice-write-s Inv-loop μ-loop
-slice-write-s c = omega arith
-
-add-j : tie.Need-add-j Inv-loop μ-loop
-add-j c = omega arith
-
-loop-less : tie.Need-loop-less Inv-loop μ-loop
-loop-less c = omega arith
 
 loop-again : tie.Need-loop-again Inv-loop μ-loop
 loop-again c =
@@ -89,19 +53,19 @@ exchange-spec =
     Inv-loop
     μ-loop
     loop-holds
-    mul-reduce
-    slice-read-reduce
+    (λ c. omega arith)
+    (λ c. omega arith)
     reduce-requires
-    add-h
-    mul-h
-    slice-read-h
-    mul-h-2
-    slice-write-h
-    add-s
-    mul-s
-    slice-write-s
-    add-j
-    loop-less
+    (λ c. omega arith)
+    (λ c. omega arith)
+    (λ c. omega arith)
+    (λ c. omega arith)
+    (λ c. omega arith)
+    (λ c. omega arith)
+    (λ c. omega arith)
+    (λ c. omega arith)
+    (λ c. omega arith)
+    (λ c. omega arith)
     loop-again
     same-length
     same-length-2

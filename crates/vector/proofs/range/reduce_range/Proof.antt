@@ -17,30 +17,12 @@ abbrev μ-loop : tie.MeasureT-loop
 loop-holds : tie.Need-loop-holds Inv-loop μ-loop
 loop-holds c = storing-start _ _ _ _
 
-mul-reduce : tie.Need-mul-reduce Inv-loop μ-loop
-mul-reduce c = omega arith
-
-slice-read-reduce : tie.Need-slice-read-reduce Inv-loop μ-loop
-slice-read-reduce c = omega arith
-
 reduce-requires : tie.Need-reduce-requires Inv-loop μ-loop
 reduce-requires c κs =
     let L = c .before .before in
     let given = L .before .before .pre in
     let reads = storing-reads-at (L .loop .inv) (L .loop .j) (sym (zero-add (L .loop .j))) in
     (given .0 .0, rw reads (given .1 (L .loop .j) (c .before .loop-test .taken)))
-
-mul-h : tie.Need-mul-h Inv-loop μ-loop
-mul-h c = omega arith
-
-slice-write-h : tie.Need-slice-write-h Inv-loop μ-loop
-slice-write-h c = omega arith
-
-add-j : tie.Need-add-j Inv-loop μ-loop
-add-j c = omega arith
-
-loop-less : tie.Need-loop-less Inv-loop μ-loop
-loop-less c = omega arith
 
 loop-again : tie.Need-loop-again Inv-loop μ-loop
 loop-again c =
@@ -63,13 +45,13 @@ reduce-range-spec =
     Inv-loop
     μ-loop
     loop-holds
-    mul-reduce
-    slice-read-reduce
+    (λ c. omega arith)
+    (λ c. omega arith)
     reduce-requires
-    mul-h
-    slice-write-h
-    add-j
-    loop-less
+    (λ c. omega arith)
+    (λ c. omega arith)
+    (λ c. omega arith)
+    (λ c. omega arith)
     loop-again
     same-length
     returns)

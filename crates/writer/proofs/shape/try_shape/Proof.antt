@@ -6,28 +6,16 @@ use borrow.Author.Tests.{lt-ltb, le-ltb, not-true, not-false}
 use Rattle.writer.proofs.shape.try_shape.Statement.{statement}
 use Rattle.writer.proofs.shape.try_shape.Tie as tie
 
-returns : tie.Need-returns
-returns c = simp (lt-ltb _ _ (c .if1 .taken), or-true)
-
-cast-is-prime : tie.Need-cast-is-prime
-cast-is-prime c = search needs
-
-is-prime-requires : tie.Need-is-prime-requires
-is-prime-requires c κs = search needs
-
-returns-2 : tie.Need-returns-2
-returns-2 c = simp (sym (c .before .is-prime .ensures) ∙ not-true _ (c .if2 .taken))
-
-one-to-requires : tie.Need-one-to-requires
-one-to-requires c κs = search needs
-
 returns-3 : tie.Need-returns-3
 returns-3 c =
     let b = c .before .before in
-    simp (sym (b .before .is-prime .ensures) ∙ not-false _ (b .if2 .left), le-ltb _ _ (b .before .before .if1 .left), sym (c .before .one-to .ensures) ∙ not-true _ (c .if3 .taken))
-
-one-to-requires-2 : tie.Need-one-to-requires-2
-one-to-requires-2 c κs = search needs
+    simp (
+      sym (b .before .is-prime .ensures)
+          ∙ not-false _ (b .if2 .left),
+      le-ltb _ _ (b .before .before .if1 .left),
+      sym (c .before .one-to .ensures)
+          ∙ not-true _ (c .if3 .taken),
+    )
 
 returns-4 : tie.Need-returns-4
 returns-4 c =
@@ -55,12 +43,14 @@ pub try-shape-spec : {M : Type 1} → statement M
 try-shape-spec =
     tie.close
     (tie.spec
-    returns
-    cast-is-prime
-    is-prime-requires
-    returns-2
-    one-to-requires
+    (λ c. simp (lt-ltb _ _ (c .if1 .taken), or-true))
+    (λ c. search needs)
+    (λ c κs. search needs)
+    (λ c. simp (sym (c .before .is-prime .ensures) ∙ not-true _ (c .if2 .taken)))
+    (λ c. search needs)
+    (λ c κs. search needs)
     returns-3
-    one-to-requires-2
+    (λ c. search needs)
+    (λ c κs. search needs)
     returns-4
     returns-5)

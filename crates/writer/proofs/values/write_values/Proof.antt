@@ -2,9 +2,8 @@
 use mathlib.Core.Path.{_≡_, sym, ap, _∙_}
 use native.Mathlib.Nat.{le-trans}
 use borrow.Author.Needs.{needs}
-use Rattle.words.specs.Outcome.Outcome.{refused}
-use Rattle.trial.specs.Trial.{passed}
-use Rattle.trial.specs.Answer.{trialOf}
+use Rattle.answers.specs.Answer.{verdictOutcome}
+use Rattle.write_frame.specs.Trial.{passed}
 use Rattle.writer.proofs.Answers.{trial, values-refused, values-writable, values-short, values-words}
 use Rattle.writer.proofs.values.write_values.Statement.{statement}
 use Rattle.writer.proofs.values.write_values.Tie as tie
@@ -12,39 +11,19 @@ use Rattle.writer.proofs.values.write_values.Tie as tie
 -- no polynomial was refused
 passed-at : (c : tie.After-enum-told) →
     let a = c .before .before .before .before .before .before .args in
-    passed ≡ trial (a .format) (a .p) (a .sizes .now) (a .coefficients .now)
-passed-at c = ap trialOf (sym (c .enum-told .given .1)) ∙ c .before .before .try-polynomials .ensures
-
--- a polynomial was
-refused-at : (c : tie.After-known-told) →
-    let a = c .before .before .before .before .before .before .before .args in
-    let f = c .before .found .given .0 in
-    refused (f .0) (f .1 .0) ≡ trial (a .format) (a .p) (a .sizes .now) (a .coefficients .now)
-refused-at c = ap trialOf (sym (c .before .found .given .1)) ∙ c .before .before .before .try-polynomials .ensures
-
-try-polynomials-requires : tie.Need-try-polynomials-requires
-try-polynomials-requires c κs = search needs
-
-enum-told : tie.Need-enum-told
-enum-told c = search needs
-
-enum-known-found : tie.Need-enum-known-found
-enum-known-found c = search needs
+    passed ≡ trial (a .format) (a .modulus) (a .sizes .now) (a .coefficients .now)
+passed-at c = ap verdictOutcome (sym (c .enum-told .given .1)) ∙ c .before .before .try-polynomials .ensures
 
 returns : tie.Need-returns
-returns c = values-refused _ _ _ _ _ _ _ (refused-at c)
-
-returns-2 : tie.Need-returns-2
-returns-2 c = values-short _ _ _ _ _ (passed-at (c .before .before)) (c .if1 .taken)
+returns c =
+    values-refused _ _ _ _ _ _
+    (ap verdictOutcome (sym (c .before .found .given .1)) ∙ c .before .before .before .try-polynomials .ensures)
 
 write-framed-requires : tie.Need-write-framed-requires
 write-framed-requires c κs =
     let t = c .before .before .before in
     let s = t .before .before .before .before .before .before in
     (s .pre .0, values-writable _ _ _ _ (passed-at t) (s .pre .1), le-trans (s .pre .2) (c .before .if1 .left))
-
-same-length : tie.Need-same-length
-same-length c = search needs
 
 returns-3 : tie.Need-returns-3
 returns-3 c =
@@ -55,11 +34,11 @@ pub write-values-spec : {M : Type 1} → statement M
 write-values-spec =
     tie.close
     (tie.spec
-    try-polynomials-requires
-    enum-told
-    enum-known-found
+    (λ c κs. search needs)
+    (λ c. search needs)
+    (λ c. search needs)
     returns
-    returns-2
+    (λ c. values-short _ _ _ _ _ (passed-at (c .before .before)) (c .if1 .taken))
     write-framed-requires
-    same-length
+    (λ c. search needs)
     returns-3)

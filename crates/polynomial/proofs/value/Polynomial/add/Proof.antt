@@ -9,9 +9,6 @@ use Rattle.polynomial.proofs.Multiple.{scale-one}
 use Rattle.polynomial.proofs.value.Polynomial.add.Statement.{statement}
 use Rattle.polynomial.proofs.value.Polynomial.add.Tie as tie
 
-add-multiple-requires : tie.Need-add-multiple-requires
-add-multiple-requires c κs = search needs
-
 returns : tie.Need-returns
 returns c =
     let S = c .before in
@@ -22,4 +19,4 @@ returns c =
     (scale-one (S .args .m .p) (omega (arith, S .pre .0 .prime .large)) _ (S .pre .2 .canonical)))
 
 pub add-spec : {M : Type 1} → statement M
-add-spec = tie.close (tie.spec add-multiple-requires returns)
+add-spec = tie.close (tie.spec (λ c κs. search needs) returns)

@@ -10,9 +10,6 @@ use Rattle.polynomial.proofs.Multiple.{multiple-fits, multiple-small, m
 use Rattle.polynomial.proofs.value.Polynomial.add_multiple.Statement.{statement}
 use Rattle.polynomial.proofs.value.Polynomial.add_multiple.Tie as tie
 
-slice-aggregate-add-scaled : tie.Need-slice-aggregate-add-scaled
-slice-aggregate-add-scaled c = search needs
-
 add-scaled-requires : tie.Need-add-scaled-requires
 add-scaled-requires c κs =
     let S = c .before .before .before .before .before in
@@ -25,12 +22,6 @@ add-scaled-requires c κs =
         multiple-fits (S .args .m .p) positive (S .pre .1) g (S .args .c) (S .pre .2) (m .limit),
       ),
     )
-
-slice-aggregate-from-words : tie.Need-slice-aggregate-from-words
-slice-aggregate-from-words c = search needs
-
-larger-requires : tie.Need-larger-requires
-larger-requires c κs = search needs
 
 from-words-requires : tie.Need-from-words-requires
 from-words-requires c κs =
@@ -69,9 +60,9 @@ pub add-multiple-spec : {M : Type 1} → statement M
 add-multiple-spec =
     tie.close
     (tie.spec
-    slice-aggregate-add-scaled
+    (λ c. search needs)
     add-scaled-requires
-    slice-aggregate-from-words
-    larger-requires
+    (λ c. search needs)
+    (λ c κs. search needs)
     from-words-requires
     returns)

@@ -10,9 +10,6 @@ use Rattle.polynomial.proofs.Products.{words-at-most, products-small, p
 use Rattle.polynomial.proofs.value.Polynomial.add_product.Statement.{statement}
 use Rattle.polynomial.proofs.value.Polynomial.add_product.Tie as tie
 
-slice-aggregate-add-rows : tie.Need-slice-aggregate-add-rows
-slice-aggregate-add-rows c = search needs
-
 add-rows-requires : tie.Need-add-rows-requires
 add-rows-requires c κs =
     let S = c .before .before .before .before .before .before .before .before in
@@ -27,21 +24,6 @@ add-rows-requires c κs =
       (omega (arith, f .room, f .within), omega (arith, g .room, g .within), omega (arith, s .room), f .within),
       (sum (S .args .self) s, small (S .args .t2) f, small (S .args .t3) g),
     )
-
-slice-aggregate-from-words : tie.Need-slice-aggregate-from-words
-slice-aggregate-from-words c = search needs
-
-add-larger : tie.Need-add-larger
-add-larger c = search needs
-
-add-larger-2 : tie.Need-add-larger-2
-add-larger-2 c = search needs
-
-larger-requires : tie.Need-larger-requires
-larger-requires c κs = search needs
-
-sub-from-words : tie.Need-sub-from-words
-sub-from-words c = search needs
 
 from-words-requires : tie.Need-from-words-requires
 from-words-requires c κs =
@@ -82,12 +64,12 @@ pub add-product-spec : {M : Type 1} → statement M
 add-product-spec =
     tie.close
     (tie.spec
-    slice-aggregate-add-rows
+    (λ c. search needs)
     add-rows-requires
-    slice-aggregate-from-words
-    add-larger
-    add-larger-2
-    larger-requires
-    sub-from-words
+    (λ c. search needs)
+    (λ c. search needs)
+    (λ c. search needs)
+    (λ c κs. search needs)
+    (λ c. search needs)
     from-words-requires
     returns)

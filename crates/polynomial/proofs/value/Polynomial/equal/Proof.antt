@@ -19,9 +19,6 @@ returns c =
     let room-g : length (g .coefficients) ≡ 256 = search needs in
     compared-sizes (f .coefficients) (g .coefficients) (f .size) (g .size) (omega arith) (omega arith) (c .if1 .taken)
 
-same-words-requires : tie.Need-same-words-requires
-same-words-requires c κs = search needs
-
 returns-2 : tie.Need-returns-2
 unfolding coefficientsOf
 returns-2 c =
@@ -34,4 +31,4 @@ returns-2 c =
     (c .same-words .ensures)
 
 pub equal-spec : {M : Type 1} → statement M
-equal-spec = tie.close (tie.spec returns same-words-requires returns-2)
+equal-spec = tie.close (tie.spec returns (λ c κs. search needs) returns-2)

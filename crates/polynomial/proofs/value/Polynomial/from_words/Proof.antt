@@ -9,18 +9,6 @@ use Rattle.polynomial.proofs.Residues.{Copied, copied-word, residue-sma
 use Rattle.polynomial.proofs.value.Polynomial.from_words.Statement.{statement}
 use Rattle.polynomial.proofs.value.Polynomial.from_words.Tie as tie
 
-zeros-requires : tie.Need-zeros-requires
-zeros-requires c κs = search needs
-
-slice-aggregate-copy : tie.Need-slice-aggregate-copy
-slice-aggregate-copy c = search needs
-
-copy-requires : tie.Need-copy-requires
-copy-requires c κs = search needs
-
-slice-aggregate-reduce-range : tie.Need-slice-aggregate-reduce-range
-slice-aggregate-reduce-range c = search needs
-
 reduce-range-requires : tie.Need-reduce-range-requires
 reduce-range-requires c κs =
     let S = c .before .before .before .before .before .before in
@@ -30,9 +18,6 @@ reduce-range-requires c κs =
     record { few = S .pre .0 .1; room = fresh .ensures .0; zero = fresh .ensures .1; copies = copies .ensures } in
     let long : length (copies .last .0) ≡ 256 = search needs in
     ((S .pre .0 .0, omega (arith, by .few)), λ j lt. rw (copied-word by j (omega arith)) (S .pre .1 j (omega arith)))
-
-slice-aggregate-find-leading : tie.Need-slice-aggregate-find-leading
-slice-aggregate-find-leading c = search needs
 
 find-leading-requires : tie.Need-find-leading-requires
 find-leading-requires c κs =
@@ -67,11 +52,11 @@ pub from-words-spec : {M : Type 1} → statement M
 from-words-spec =
     tie.close
     (tie.spec
-    zeros-requires
-    slice-aggregate-copy
-    copy-requires
-    slice-aggregate-reduce-range
+    (λ c κs. search needs)
+    (λ c. search needs)
+    (λ c κs. search needs)
+    (λ c. search needs)
     reduce-range-requires
-    slice-aggregate-find-leading
+    (λ c. search needs)
     find-leading-requires
     returns)

@@ -6,11 +6,8 @@ use borrow.Author.Needs.{needs}
 use Rattle.polynomial.proofs.value.Polynomial.is_monic.Statement.{statement}
 use Rattle.polynomial.proofs.value.Polynomial.is_monic.Tie as tie
 
-leading-requires : tie.Need-leading-requires
-leading-requires c κs = search needs
-
 returns : tie.Need-returns
 returns c = λ p. ap (λ (x : ℕ). eqb x 1) (c .leading .ensures p)
 
 pub is-monic-spec : {M : Type 1} → statement M
-is-monic-spec = tie.close (tie.spec leading-requires returns)
+is-monic-spec = tie.close (tie.spec (λ c κs. search needs) returns)

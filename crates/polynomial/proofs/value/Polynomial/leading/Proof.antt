@@ -15,15 +15,6 @@ returns : tie.Need-returns
 unfolding coefficientsOf leading modulo
 returns c = λ p. ap (λ (n : ℕ). leading (modulo p) (take n (c .before .args .t1 .coefficients))) (sym (c .if1 .taken))
 
-sub-result : tie.Need-sub-result
-sub-result c = search needs
-
-mul-result : tie.Need-mul-result
-mul-result c = search needs
-
-element-copy-out-result : tie.Need-element-copy-out-result
-element-copy-out-result c = search needs
-
 returns-2 : tie.Need-returns-2
 unfolding coefficientsOf
 returns-2 c =
@@ -32,4 +23,4 @@ returns-2 c =
     λ p. leading-last p (f .size) (f .coefficients) (omega arith) (omega arith)
 
 pub leading-spec : {M : Type 1} → statement M
-leading-spec = tie.close (tie.spec returns sub-result mul-result element-copy-out-result returns-2)
+leading-spec = tie.close (tie.spec returns (λ c. search needs) (λ c. search needs) (λ c. search needs) returns-2)

@@ -4,7 +4,7 @@ use Prim.Native.Nat.{ℕ}
 use native.Mathlib.Omega.{arith}
 use lib.ListN.{length}
 use borrow.Author.Needs.{needs}
-use Rattle.algebra.specs.Coefficients.{leading, scale, monic}
+use Rattle.algebra.specs.Coefficients.{scale, monic}
 use Rattle.modular.specs.Modulo.{modulo}
 use Rattle.residue.specs.Below.{inverse-below}
 use Rattle.residue.specs.Modulus.{ValidModulus}
@@ -18,9 +18,6 @@ returns c =
     let S = c .before .before in
     let none : length (coefficientsOf (S .args .self)) ≡ 0 = size-length (S .args .m .p) (S .args .self) (S .pre .1) ∙ omega arith in
     record { valid = S .pre .1; same = sym (monic-zero (S .args .m .p) (coefficientsOf (S .args .self)) none) }
-
-leading-requires : tie.Need-leading-requires
-leading-requires c κs = search needs
 
 inverse-requires : tie.Need-inverse-requires
 inverse-requires c κs =
@@ -49,4 +46,4 @@ returns-2 c =
 
 pub monic-spec : {M : Type 1} → statement M
 monic-spec =
-    tie.close (tie.spec returns leading-requires inverse-requires scale-requires returns-2)
+    tie.close (tie.spec returns (λ c κs. search needs) inverse-requires scale-requires returns-2)

@@ -9,9 +9,6 @@ use Rattle.polynomial.specs.Value.{coefficientsOf, represents-is}
 use Rattle.polynomial.proofs.value.Polynomial.multiply.Statement.{statement}
 use Rattle.polynomial.proofs.value.Polynomial.multiply.Tie as tie
 
-zero-requires : tie.Need-zero-requires
-zero-requires c κs = search needs
-
 add-product-requires : tie.Need-add-product-requires
 add-product-requires c κs =
     let S = c .before in
@@ -29,4 +26,4 @@ returns c =
     (c .before .zero .ensures p .same))
 
 pub multiply-spec : {M : Type 1} → statement M
-multiply-spec = tie.close (tie.spec zero-requires add-product-requires returns)
+multiply-spec = tie.close (tie.spec (λ c κs. search needs) add-product-requires returns)

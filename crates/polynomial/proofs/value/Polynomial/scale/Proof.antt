@@ -2,6 +2,7 @@
 use mathlib.Core.Path.{ap}
 use mathlib.Core.List.{List}
 use Prim.Native.Nat.{ℕ}
+use native.Mathlib.Omega.{arith}
 use borrow.Author.Needs.{needs}
 use Rattle.algebra.specs.Coefficients.{add, scale}
 use Rattle.modular.specs.Modulo.{modulo}
@@ -9,13 +10,10 @@ use Rattle.polynomial.specs.Value.{coefficientsOf, represents-is}
 use Rattle.polynomial.proofs.value.Polynomial.scale.Statement.{statement}
 use Rattle.polynomial.proofs.value.Polynomial.scale.Tie as tie
 
-zero-requires : tie.Need-zero-requires
-zero-requires c κs = search needs
-
 add-multiple-requires : tie.Need-add-multiple-requires
 add-multiple-requires c κs =
     let S = c .before in
-    (S .pre .0, c .zero .ensures (S .args .m .p) .valid, S .pre .2, S .pre .1)
+    (S .pre .0, c .zero .ensures (S .args .m .p) .valid, omega arith, S .pre .1)
 
 returns : tie.Need-returns
 unfolding add
@@ -29,4 +27,4 @@ returns c =
     (c .before .zero .ensures p .same))
 
 pub scale-spec : {M : Type 1} → statement M
-scale-spec = tie.close (tie.spec zero-requires add-multiple-requires returns)
+scale-spec = tie.close (tie.spec (λ c κs. search needs) add-multiple-requires returns)

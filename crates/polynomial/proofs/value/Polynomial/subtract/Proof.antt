@@ -6,12 +6,6 @@ use Rattle.polynomial.proofs.Multiple.{subtract-is}
 use Rattle.polynomial.proofs.value.Polynomial.subtract.Statement.{statement}
 use Rattle.polynomial.proofs.value.Polynomial.subtract.Tie as tie
 
-sub-add-multiple : tie.Need-sub-add-multiple
-sub-add-multiple c = search needs
-
-add-multiple-requires : tie.Need-add-multiple-requires
-add-multiple-requires c κs = search needs
-
 returns : tie.Need-returns
 returns c =
     let S = c .before .before in
@@ -20,4 +14,4 @@ returns c =
     (subtract-is (S .args .m .p) (omega (arith, S .pre .0 .prime .large)) _ _ (S .pre .2 .canonical))
 
 pub subtract-spec : {M : Type 1} → statement M
-subtract-spec = tie.close (tie.spec sub-add-multiple add-multiple-requires returns)
+subtract-spec = tie.close (tie.spec (λ c. search needs) (λ c κs. search needs) returns)

@@ -4,11 +4,8 @@ use Rattle.polynomial.proofs.Made.{represents-zero}
 use Rattle.polynomial.proofs.value.Polynomial.zero.Statement.{statement}
 use Rattle.polynomial.proofs.value.Polynomial.zero.Tie as tie
 
-zeros-requires : tie.Need-zeros-requires
-zeros-requires c κs = search needs
-
 returns : tie.Need-returns
 returns c = λ p. represents-zero p (c .zeros .result) (c .zeros .ensures .0) (c .zeros .ensures .1)
 
 pub zero-spec : {M : Type 1} → statement M
-zero-spec = tie.close (tie.spec zeros-requires returns)
+zero-spec = tie.close (tie.spec (λ c κs. search needs) returns)

@@ -4,15 +4,9 @@ use Rattle.modular.specs.Modulo.{modulo}
 use Rattle.residue.proofs.modulus.Modulus.add.Statement.{statement}
 use Rattle.residue.proofs.modulus.Modulus.add.Tie as tie
 
-add-wrap : tie.Need-add-wrap
-add-wrap c = search needs
-
-wrap-requires : tie.Need-wrap-requires
-wrap-requires c κs = search needs
-
 returns : tie.Need-returns
 unfolding modulo
 returns c = c .wrap .ensures
 
 pub add-spec : {M : Type 1} → statement M
-add-spec = tie.close (tie.spec add-wrap wrap-requires returns)
+add-spec = tie.close (tie.spec (λ c. search needs) (λ c κs. search needs) returns)

@@ -6,9 +6,6 @@ use Rattle.residue.proofs.Remainder.{product-short}
 use Rattle.residue.proofs.modulus.Modulus.barrett_step.Statement.{statement}
 use Rattle.residue.proofs.modulus.Modulus.barrett_step.Tie as tie
 
-cast-quotient : tie.Need-cast-quotient
-cast-quotient c = search needs
-
 shr-quotient : tie.Need-shr-quotient
 shr-quotient c = omega (arith, shift-short _ (c .before .pre .0))
 
@@ -25,4 +22,4 @@ returns : tie.Need-returns
 returns c = let s = c .before .before .before in barrett-step _ (s .pre .0) (s .args .x) (s .pre .1)
 
 pub barrett-step-spec : {M : Type 1} → statement M
-barrett-step-spec = tie.close (tie.spec cast-quotient shr-quotient mul-quotient mul-result sub-result returns)
+barrett-step-spec = tie.close (tie.spec (λ c. search needs) shr-quotient mul-quotient mul-result sub-result returns)

@@ -15,9 +15,6 @@ abbrev μ-loop : tie.MeasureT-loop
 loop-holds : tie.Need-loop-holds Inv-loop μ-loop
 loop-holds c = descent-start _ _ (c .pre .0 .prime .large) (c .pre .2)
 
-div-mul : tie.Need-div-mul Inv-loop μ-loop
-div-mul c = omega arith
-
 sub-mul : tie.Need-sub-mul Inv-loop μ-loop
 sub-mul c = div-le-self _ _
 
@@ -25,9 +22,6 @@ mul-requires : tie.Need-mul-requires Inv-loop μ-loop
 mul-requires c κs =
     let i = c .before .loop .inv in
     (c .before .before .pre .0, i .factor-below, cofactor-below _ _ (omega arith) (omega arith))
-
-rem-rest : tie.Need-rem-rest Inv-loop μ-loop
-rem-rest c = omega arith
 
 loop-less : tie.Need-loop-less Inv-loop μ-loop
 loop-less c = mod-lt _ (omega arith)
@@ -49,10 +43,10 @@ inverse-spec =
     Inv-loop
     μ-loop
     loop-holds
-    div-mul
+    (λ c. omega arith)
     sub-mul
     mul-requires
-    rem-rest
+    (λ c. omega arith)
     loop-less
     loop-again
     returns)

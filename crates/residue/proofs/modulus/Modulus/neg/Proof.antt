@@ -7,9 +7,6 @@ use Rattle.modular.specs.Modulo.{modulo}
 use Rattle.residue.proofs.modulus.Modulus.neg.Statement.{statement}
 use Rattle.residue.proofs.modulus.Modulus.neg.Tie as tie
 
-sub-result : tie.Need-sub-result
-sub-result c = search needs
-
 returns : tie.Need-returns
 unfolding modulo
 returns c = rw (c .if1 .taken, sub-zero, mod-self)
@@ -19,4 +16,4 @@ unfolding modulo
 returns-2 c = sym (mod-eq-of-lt (omega arith))
 
 pub neg-spec : {M : Type 1} → statement M
-neg-spec = tie.close (tie.spec sub-result returns returns-2)
+neg-spec = tie.close (tie.spec (λ c. search needs) returns returns-2)

@@ -16,28 +16,16 @@ abbrev μ-loop : tie.MeasureT-loop
 loop-holds : tie.Need-loop-holds Inv-loop μ-loop
 loop-holds c = (refl, c .pre .0 .large)
 
-mul-loop : tie.Need-mul-loop Inv-loop μ-loop
-mul-loop c = omega arith
-
 add-shift : tie.Need-add-shift Inv-loop μ-loop
 add-shift c =
     let l = c .before in
     omega (arith, shift-limit (l .loop .shift) (l .before .args .p) (omega arith) (omega arith))
-
-mul-scale : tie.Need-mul-scale Inv-loop μ-loop
-mul-scale c = omega arith
 
 loop-less : tie.Need-loop-less Inv-loop μ-loop
 loop-less c = omega (arith, pow-pos (c .before .loop .shift))
 
 loop-again : tie.Need-loop-again Inv-loop μ-loop
 loop-again c = (omega (arith, pow-add 2 (c .before .loop .shift) 1), omega arith)
-
-mul-t6 : tie.Need-mul-t6 Inv-loop μ-loop
-mul-t6 c = omega arith
-
-div-t7 : tie.Need-div-t7 Inv-loop μ-loop
-div-t7 c = omega arith
 
 returns : tie.Need-returns Inv-loop μ-loop
 returns c =
@@ -59,11 +47,11 @@ new-spec =
     Inv-loop
     μ-loop
     loop-holds
-    mul-loop
+    (λ c. omega arith)
     add-shift
-    mul-scale
+    (λ c. omega arith)
     loop-less
     loop-again
-    mul-t6
-    div-t7
+    (λ c. omega arith)
+    (λ c. omega arith)
     returns)

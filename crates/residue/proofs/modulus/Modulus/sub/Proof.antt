@@ -6,18 +6,9 @@ use Rattle.modular.specs.Modulo.{modulo}
 use Rattle.residue.proofs.modulus.Modulus.sub.Statement.{statement}
 use Rattle.residue.proofs.modulus.Modulus.sub.Tie as tie
 
-sub-wrap : tie.Need-sub-wrap
-sub-wrap c = search needs
-
-add-wrap : tie.Need-add-wrap
-add-wrap c = search needs
-
-wrap-requires : tie.Need-wrap-requires
-wrap-requires c κs = search needs
-
 returns : tie.Need-returns
 unfolding modulo
 returns c = c .wrap .ensures ∙ sym (add-mod-mod _ _ _)
 
 pub sub-spec : {M : Type 1} → statement M
-sub-spec = tie.close (tie.spec sub-wrap add-wrap wrap-requires returns)
+sub-spec = tie.close (tie.spec (λ c. search needs) (λ c. search needs) (λ c κs. search needs) returns)

@@ -6,12 +6,6 @@ use Rattle.residue.proofs.Wrap.{wrapped}
 use Rattle.residue.proofs.modulus.Modulus.wrap.Statement.{statement}
 use Rattle.residue.proofs.modulus.Modulus.wrap.Tie as tie
 
-sub-result : tie.Need-sub-result
-sub-result c = search needs
-
-add-result : tie.Need-add-result
-add-result c = search needs
-
 mul-result : tie.Need-mul-result
 mul-result c = record { fits = product-short _ _ }
 
@@ -22,4 +16,4 @@ returns : tie.Need-returns
 returns c = let s = c .before in wrapped (s .args .self .p) (s .args .x) (omega arith) (s .pre .1) .1
 
 pub wrap-spec : {M : Type 1} → statement M
-wrap-spec = tie.close (tie.spec sub-result add-result mul-result sub-result-2 returns)
+wrap-spec = tie.close (tie.spec (λ c. search needs) (λ c. search needs) mul-result sub-result-2 returns)

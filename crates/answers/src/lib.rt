@@ -1,0 +1,13 @@
+// What calls answer, in the numbers and places of document 01's table, and operations on small numbers that all layers share.
+pub mod answer;
+pub mod number;
+pub mod packed;
+pub mod shape;
+
+pub use answer::Counted;
+pub use answer::Refusal;
+pub use answer::Verdict;
+pub use shape::CertificateRead;
+pub use shape::Form;
+pub use shape::Shape;
+pub use shape::SystemRead;

@@ -1,0 +1,56 @@
+-- The values in areas: what stands in the slots is what was loaded.
+use mathlib.Core.Path.{_≡_, refl, sym, ap, ap₂, _∙_}
+use mathlib.Core.List.{List, [], _∷_, _++_}
+use Prim.Native.Nat.{ℕ, zero, suc, _+_, _*_, _≤_, _<_}
+use native.Mathlib.Omega.{arith}
+use lib.ListN.{length, getD, length-append, List·getD-append}
+use lib.Seq.{getD-append-add}
+use Rattle.words.specs.System.{System, systemEntries}
+use Rattle.loader.specs.Slot.{slot, Stands}
+use Rattle.check_conditions.specs.Widths.{systemWidth, certificateWidth}
+use Rattle.check_conditions.specs.Areas.{listed, systemIn, vectorIn}
+use Rattle.check_conditions.specs.declared.layout.Layout.{Layout}
+
+-- a list is its entries
+pub listed-is : {A : Type 0} (n : ℕ) (f : ℕ → A) (l : List A) (d : A) → length l ≡ n → ((k : ℕ) → k < n → f k ≡ getD l k d)
+    → listed n f ≡ l
+unfolding listed
+listed-is zero f [] d e h = refl
+listed-is zero f (a ∷ l) d e h = absurd (omega arith)
+listed-is (suc n) f [] d e h = absurd (omega arith)
+listed-is (suc n) f (a ∷ l) d e h =
+    ap₂ _∷_ (h 0 (omega arith)) (listed-is n (λ i. f (suc i)) l d (omega arith) (λ k lt. h (suc k) (omega arith)))
+
+-- some polynomials in a row among all that were loaded
+pub vector-is : (area : List ℕ) (all fs : List (List ℕ)) (count start : ℕ) → Stands certificateWidth area all → length fs ≡ count
+    → start + count ≤ length all
+    → ((k : ℕ) → k < count → getD all (start + k) [] ≡ getD fs k []) → vectorIn count start area ≡ fs
+unfolding vectorIn
+vector-is area all fs count start stands long inside same =
+    listed-is count (λ k. slot certificateWidth area (start + k)) fs [] long
+    (λ k lt. stands .slots (start + k) (omega arith) ∙ same k lt)
+
+module _ (l : Layout) (area : List ℕ) (s : System) (stands : Stands systemWidth area (systemEntries s)) where
+  matrix-is : length (s .matrix) ≡ l .rows * l .columns → listed (l .rows * l .columns) (slot systemWidth area) ≡ s .matrix
+  matrix-is e =
+      listed-is (l .rows * l .columns) (slot systemWidth area) (s .matrix) [] e (λ k lt.
+      stands .slots k (omega (arith, length-append (s .matrix) (s .right)))
+      ∙ List·getD-append (s .matrix) (s .right) [] k (omega arith))
+
+  side-is : length (s .matrix) ≡ l .rows * l .columns → length (s .right) ≡ l .rows
+      → listed (l .rows) (λ i. slot systemWidth area (l .rows * l .columns + i)) ≡ s .right
+  side-is e f =
+      listed-is (l .rows) (λ i. slot systemWidth area (l .rows * l .columns + i)) (s .right) [] f (λ k lt.
+      stands .slots (l .rows * l .columns + k) (omega (arith, length-append (s .matrix) (s .right)))
+      ∙ ap (λ (n : ℕ). getD (s .matrix ++ s .right) (n + k) []) (sym e)
+      ∙ getD-append-add (s .matrix) (s .right) k [])
+
+  pub system-is : l .modulus .p ≡ s .modulus → l .rows ≡ s .rows → l .columns ≡ s .columns
+      → length (s .matrix) ≡ s .rows * s .columns
+      → length (s .right) ≡ s .rows → systemIn l area ≡ s
+  unfolding systemIn
+  system-is ep en em eA eb =
+      let places : length (s .matrix) ≡ l .rows * l .columns = eA ∙ ap₂ _*_ (sym en) (sym em) in
+      let eA′ = matrix-is places in
+      let eb′ = side-is places (eb ∙ sym en) in
+      rw (eA′, eb′, ep, en, em)

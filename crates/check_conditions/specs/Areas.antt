@@ -1,0 +1,62 @@
+-- The areas that the check works on: the polynomials of a system and of a certificate that were read, a slot for each, and the
+-- values that they stand for. The limits are the office's: 8 rows and columns, 16 and 121 coefficients.
+use mathlib.Core.List.{List, [], _∷_}
+use Prim.Native.Nat.{ℕ, zero, suc, _+_, _*_, _≤_, _<_}
+use Rattle.residue.specs.Modulus.{ValidModulus}
+use Rattle.words.specs.System.{System}
+use Rattle.loader.specs.Slot.{slot, Filled}
+use Rattle.check_conditions.specs.Widths.{systemWidth, certificateWidth}
+use Rattle.check_conditions.specs.declared.layout.Layout.{Layout}
+
+-- ---- values
+
+-- f 0, f 1 .. f (n - 1)
+unfoldable pub listed : {A : Type 0} → ℕ → (ℕ → A) → List A
+listed zero f = []
+listed (suc n) f = f 0 ∷ listed n (λ i. f (suc i))
+
+-- A row by row, then b
+unfoldable pub systemIn : Layout → List ℕ → System
+unfolding listed slot
+systemIn l area = record {
+  modulus = l .modulus .p;
+  rows = l .rows;
+  columns = l .columns;
+  matrix = listed (l .rows * l .columns) (slot systemWidth area);
+  right = listed (l .rows) (λ i. slot systemWidth area (l .rows * l .columns + i));
+}
+
+-- so many polynomials of a certificate, from one on
+unfoldable pub vectorIn : ℕ → ℕ → List ℕ → List (List ℕ)
+unfolding listed slot
+vectorIn count start area = listed count (λ k. slot certificateWidth area (start + k))
+
+-- d, N, w, Z
+abbrev pub denominatorIn : List ℕ → List ℕ
+denominatorIn area = slot certificateWidth area 0
+
+abbrev pub numeratorsIn : Layout → List ℕ → List (List ℕ)
+numeratorsIn l area = vectorIn (l .columns) 1 area
+
+abbrev pub certifyingDenominatorIn : Layout → List ℕ → List ℕ
+certifyingDenominatorIn l area = slot certificateWidth area (l .columns + 1)
+
+abbrev pub certifyingNumeratorsIn : Layout → List ℕ → List (List ℕ)
+certifyingNumeratorsIn l area = vectorIn (l .rows) (l .columns + 2) area
+
+-- ---- what makes them sound
+
+pub record ValidLayout (l : Layout) : Type 0 where
+  pub modulus : ValidModulus (l .modulus)
+  pub rows : l .rows ≤ 8
+  pub columns : l .columns ≤ 8
+
+-- so many polynomials stand in the certificate's area
+pub record CertificateLoaded (l : Layout) (count : ℕ) (C : List ℕ) : Type 0 where
+  pub layout : ValidLayout l
+  pub filled : (k : ℕ) → k < count → Filled (l .modulus .p) certificateWidth C k
+
+-- and all of A and b in the system's
+pub record Loaded (l : Layout) (count : ℕ) (S C : List ℕ) : Type 0 where
+  pub certificate : CertificateLoaded l count C
+  pub system : (k : ℕ) → k < l .rows * l .columns + l .rows → Filled (l .modulus .p) systemWidth S k

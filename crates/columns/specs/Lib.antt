@@ -1,4 +1,0 @@
-pub mod HasWords
-pub mod Column
-pub mod Matrix
-pub mod Laying

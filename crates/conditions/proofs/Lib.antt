@@ -1,6 +1,0 @@
-pub mod Refusals
-pub mod FirstPlace
-pub mod Tests
-pub mod Monic
-pub mod Values
-pub mod Order

@@ -1,9 +1,0 @@
-pub mod Lanes
-pub mod Negating
-pub mod Combinations
-pub mod Terms
-pub mod Kernels
-pub mod Columns
-pub mod Coordinates
-pub mod Combining
-pub mod Turning

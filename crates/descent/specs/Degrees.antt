@@ -1,8 +1,0 @@
--- How many coefficients the quotients have: none has one from degree k on.
-use Prim.Native.Nat.{ℕ, _*_, _≤_}
-use mathlib.Core.List.{List}
-use Rattle.lattice.specs.Memory.{ZeroFrom}
-
-pub record FewDegrees (p : ℕ) (quotients : List ℕ) (k : ℕ) : Type 0 where
-  pub most : k ≤ 136
-  pub behind : ZeroFrom p quotients 0 1088 (8 * k)

@@ -1,4 +1,0 @@
-pub mod Overwriting
-pub mod Values
-pub mod ValuesLaws
-pub mod Framing

@@ -1,3 +1,0 @@
-pub mod Held
-pub mod Read
-pub mod Product

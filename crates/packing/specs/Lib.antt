@@ -1,4 +1,0 @@
-pub mod Packed
-pub mod PackedLaws
-pub mod Numbers
-pub mod TakenLaws

@@ -1,0 +1,2 @@
+-- interface: what is due behind a head
+pub mod Due

@@ -1,0 +1,115 @@
+-- The reports of document 01's systems to try: in one table each system's report, which is the only one.
+use Prim.Native.Nat.{ℕ}
+use Prim.Native.String.{String}
+use mathlib.Core.Path.{_≡_, refl, sym, ap, subst}
+use mathlib.Core.List.{List, [], _∷_, map}
+use lib.ListN.{replicate, take}
+use Rattle.words.specs.Limits.{office}
+use Rattle.words.specs.LimitsLaws.{office-fits}
+use Rattle.words.specs.Outcome.{Outcome}
+use Rattle.words.specs.Outcome.Outcome.{accepted}
+use Rattle.words.specs.System.{systemWords}
+use Rattle.words.specs.Certificate.{certificateWords}
+use Rattle.words.specs.SystemLaws.{system-written-of-read}
+use Rattle.words.specs.Bytes.{bytesOf, readSystemFile}
+use Rattle.words.specs.BytesLaws.{file-read-of-written}
+use Rattle.truth.specs.Verdict.{verdict}
+use Rattle.truth.specs.Cases.{Case, Told, cases, told, wanted, row-true}
+use Rattle.solve_meaning.specs.Answers.{answerOf, true-answers}
+use Rattle.report_text.specs.Ascii.{ascii}
+use Rattle.report_text.specs.Decimal.{decimal}
+use Rattle.report_text.specs.Text.{denominatorLine, feedbackLine, reportText}
+use Rattle.report.specs.Reporting.{Reports, ReportOf}
+use Rattle.report.specs.ReportingLaws.{report-unique}
+
+-- that text and no other
+pub record Reported (file text : List ℕ) : Type 0 where
+  pub report : ReportOf office file text
+  pub only : (t : List ℕ) → ReportOf office file t → t ≡ text
+
+reported : {file text : List ℕ} → ReportOf office file text → Reported file text
+reported {file} {text} h = record { report = h; only = λ t k. report-unique office office-fits file t text k h }
+
+-- ---- systems
+
+pub record Example : Type 0 where
+  pub case : Case
+  pub text : String
+
+abbrev pub withTexts : List Case → List String → List Example
+withTexts [] texts = []
+withTexts (c ∷ cs) [] = []
+withTexts (c ∷ cs) (t ∷ ts) = record { case = c; text = t } ∷ withTexts cs ts
+
+-- cases 1 to 8; 9 and 10 have case 1's system
+abbrev pub examples : List Example
+examples = withTexts (take 8 cases)
+    ("answer solution\ndenominator 0 1\nfeedback 1\n"
+    ∷ "answer solution\ndenominator 1\nfeedback 0\n"
+    ∷ "answer none\n"
+    ∷ "answer solution\ndenominator 1\nfeedback 0\n"
+    ∷ "answer none\n"
+    ∷ "answer solution\ndenominator 1\nfeedback 0\n"
+    ∷ "answer solution\ndenominator 0 1\nfeedback 1\n"
+    ∷ "answer solution\ndenominator 0 0 1\nfeedback 2\n"
+    ∷ [])
+
+-- the one proposition over all rows
+abbrev pub AllReported : List Example → Type 0
+AllReported [] = Unit {0}
+AllReported (e ∷ es) = Reported (bytesOf (systemWords (e .case .system))) (ascii (e .text)) × AllReported es
+
+-- what is computed of a row
+record Shown : Type 0 where
+  told : Told
+  verdict : Outcome (Unit {0})
+  text : List ℕ
+
+abbrev shown : Example → Shown
+shown e = record {
+  told = told (e .case);
+  verdict = e .case .expected;
+  text = reportText (accepted (answerOf (e .case .certificate)));
+}
+
+abbrev due : Example → Shown
+due e = record { told = wanted (e .case); verdict = accepted tt; text = ascii (e .text) }
+
+-- a certificate that the check accepts gives the answer, and so the report
+row-reported : (e : Example) → shown e ≡ due e → Reported (bytesOf (systemWords (e .case .system))) (ascii (e .text))
+unfolding Reports
+row-reported e r =
+    let s = e .case .system in
+    let c = e .case .certificate in
+    let row = ap (λ x. x .told) r in
+    let within = system-written-of-read office office-fits (systemWords s) s (ap (λ t. t .system) row) .1 in
+    reported (subst (λ o. Reports o (ascii (e .text))) (sym (file-read-of-written office office-fits s within)) (
+      answerOf c,
+      true-answers s c (row-true (e .case) row (ap (λ x. x .verdict) r)),
+      sym (ap (λ x. x .text) r),
+    ))
+
+rows-reported : (es : List Example) → map shown es ≡ map due es → AllReported es
+rows-reported [] h = tt
+rows-reported (e ∷ es) h = (row-reported e cc, rows-reported es cc)
+
+pub examples-reported : AllReported examples
+unfolding cases verdict systemWords certificateWords answerOf reportText denominatorLine feedbackLine decimal
+examples-reported = rows-reported examples refl
+
+-- "Fed case 1 it prints, whole"
+pub case-1-reported : Reported
+    (0x02 ∷ 0x00 ∷ 0x11 ∷ 0x10
+    ∷ 0x02 ∷ 0x00 ∷ 0x00 ∷ 0x20 ∷ 0x00 ∷ 0x00 ∷ 0x00 ∷ 0x30 ∷ 0x01 ∷ 0x00 ∷ 0x00 ∷ 0x30
+    ∷ 0x01 ∷ 0x00 ∷ 0x00 ∷ 0x20 ∷ 0x01 ∷ 0x00 ∷ 0x00 ∷ 0x30
+    ∷ 0x07 ∷ 0x00 ∷ 0x00 ∷ 0x40 ∷ [])
+    (ascii "answer solution\ndenominator 0 1\nfeedback 1\n")
+unfolding cases systemWords bytesOf
+case-1-reported = examples-reported .0
+
+-- ---- a refusal
+
+-- 10: "five bytes"
+pub five-bytes-reported : Reported (replicate 5 0) (ascii "refused 10 at 0\n")
+unfolding Reports readSystemFile reportText decimal
+five-bytes-reported = reported refl

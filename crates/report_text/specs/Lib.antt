@@ -1,0 +1,10 @@
+-- interface, what contracts, other crates and PROVED.md cite: Ascii, Decimal, DecimalLaws, Text, Longest, Examples, Written
+-- inside: WrittenLaws
+pub mod Ascii
+pub mod Decimal
+pub mod DecimalLaws
+pub mod Text
+pub mod Longest
+pub mod Examples
+pub mod Written
+pub mod WrittenLaws

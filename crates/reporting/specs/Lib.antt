@@ -1,4 +1,0 @@
-pub mod Reporting
-pub mod ReportingLaws
-pub mod RefusalReported
-pub mod Cases

@@ -1,3 +1,0 @@
-pub mod Or
-pub mod Sum
-pub mod Stored

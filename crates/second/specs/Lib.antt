@@ -1,9 +1,0 @@
-pub mod RightInserted
-pub mod SecondReady
-pub mod SecondDual
-pub mod Solved
-pub mod Denominator
-pub mod Scaled
-pub mod DividedSecond
-pub mod QuotientRows
-pub mod SecondEnds

@@ -1,0 +1,12 @@
+pub mod Products
+pub mod Lanes
+pub mod Negating
+pub mod Combinations
+pub mod Terms
+pub mod Kernels
+pub mod Columns
+pub mod Coordinates
+pub mod Combining
+pub mod Turning
+pub mod Multiples
+pub mod Lowerings

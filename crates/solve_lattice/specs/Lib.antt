@@ -1,0 +1,30 @@
+-- interface, what contracts, other crates and PROVED.md cite: Room, Word, Memory, Holding, Range, LaneStored, Sums, Found,
+--   Reading, Step, Monomial, Quotients, Coefficients, Moves, Lanes, Insertion, Stage, Input, Output
+-- inside: Noted, Leading
+-- what stands in memory
+pub mod Room
+pub mod Word
+pub mod Memory
+pub mod Noted
+pub mod Holding
+-- laws: ranges of words, and what is read off memory
+pub mod Range
+pub mod LaneStored
+pub mod Sums
+pub mod Found
+pub mod Reading
+-- a step
+pub mod Step
+-- divide
+pub mod Monomial
+pub mod Quotients
+pub mod Coefficients
+-- insert
+pub mod Moves
+pub mod Leading
+pub mod Lanes
+pub mod Insertion
+-- How the solver's input and output lie in memory.
+pub mod Stage
+pub mod Input
+pub mod Output

@@ -1,0 +1,43 @@
+-- Sizes of the areas that the solver works on, as in src/room.rt.
+use Prim.Native.Nat.{ℕ}
+
+-- rows of a block
+abbrev pub lanes : ℕ
+lanes = 8
+
+-- words of a block, of the tail of a hand, and of a slot
+abbrev pub blockWords : ℕ
+blockWords = 128
+
+abbrev pub tailWords : ℕ
+tailWords = 256
+
+abbrev pub slotWords : ℕ
+slotWords = 256
+
+-- in a level: where the sizes of the blocks begin, those of the tails, and the inverses of the last words
+abbrev pub sizesFrom : ℕ
+sizesFrom = 2048
+
+abbrev pub tailSizesFrom : ℕ
+tailSizesFrom = 2056
+
+abbrev pub inversesFrom : ℕ
+inversesFrom = 2064
+
+abbrev pub levelWords : ℕ
+levelWords = 2072
+
+-- words of a long block, of the input, and of the output
+abbrev pub productWords : ℕ
+productWords = 1088
+
+abbrev pub inputWords : ℕ
+inputWords = 1152
+
+abbrev pub outputWords : ℕ
+outputWords = 2304
+
+-- words of 8 polynomials
+abbrev pub rowsWords : ℕ
+rowsWords = 1024

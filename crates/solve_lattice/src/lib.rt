@@ -1,0 +1,30 @@
+// The two loops of the solver on memory: a vector is inserted into the slots of a level, and a vector is divided by them.
+pub mod division;
+pub mod hand;
+pub mod insertion;
+pub mod moves;
+pub mod room;
+pub mod stage;
+pub mod step;
+
+pub use division::divide;
+pub use hand::Hand;
+pub use insertion::insert;
+pub use room::BLOCK;
+pub use room::Block;
+pub use room::INPUT;
+pub use room::INVERSES;
+pub use room::Input;
+pub use room::LANES;
+pub use room::LEVEL;
+pub use room::Level;
+pub use room::OUTPUT;
+pub use room::Output;
+pub use room::PRODUCT;
+pub use room::Product;
+pub use room::SIZES;
+pub use room::SLOT;
+pub use room::TAIL;
+pub use room::TAIL_SIZES;
+pub use room::Tail;
+pub use stage::Stage;

@@ -1,0 +1,118 @@
+-- What is loaded from the words of a system and laid out is the system, as the solver takes it.
+use Prim.Native.Nat.{ℕ, _+_, _-_, _*_, _/_, _%_, _<_, _≤_}
+use mathlib.Core.Path.{_≡_, sym, _∙_, ap, ap₂, subst, subst₂}
+use mathlib.Core.Logic.{inl, inr}
+use mathlib.Core.List.{List, []}
+use native.Mathlib.Nat.{mul-le-mul}
+use native.Mathlib.Omega.{arith}
+use native.Mathlib.Decide.{ℕ-discrete, decLt}
+use lib.ListN.{length, getD, length-append, List·getD-append}
+use lib.Seq.{getD-append-add}
+use Rattle.words.specs.Limits.{office}
+use Rattle.words.specs.LimitsLaws.{office-fits}
+use Rattle.words.specs.System.{System, entry, rightSide, systemEntries}
+use Rattle.words.specs.SystemLaws.{entry-within, rightSide-within}
+use Rattle.vector.specs.Bound.{AtMost}
+use Rattle.loader.specs.Slot.{Holds, Stands}
+use Rattle.loader.specs.SlotLaws.{slot-before, canonical-word}
+use Rattle.loader.specs.HoldLaws.{system-holds, system-count}
+use Rattle.solve_meaning.specs.Laid.{Laid}
+use Rattle.solve_lattice.specs.Room.{inputWords, blockWords}
+use Rattle.solve_layout.specs.HasWords.{HasWords}
+use Rattle.solve_layout.specs.Column.{FitsSlot, place}
+use Rattle.solve_layout.specs.Matrix.{LaidOut, matrix-slot}
+
+module _ {s : System} {ws : List ℕ} {rows columns : ℕ} (H : HasWords s ws rows columns) where
+  pub few-rows : rows ≤ 8
+  few-rows = subst (λ n. n ≤ 8) (H .same-rows) (H .within .shape .rows .1)
+
+  pub few-columns : columns ≤ 8
+  few-columns = subst (λ n. n ≤ 8) (H .same-columns) (H .within .shape .columns .1)
+
+  -- there are at most 72 polynomials
+  pub few-entries : rows * columns ≤ 64
+  few-entries = mul-le-mul few-rows few-columns
+
+  pub words-hold : Holds 17 ws (systemEntries s)
+  words-hold = system-holds office office-fits ws s (H .words) (H .within)
+
+  pub words-count : length (systemEntries s) ≡ rows * columns + rows
+  words-count =
+      system-count office office-fits ws s (H .words) (H .within)
+      ∙ ap₂ (λ n m. n * m + n) (H .same-rows) (H .same-columns)
+
+  module _ (area : List ℕ) (room : length area ≡ 1224) (stands : Stands 17 area (systemEntries s)) where
+    pub loaded-fits : (k : ℕ) → k < rows * columns + rows → FitsSlot area k
+    loaded-fits k lt = record {
+      room = omega (arith, slot-before 17 lt, few-entries, few-rows);
+      size = omega (arith, stands .sizes k (omega (arith, words-count)), words-hold .sizes k);
+    }
+
+    module _ (input input′ : List ℕ) (length-is : length input ≡ inputWords) (clear : AtMost 0 input)
+        (out : LaidOut area rows columns input input′) where
+      laid-out : LaidOut area (s .rows) (s .columns) input input′
+      laid-out = subst₂ (λ n m. LaidOut area n m input input′) (sym (H .same-rows)) (sym (H .same-columns)) out
+
+      count : length (s .matrix) ≡ s .rows * s .columns
+      count = H .within .matrix .count
+
+      matrix-is : (i j e : ℕ) → i < s .rows → j < s .columns → e < 16 → getD input′ (place j i e) 0 ≡ getD (entry s i j) e 0
+      matrix-is i j e row column small =
+          let k : j + s .columns * i ≡ i * s .columns + j = omega arith in
+          let inside : j + s .columns * i < length (s .matrix) =
+          omega (arith, count, matrix-slot (s .rows) (s .columns) i j row column) in
+          laid-out .matrix i j e row column small
+          ∙ ap (λ f. getD f e 0)
+          (stands .slots (j + s .columns * i) (omega (arith, length-append (s .matrix) (s .right)))
+          ∙ List·getD-append (s .matrix) (s .right) [] (j + s .columns * i) inside
+          ∙ ap (λ n. getD (s .matrix) n []) k)
+
+      right-is : (i e : ℕ) → i < s .rows → e < 16 → getD input′ (place (s .columns) i e) 0 ≡ getD (rightSide s i) e 0
+      right-is i e row small =
+          let k : s .rows * s .columns + 1 * i ≡ length (s .matrix) + i = omega (arith, count) in
+          let inside : s .rows * s .columns + 1 * i < length (systemEntries s) =
+          omega (arith, count, length-append (s .matrix) (s .right), H .within .right .count) in
+          laid-out .right i e row small
+          ∙ ap (λ f. getD f e 0)
+          (stands .slots (s .rows * s .columns + 1 * i) inside
+          ∙ ap (λ n. getD (systemEntries s) n []) k
+          ∙ getD-append-add (s .matrix) (s .right) i [])
+
+      other-is : (j i e : ℕ) → getD input′ (place j i e) 0 ≡ getD input (place j i e) 0 → getD input′ (place j i e) 0 ≡ 0
+      other-is j i e same = omega (arith, clear (place j i e))
+
+      positive : 0 < s .modulus
+      positive = omega (arith, H .within .shape .prime .large)
+
+      below-at : (j i e : ℕ) → i < 8 → e < 16 → Dec (i < s .rows) → Dec (j < s .columns) → Dec (j ≡ s .columns)
+          → getD input′ (place j i e) 0 < s .modulus
+      below-at j i e row small (yes r) (yes c) d = subst (λ w. w < s .modulus) (sym (matrix-is i j e r c small))
+          (canonical-word (s .modulus) positive (entry s i j) (entry-within office s (H .within) i j .canonical) e)
+      below-at j i e row small (yes r) (no c) (yes d) = subst (λ w. w < s .modulus)
+          (sym (ap (λ k. getD input′ (place k i e) 0) d ∙ right-is i e r small))
+          (canonical-word (s .modulus) positive (rightSide s i) (rightSide-within office s (H .within) i .canonical) e)
+      below-at j i e row small (yes r) (no c) (no d) = subst (λ w. w < s .modulus)
+          (sym (other-is j i e (laid-out .others j i e row small (inl (omega arith))))) positive
+      below-at j i e row small (no r) c d = subst (λ w. w < s .modulus)
+          (sym (other-is j i e (laid-out .others j i e row small (inr (omega arith))))) positive
+
+      -- every place is one of some column, row and degree
+      below : (x : ℕ) → getD input′ x 0 < s .modulus
+      below x =
+          let j : ℕ = x / blockWords in
+          let i : ℕ = 7 - x % 8 in
+          let e : ℕ = x % blockWords / 8 in
+          let is : place (x / blockWords) (7 - x % 8) (x % blockWords / 8) ≡ x = omega arith in
+          subst (λ y. getD input′ y 0 < s .modulus) is
+          (below-at j i e (omega arith) (omega arith) (decLt i (s .rows)) (decLt j (s .columns)) (ℕ-discrete j (s .columns)))
+
+      pub system-laid : Laid s input′
+      system-laid = record {
+        area = record {
+          room = laid-out .same-length ∙ length-is;
+          below = below;
+          beside = λ i j e ge row column small. other-is j i e (laid-out .others j i e row small (inr ge));
+        };
+        matrix = matrix-is;
+        right = right-is;
+      }

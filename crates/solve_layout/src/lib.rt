@@ -1,0 +1,44 @@
+// A system laid out as the solver takes it: the polynomials of its words, column by column, each in its lane.
+pub mod column;
+pub mod lane;
+
+use column::WIDTH;
+use column::store_column;
+use loader::load;
+use solve_lattice::Input;
+ghost use mathlib.Core.Path.{_≡_};
+ghost use Prim.Native.Nat.{ℕ, _+_, _*_, _<_, _≤_};
+ghost use lib.ListN.{length};
+ghost use Rattle.words.specs.System.{System};
+ghost use Rattle.vector.specs.Bound.{AtMost};
+ghost use Rattle.solve_lattice.specs.Room.{lanes, inputWords};
+ghost use Rattle.solve_meaning.specs.Laid.{Laid};
+ghost use Rattle.solve_layout.specs.Column.{FitsSlot};
+ghost use Rattle.solve_layout.specs.Matrix.{LaidOut};
+ghost use Rattle.solve_layout.specs.HasWords.{HasWords};
+
+// Lays out the polynomials of an area as `load` leaves it, A row by row, then b: column j in its block of the input, b behind the
+// last column.
+fn lay_area(input: &mut Input, area: &[u64], rows: usize, columns: usize)
+    requires { ⌜ (rows ≤ lanes) × (columns ≤ lanes) × (length (now input) ≡ inputWords) ⌝ }
+    requires slots { ⌜ ((k : ℕ) → k < rows * columns + rows → FitsSlot (now area) k) ⌝ }
+    ensures { λ _. ⌜ LaidOut (now (area .entry)) rows columns (now (input .entry)) (now (input .exit)) ⌝ }
+{
+    let mut j = 0;
+    while j < columns {
+        store_column(input, j, area, j, columns, rows);
+        j += 1;
+    }
+    store_column(input, columns, area, rows * columns, 1, rows);
+}
+
+// Lays out the system of these words, which were read and accepted, in an input that is all 0.
+pub fn lay_system(input: &mut Input, words: &[u32], rows: usize, columns: usize)
+    requires { ⌜ ((s : System) × HasWords s (now words) rows columns) ⌝ }
+    requires area { ⌜ (length (now input) ≡ inputWords) × AtMost 0 (now input) ⌝ }
+    ensures { λ _. ⌜ ((s : System) → HasWords s (now (words .entry)) rows columns → Laid s (now (input .exit))) ⌝ }
+{
+    let mut area = [0u64; 72 * WIDTH];
+    load(&mut area, WIDTH, words, rows * columns + rows);
+    lay_area(input, &area, rows, columns);
+}

@@ -1,0 +1,74 @@
+-- The equations over the residues modulo p that a system's lists stand for: as `reduction` takes them, under any limits, and as the
+-- solver's contracts take them, under the office's.
+use Prim.Native.Nat.{ℕ, suc, _-_, _<_, _≤_}
+use mathlib.Core.Path.{_≡_, ap}
+use native.Mathlib.Omega.{arith}
+use lib.ListN.{length}
+use Rattle.algebra.specs.Polynomial.{Polynomial}
+use Rattle.algebra.specs.Size.{size, sized}
+use Rattle.modular.specs.Prime.{Prime}
+use Rattle.modular.specs.Residue.{residues}
+use Rattle.modular.specs.Values.{toResidues, toResidues-list}
+use Rattle.reduction.specs.System.{System as Equated}
+use Rattle.words.specs.Limits.{Limits, office}
+use Rattle.words.specs.System.{System, SystemWithin, entry, rightSide}
+use Rattle.words.specs.SystemLaws.{entry-within, rightSide-within}
+use Rattle.solve_lattice.specs.Input.{Equations}
+use Rattle.solve_meaning.specs.Lists.{listOf, list-length}
+
+-- "degree at most": one less than the greatest number of coefficients
+abbrev pub systemDegree : Limits → ℕ
+systemDegree limits = limits .systemCoefficients - 1
+
+module _ (limits : Limits) (s : System) (h : SystemWithin limits s) where
+  abbrev p : ℕ
+  p = s .modulus
+
+  abbrev prime : Prime (s .modulus)
+  prime = h .shape .prime
+
+  pub matrix : ℕ → ℕ → Polynomial (residues (s .modulus) (h .shape .prime))
+  matrix i j = toResidues p prime (entry s i j, entry-within limits s h i j .canonical)
+
+  pub right : ℕ → Polynomial (residues (s .modulus) (h .shape .prime))
+  right i = toResidues p prime (rightSide s i, rightSide-within limits s h i .canonical)
+
+  -- their lists are the system's
+  pub matrix-list : (i j : ℕ) → listOf (s .modulus) (h .shape .prime) (matrix i j) ≡ entry s i j
+  unfolding matrix
+  matrix-list i j = toResidues-list p prime (entry s i j, entry-within limits s h i j .canonical)
+
+  pub right-list : (i : ℕ) → listOf (s .modulus) (h .shape .prime) (right i) ≡ rightSide s i
+  unfolding right
+  right-list i = toResidues-list p prime (rightSide s i, rightSide-within limits s h i .canonical)
+
+  pub matrix-small : (i j : ℕ) → i < s .rows → j < s .columns
+      → size (residues (s .modulus) (h .shape .prime)) (matrix i j) ≤ suc (systemDegree limits)
+  matrix-small i j k l =
+      omega (arith, list-length p prime (matrix i j), ap length (matrix-list i j), entry-within limits s h i j .size)
+
+  pub right-small : (i : ℕ) → i < s .rows
+      → size (residues (s .modulus) (h .shape .prime)) (right i) ≤ suc (systemDegree limits)
+  right-small i k = omega (arith, list-length p prime (right i), ap length (right-list i), rightSide-within limits s h i .size)
+
+  -- as `reduction` takes them
+  abbrev pub equated : Equated (sized (residues (s .modulus) (h .shape .prime)))
+  equated = record {
+    rows = s .rows;
+    columns = s .columns;
+    degree = systemDegree limits;
+    matrix = matrix;
+    right = right;
+    matrix-small = matrix-small;
+    right-small = right-small;
+  }
+
+-- as the solver's contracts take them: there `equated` is `systemOf` by definition
+module _ (s : System) (h : SystemWithin office s) where
+  abbrev pub equations : Equations (s .modulus) (h .shape .prime) (s .rows) (s .columns)
+  equations = record {
+    matrix = matrix office s h;
+    right = right office s h;
+    matrix-small = matrix-small office s h;
+    right-small = right-small office s h;
+  }

@@ -1,0 +1,173 @@
+-- The words of the transposed level and of the right side as laid out, by slot, coordinate and degree.
+use Prim.Native.Nat.{ℕ, _+_, _-_, _*_, _/_, _%_, _<_, _≤_}
+use mathlib.Core.Path.{_≡_, sym, _∙_, ap, subst, subst₂}
+use mathlib.Core.List.{List}
+use native.Mathlib.Omega.{arith}
+use native.Mathlib.Decide.{decLt}
+use lib.ListN.{getD}
+use Rattle.reduction.specs.Flat.{flat}
+use Rattle.reduction.specs.Transpose.{back}
+use Rattle.solve_lattice.specs.Memory.{height, Level, slotSize}
+use Rattle.solve_lattice.specs.Room.{blockWords, slotWords, tailWords}
+use Rattle.solve_second.specs.Greatest.{greatest}
+use Rattle.solve_second.specs.Words.{reversed, lift, transposedSize, blockWord, tailWord}
+use Rattle.solve_second.specs.Words.{transposedWord, transposed-beyond, transposed-beside}
+use Rattle.solve_second.specs.Words.{transposed-tail, transposed-low, transposed-value}
+use Rattle.solve_second.specs.Laid.{SlotsLaid, Laid}
+use Rattle.solve_second.specs.Words.{rightWord, right-beside, right-empty, right-low, right-far, right-value}
+
+-- the weight of coordinate i, by the size of the slot that it comes from
+abbrev pub weight : (L : Level) (n i : ℕ) → ℕ
+weight L n i = greatest L n - height (slotSize L (back n i))
+
+module _ (L : Level) (n : ℕ) where
+  same : (i : ℕ) → reversed n i ≡ back n i
+  same i = omega arith
+
+  lift-weight : (i : ℕ) → lift L n i ≡ weight L n i
+  lift-weight i = ap (λ q. greatest L n - height (slotSize L q)) (same i)
+
+  -- slot k, coordinate i, degree e of the transposed slots
+  module _ {T : Level} (laid : SlotsLaid n L T) (k i e : ℕ) (slot : k < 8) (lane : i < 8) (degree : e < 16) where
+    abbrev x : ℕ
+    x = slotWords * k + flat 8 i e
+
+    at-slot : x / slotWords ≡ k
+    at-slot = omega arith
+
+    at-lane : 7 - x % 8 ≡ i
+    at-lane = omega arith
+
+    at-degree : x % slotWords / 8 ≡ e
+    at-degree = omega arith
+
+    in-block : e < greatest L n → x % slotWords < 8 * greatest L n
+    in-block under = omega arith
+
+    stored-word : getD T (slotWords * k + flat 8 i e) 0 ≡ transposedWord L n x
+    stored-word = laid .words x (omega arith)
+
+    pub cell-beside : 0 < transposedSize L n k → n ≤ i → getD T (slotWords * k + flat 8 i e) 0 ≡ 0
+    cell-beside h out = stored-word
+        ∙ transposed-beside L n x (subst (λ m. 0 < transposedSize L n m) (sym at-slot) h)
+        (λ (g : 7 - x % 8 < n). omega (arith, at-lane))
+
+    pub cell-empty : transposedSize L n k ≡ 0 → getD T (slotWords * k + flat 8 i e) 0 ≡ 0
+    cell-empty none = stored-word
+        ∙ transposed-beyond L n x (λ (g : 0 < transposedSize L n (x / slotWords)). omega (arith, ap (transposedSize L n) at-slot))
+
+    module _ (h : 0 < transposedSize L n k) (l : i < n) where
+      at-filled : 0 < transposedSize L n (x / slotWords)
+      at-filled = subst (λ m. 0 < transposedSize L n m) (sym at-slot) h
+
+      pub cell-low : e < weight L n i → getD T (slotWords * k + flat 8 i e) 0 ≡ 0
+      cell-low low = stored-word
+          ∙ transposed-low L n x at-filled (omega (arith, at-lane)) (in-block (omega arith))
+          (λ (g : lift L n (7 - x % 8) ≤ x % slotWords / 8).
+          let g′ : lift L n i ≤ e = subst₂ (λ j m. lift L n j ≤ m) at-lane at-degree g in
+          omega (arith, lift-weight i))
+
+      pub cell-value : weight L n i ≤ e → e < greatest L n → getD T (slotWords * k + flat 8 i e) 0
+          ≡ getD L (slotWords * back n i + flat 8 (back n k) (e - weight L n i)) 0
+      cell-value here under =
+          stored-word
+          ∙ transposed-value L n x at-filled (omega (arith, at-lane)) (in-block under)
+          (subst₂ (λ j m. lift L n j ≤ m) (sym at-lane) (sym at-degree) (omega (arith, lift-weight i)))
+          ∙ ap (λ j. blockWord L (reversed n j) (reversed n (x / slotWords)) (x % slotWords / 8 - lift L n j)) at-lane
+          ∙ ap (λ m. blockWord L (reversed n i) (reversed n m) (x % slotWords / 8 - lift L n i)) at-slot
+          ∙ ap (λ m. blockWord L (reversed n i) (reversed n k) (m - lift L n i)) at-degree
+          ∙ ap (λ m. blockWord L (reversed n i) (reversed n k) (e - m)) (lift-weight i)
+          ∙ ap (λ y. getD L y 0) place
+        where
+          place : slotWords * reversed n i + 8 * (e - weight L n i) + (7 - reversed n k)
+              ≡ slotWords * back n i + flat 8 (back n k) (e - weight L n i)
+          place = places (same i) (same k)
+            where
+              places : {a b c d : ℕ} → a ≡ b → c ≡ d
+                  → slotWords * a + 8 * (e - weight L n i) + (7 - c) ≡ slotWords * b + flat 8 d (e - weight L n i)
+              places u v = omega arith
+
+  -- behind the greatest height all words are 0
+  pub cell-behind : {T : Level} → SlotsLaid n L T → (k j : ℕ) → k < 8 → 8 * greatest L n ≤ j → j < tailWords
+      → getD T (slotWords * k + j) 0 ≡ 0
+  cell-behind laid k j h past lt =
+      laid .words y (omega arith) ∙ go (decLt 0 (transposedSize L n (y / slotWords))) (decLt (7 - y % 8) n)
+    where
+      y : ℕ
+      y = slotWords * k + j
+
+      go : Dec (0 < transposedSize L n (y / slotWords)) → Dec (7 - y % 8 < n) → transposedWord L n y ≡ 0
+      go (yes f) (yes l) = transposed-tail L n y f l (λ (g : y % slotWords < 8 * greatest L n). omega arith)
+      go (yes f) (no l) = transposed-beside L n y f l
+      go (no f) l = transposed-beyond L n y f
+
+  -- so the tails of the transposed slots are 0
+  pub cell-tail : greatest L n ≤ 16 → {T : Level} → SlotsLaid n L T → (k j : ℕ) → k < 8 → j < blockWords
+      → getD T (slotWords * k + blockWords + j) 0 ≡ 0
+  cell-tail low {T} laid k j h lt =
+      let here : slotWords * k + blockWords + j ≡ slotWords * k + (blockWords + j) = omega arith in
+      ap (λ x. getD T x 0) here
+      ∙ cell-behind laid k (blockWords + j) h (omega arith) (omega arith)
+
+  -- coordinate i, degree e of the right side
+  module _ {T : Level} {b : List ℕ} (laid : Laid n L T b) (i e : ℕ) (lane : i < 8) (degree : e < 136) where
+    abbrev y : ℕ
+    y = flat 8 i e
+
+    right-lane : 7 - y % 8 ≡ i
+    right-lane = omega arith
+
+    right-degree : y / 8 ≡ e
+    right-degree = omega arith
+
+    right-stored : getD b (flat 8 i e) 0 ≡ rightWord L n y
+    right-stored = laid .right y (omega arith)
+
+    slot-at : slotSize L (reversed n (7 - y % 8)) ≡ slotSize L (back n i)
+    slot-at = ap (λ j. slotSize L (reversed n j)) right-lane ∙ ap (λ q. slotSize L q) (same i)
+
+    weight-at : lift L n (7 - y % 8) ≡ weight L n i
+    weight-at = ap (lift L n) right-lane ∙ lift-weight i
+
+    pub right-cell-beside : n ≤ i → getD b (flat 8 i e) 0 ≡ 0
+    right-cell-beside out = right-stored ∙ right-beside L n y (λ (g : 7 - y % 8 < n). omega (arith, right-lane))
+
+    module _ (l : i < n) where
+      inside : 7 - y % 8 < n
+      inside = omega (arith, right-lane)
+
+      pub right-cell-empty : slotSize L (back n i) ≡ 0 → getD b (flat 8 i e) 0 ≡ 0
+      right-cell-empty none = right-stored
+          ∙ right-empty L n y inside (λ (g : 0 < slotSize L (reversed n (7 - y % 8))). omega (arith, slot-at))
+
+      module _ (some : 0 < slotSize L (back n i)) where
+        filled : 0 < slotSize L (reversed n (7 - y % 8))
+        filled = omega (arith, slot-at)
+
+        pub right-cell-low : e < weight L n i → getD b (flat 8 i e) 0 ≡ 0
+        right-cell-low low = right-stored
+            ∙ right-low L n y inside filled
+            (λ (g : lift L n (7 - y % 8) ≤ y / 8).
+            let g′ : weight L n i ≤ e = subst₂ (λ a b. a ≤ b) weight-at right-degree g in
+            omega arith)
+
+        module _ (here : weight L n i ≤ e) where
+          from : lift L n (7 - y % 8) ≤ y / 8
+          from = subst₂ (λ a b. a ≤ b) (sym weight-at) (sym right-degree) here
+
+          pub right-cell-far : blockWords ≤ e - weight L n i → getD b (flat 8 i e) 0 ≡ 0
+          right-cell-far far = right-stored
+              ∙ right-far L n y inside filled from
+              (λ (g : y / 8 - lift L n (7 - y % 8) < blockWords).
+              let g′ : e - weight L n i < blockWords = subst₂ (λ a b. b - a < blockWords) weight-at right-degree g in
+              omega arith)
+
+          pub right-cell-value : e - weight L n i < blockWords → getD b (flat 8 i e) 0
+              ≡ getD L (slotWords * back n i + blockWords + (e - weight L n i)) 0
+          right-cell-value near =
+              right-stored
+              ∙ right-value L n y inside filled from
+              (subst₂ (λ a b. b - a < blockWords) (sym weight-at) (sym right-degree) near)
+              ∙ ap (λ q. tailWord L q (y / 8 - lift L n (7 - y % 8))) (ap (reversed n) right-lane ∙ same i)
+              ∙ ap (λ a. tailWord L (back n i) (y / 8 - a)) weight-at
+              ∙ ap (λ b. tailWord L (back n i) (b - weight L n i)) right-degree

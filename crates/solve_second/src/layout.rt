@@ -1,0 +1,26 @@
+// The second system of a level laid out: its slots and its right side.
+use crate::right::Side;
+use crate::right::lay_side;
+use crate::transpose::lay_slots;
+use solve_lattice::Level;
+use solve_lattice::Product;
+ghost use mathlib.Core.Path.{_≡_};
+ghost use Prim.Native.Nat.{_<_, _≤_};
+ghost use lib.ListN.{length};
+ghost use Rattle.vector.specs.Bound.{AtMost};
+ghost use Rattle.solve_lattice.specs.Room.{levelWords, productWords};
+ghost use Rattle.solve_second.specs.Greatest.{Low};
+ghost use Rattle.solve_second.specs.Laid.{Laid};
+ghost use Rattle.solve_second.specs.RightFilling.{TailsEnd};
+ghost use Rattle.solve_second.specs.Side.{sided, sideRow};
+
+// Lays out the second system of a level of n rows, with the side told, in cleared memory.
+pub fn lay_second(transposed: &mut Level, right: &mut Product, level: &Level, n: usize, side: Side)
+    requires { ⌜ Low (now level) × TailsEnd (sided side (now level)) × (sideRow side < 8) × (n ≤ 8) ⌝ }
+    requires room { ⌜ (length (now transposed) ≡ levelWords) × (length (now right) ≡ productWords) ⌝ }
+    requires zeros { ⌜ AtMost 0 (now transposed) × AtMost 0 (now right) ⌝ }
+    ensures { λ _. ⌜ Laid n (sided side (now (level .entry))) (now (transposed .exit)) (now (right .exit)) ⌝ }
+{
+    let top = lay_slots(transposed, level, n);
+    lay_side(right, level, n, side, top);
+}

@@ -1,0 +1,69 @@
+// A polynomial times a flat block, and times a polynomial.
+use residue::modulus::Modulus;
+use solve_descent::Terms;
+use solve_descent::store_negated;
+use solve_descent::subtract_product;
+use solve_lattice::BLOCK;
+use solve_lattice::Block;
+use solve_lattice::LANES;
+use solve_lattice::Product;
+use vector::clear;
+use vector::reduce_range;
+ghost use mathlib.Core.Path.{_≡_};
+ghost use Prim.Native.Nat.{ℕ, _+_, _-_, _*_, _<_, _≤_};
+ghost use lib.ListN.{length, getD};
+ghost use Rattle.residue.specs.Modulus.{ValidModulus};
+ghost use Rattle.vector.specs.Bound.{AtMost};
+ghost use Rattle.solve_lattice.specs.Room.{lanes, blockWords, productWords};
+ghost use Rattle.solve_second.specs.Product.{BlockMultiplied, Multiplied};
+
+// Returns n - m, and 0 where m is the greater.
+fn less(n: usize, m: usize) -> usize
+    ensures { λ r. ⌜ r ≡ n - m ⌝ }
+{
+    if m < n { n - m } else { 0 }
+}
+
+// Multiplies the block of 8 lanes in m words by f, its first n words, into cleared memory and in sums that are not reduced: the
+// product is divided next, and a division takes such sums.
+pub fn multiply_block(
+    out: &mut Product,
+    f: &Block,
+    n: usize,
+    block: &[u64],
+    m: usize,
+    modulus: Modulus,
+)
+    requires { ⌜ ValidModulus modulus × (n ≤ blockWords) × (m ≤ length (now block)) × (n * lanes + m ≤ productWords + lanes) ⌝ }
+    requires small { ⌜ ((i : ℕ) → getD (now f) i 0 < modulus .p) × ((i : ℕ) → getD (now block) i 0 < modulus .p) ⌝ }
+    requires zeros { ⌜ AtMost 0 (now out) ⌝ }
+    ensures { λ _. ⌜ BlockMultiplied (modulus .p) (now (f .entry)) n (now (block .entry)) m (now (out .exit)) ⌝ }
+{
+    let mut minus = [0u64; BLOCK];
+    store_negated(&mut minus, 0, f, n, modulus);
+    let terms = Terms {
+        at: 0,
+        step: 1,
+        count: n,
+    };
+    subtract_product(out, LANES, &minus, terms, block, 0, m, modulus);
+}
+
+// Multiplies f, its first n words, by g, its first m. What stood in `out` is lost.
+pub fn multiply(out: &mut Block, f: &Block, n: usize, g: &Block, m: usize, modulus: Modulus)
+    requires { ⌜ ValidModulus modulus × (n ≤ blockWords) × (m ≤ blockWords) × (n + m ≤ blockWords + 1) ⌝ }
+    requires small { ⌜ ((i : ℕ) → getD (now f) i 0 < modulus .p) × ((i : ℕ) → getD (now g) i 0 < modulus .p) ⌝ }
+    ensures { λ _. ⌜ Multiplied (modulus .p) (now (f .entry)) n (now (g .entry)) m (now (out .exit)) ⌝ }
+{
+    let mut minus = [0u64; BLOCK];
+    store_negated(&mut minus, 0, f, n, modulus);
+    clear(out, 0, BLOCK);
+    let terms = Terms {
+        at: 0,
+        step: 1,
+        count: n,
+    };
+    subtract_product(out, 1, &minus, terms, g, 0, m, modulus);
+    // the words behind the product are 0 still
+    reduce_range(out, less(n + m, 1), modulus);
+}

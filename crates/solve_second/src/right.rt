@@ -1,0 +1,70 @@
+// The right side of the second system: the tails of a level's slots, or one row of their blocks, as one flat block with the
+// weights of the transposed slots.
+use crate::height::slot_height;
+use crate::lane::copy_lane;
+use crate::lane::transpose_lane;
+use solve_lattice::BLOCK;
+use solve_lattice::Level;
+use solve_lattice::Product;
+use solve_lattice::SIZES;
+use solve_lattice::SLOT;
+use solve_lattice::TAIL_SIZES;
+ghost use mathlib.Core.Path.{_≡_};
+ghost use Prim.Native.Nat.{ℕ, _+_, _<_, _≤_};
+ghost use lib.ListN.{length, getD};
+ghost use Rattle.vector.specs.Bound.{AtMost};
+ghost use Rattle.solve_lattice.specs.Room.{productWords};
+ghost use Rattle.solve_second.specs.Greatest.{Low, greatest};
+ghost use Rattle.solve_second.specs.RightFilling.{TailsEnd, Righting};
+ghost use Rattle.solve_second.specs.Side.{sided, sideRow};
+ghost use Rattle.solve_second.specs.Words.{rightWord};
+
+// What is the right side of a second system: the tails of the level's slots, or a row of their blocks.
+pub enum Side {
+    Tails,
+    Row(usize),
+}
+
+// Stores the tail of slot n - 1 - i of the level into lane i, where the slot is filled.
+fn tail_lane(right: &mut Product, level: &Level, n: usize, top: usize, i: usize)
+    requires { ⌜ Low (now level) × TailsEnd (now level) × (n ≤ 8) × (i < n) ⌝ }
+    requires height { ⌜ top ≡ greatest (now level) n ⌝ }
+    requires before { ⌜ Righting (now level) n (now right) (now right) i ⌝ }
+    ensures { λ _. ⌜ Righting (now (level .entry)) n (now (right .entry)) (now (right .exit)) (i + 1) ⌝ }
+{
+    let q = n - 1 - i;
+    if level[SIZES + q] == 0 {
+        return;
+    }
+    let lift = top - slot_height(level, q);
+    let size = level[TAIL_SIZES + q] as usize;
+    copy_lane(right, 7 - i + 8 * lift, level, SLOT * q + BLOCK, 1, size);
+}
+
+// Stores lane i of the right side.
+fn side_lane(right: &mut Product, level: &Level, n: usize, side: Side, top: usize, i: usize)
+    requires { ⌜ Low (now level) × TailsEnd (sided side (now level)) × (sideRow side < 8) × (n ≤ 8) × (i < n) ⌝ }
+    requires height { ⌜ top ≡ greatest (now level) n ⌝ }
+    requires before { ⌜ Righting (sided side (now level)) n (now right) (now right) i ⌝ }
+    ensures { λ _. ⌜ Righting (sided side (now (level .entry))) n (now (right .entry)) (now (right .exit)) (i + 1) ⌝ }
+{
+    match side {
+        Side::Tails => tail_lane(right, level, n, top, i),
+        Side::Row(h) => transpose_lane(right, 7 - i, level, n - 1 - i, h, top),
+    }
+}
+
+// Stores the right side, 136 degrees of it, into cleared memory.
+pub fn lay_side(right: &mut Product, level: &Level, n: usize, side: Side, top: usize)
+    requires { ⌜ Low (now level) × TailsEnd (sided side (now level)) × (sideRow side < 8) × (n ≤ 8) ⌝ }
+    requires height { ⌜ top ≡ greatest (now level) n ⌝ }
+    requires zeros { ⌜ (length (now right) ≡ productWords) × AtMost 0 (now right) ⌝ }
+    ensures { λ _. ⌜ (length (now (right .exit)) ≡ productWords)
+        × ((x : ℕ) → x < productWords → getD (now (right .exit)) x 0 ≡ rightWord (sided side (now (level .entry))) n x) ⌝ }
+{
+    let mut i = 0;
+    while i < n {
+        side_lane(right, level, n, side, top, i);
+        i += 1;
+    }
+}

@@ -1,0 +1,56 @@
+-- A certificate's words written as bytes: what `solve_to_bytes` gives.
+use mathlib.Core.Path.{_≡_, sym, ap, ap₂, _∙_, subst}
+use mathlib.Core.List.{List}
+use Prim.Native.Nat.{ℕ, _*_, _≤_}
+use lib.ListN.{length, take}
+use borrow.Author.Tests.{le-ltb}
+use Rattle.words.specs.Limits.{office, longestCertificate}
+use Rattle.words.specs.Outcome.{Outcome, refuse}
+use Rattle.words.specs.Outcome.Outcome.{accepted, refused}
+use Rattle.words.specs.OutcomeLaws.{refused-accepted}
+use Rattle.words.specs.Bytes.{bytesOf}
+use Rattle.words.specs.BytesLaws.{length-bytesOf}
+use Rattle.words.specs.System.{System, readSystem}
+use Rattle.words.specs.Certificate.{certificateWords}
+use Rattle.write_frame.specs.Overwriting.{overwritten}
+use Rattle.solver.specs.Solving.{withRoom, certificateBytes, Gives, SolvesOr, Solves}
+use Rattle.solver.specs.SolvingLaws.{gives-words, solved-gives}
+
+module _ {s : System} {count : ℕ} {entry exit : List ℕ} (G : Gives office certificateWords s entry exit count) where
+  pub gives-bytes : (lent after : List ℕ) → after ≡ overwritten (bytesOf (take count exit)) lent
+      → Gives office certificateBytes s lent after (4 * count)
+  unfolding certificateBytes
+  gives-bytes lent after is = record {
+    certificate = G .certificate;
+    within = G .within;
+    right = G .right;
+    answers = G .answers;
+    words = is ∙ ap (λ l. overwritten (bytesOf l) lent) (gives-words G);
+    same-count = ap (λ n. 4 * n) (G .same-count) ∙ sym (length-bytesOf (certificateWords (G .certificate)));
+  }
+
+-- what `solve` told of words for which there was room
+module _ (ws entry exit : List ℕ) (answer : Outcome ℕ) (solves : Solves office ws entry exit answer) where
+  pub was-solved : {count : ℕ} → answer ≡ accepted count
+      → (s : System) × (readSystem office ws ≡ accepted s) × Gives office certificateWords s entry exit count
+  was-solved {count} a =
+      solved-gives office certificateWords (longestCertificate office) (length entry) (readSystem office ws) entry exit answer solves count a
+
+  pub was-refused : longestCertificate office ≤ length entry → {number place : ℕ} → answer ≡ refused number place
+      → readSystem office ws ≡ refused number place
+  unfolding SolvesOr
+  was-refused room {number} {place} a = by (readSystem office ws) solves
+    where
+      same : {n k : ℕ} → _≡_ {A = Outcome ℕ} (refused n k) (refused number place) → _≡_ {A = Outcome System} (refused n k) (refused number place)
+      same {n} {k} e =
+          let en : n ≡ number = cc in
+          let ek : k ≡ place = cc in
+          ap₂ refused en ek
+
+      by : (o : Outcome System) → SolvesOr office certificateWords (withRoom (longestCertificate office) (length entry) o) entry exit answer
+          → o ≡ refused number place
+      by (refused n k) h = let told = sym (h .0) ∙ a in same told
+      by (accepted s) h =
+          let enough = ap (λ t. refuse t 11 0 (accepted s)) (le-ltb (length entry) (longestCertificate office) room) in
+          let given = subst (λ o. SolvesOr office certificateWords o entry exit answer) enough h in
+          absurd (refused-accepted (sym a ∙ given .1))

@@ -1,0 +1,49 @@
+// The solver on the bytes of files, four to a word, lowest first.
+use crate::solve;
+use answers::Counted;
+use answers::Refusal;
+use limits::Office;
+use reader::file::open_file;
+use writer::file::write_bytes;
+ghost use lib.ListN.{length};
+ghost use Prim.Native.Nat.{_*_};
+ghost use Rattle.words.specs.Limits.{office, longestCertificate};
+ghost use Rattle.words.specs.System.{readSystem};
+ghost use Rattle.answers.specs.Answer.{countedOutcome};
+ghost use Rattle.solver.specs.Solving.{withRoom, certificateBytes, SolvesOr, SolvesFile};
+
+// The bytes of the longest certificate's file.
+const CERTIFICATE_BYTES: usize = 4 * Office::CERTIFICATE_WORDS;
+
+// Solves the system of some words; writes its certificate over the first of the lent bytes and gives the number of its bytes.
+fn solve_to_bytes(bytes: &mut [u8], system: &[u32]) -> Counted
+    ensures { λ r. ⌜ SolvesOr office certificateBytes
+        (withRoom (4 * longestCertificate office) (length (now (bytes .entry))) (readSystem office (now (system .entry))))
+        (now (bytes .entry)) (now (bytes .exit)) (countedOutcome r) ⌝ }
+{
+    let mut words = [0u32; Office::CERTIFICATE_WORDS];
+    let solved = solve(&mut words, system);
+    match solved {
+        Counted::Count(count) => {
+            if bytes.len() < CERTIFICATE_BYTES {
+                let place: usize = 0;
+                return Counted::Refused(Refusal { number: 11, place });
+            }
+            write_bytes(bytes, &words[..count]);
+            Counted::Count(4 * count)
+        }
+        Counted::Refused(refusal) => Counted::Refused(refusal),
+    }
+}
+
+// Solves the system in a file: writes its certificate's file over the first of the lent bytes and gives the number of its bytes.
+pub fn solve_file(bytes: &mut [u8], file: &[u8]) -> Counted
+    ensures { λ r. ⌜ SolvesFile office (now (file .entry)) (now (bytes .entry)) (now (bytes .exit)) (countedOutcome r) ⌝ }
+{
+    let mut system = [0u32; Office::SYSTEM_WORDS];
+    let opened = open_file(&mut system, file, Office::FILE_BYTES);
+    match opened {
+        Counted::Count(count) => solve_to_bytes(bytes, &system[..count]),
+        Counted::Refused(refusal) => Counted::Refused(refusal),
+    }
+}

@@ -1,2 +1,0 @@
-pub mod Coefficients
-pub mod Polynomials

@@ -1,0 +1,10 @@
+-- interface: how polynomials lie in arrays, what code can write of them, and the lent words afterwards
+pub mod Values
+pub mod Framing
+pub mod Overwriting
+-- laws
+pub mod ValuesLaws
+-- interface: what trying polynomials gives
+pub mod Trial
+-- laws
+pub mod TrialLaws

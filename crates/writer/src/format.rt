@@ -1,0 +1,76 @@
+// The formats of systems and of certificates.
+use answers::Form;
+use limits::Office;
+use write_frame::format::Format;
+ghost use mathlib.Core.Path.{_≡_};
+ghost use Prim.Native.Nat.{ℕ, _≤_};
+ghost use Rattle.words.specs.Limits.{office};
+ghost use Rattle.words.specs.System.{ShapeWithin};
+ghost use Rattle.answers.specs.Answer.{formOf};
+ghost use Rattle.writer.specs.Values.{shapeWith};
+ghost use Rattle.writer.specs.Formats.{certificateFormat, formatOf};
+
+// What is written.
+pub enum Kind {
+    System,
+    Certificate(Form),
+}
+
+// Refusals 26 to 28 are 6 to 8, on the certificate.
+const BY: u8 = 20;
+
+// The most polynomials of a system, and the words of the array that hands them over.
+pub const SYSTEM_POLYNOMIALS: usize = 72;
+
+pub const SYSTEM_VALUES: usize = 16 * SYSTEM_POLYNOMIALS;
+
+// The most polynomials of a certificate, and the words of the array that hands them over: polynomial k has its coefficients from
+// the place STRIDE * k on.
+pub const CERTIFICATE_POLYNOMIALS: usize = 18;
+
+pub const STRIDE: usize = 128;
+
+pub const CERTIFICATE_VALUES: usize = STRIDE * CERTIFICATE_POLYNOMIALS;
+
+// Gives the format of certificates for systems of so many rows and columns; p does not matter.
+pub fn certificate_format(form: Form, rows: u32, columns: u32) -> Format
+    requires { ⌜ (rows ≤ office .rows) × (columns ≤ office .columns) ⌝ }
+    ensures { λ r. ⌜ ((p : ℕ) → r ≡ certificateFormat office (shapeWith p rows columns) (formOf form)) ⌝ }
+{
+    match form {
+        Form::Solution => Format {
+            head: 0x50000001,
+            count: (1 + columns + 1 + rows) as usize,
+            limit: Office::CERTIFICATE_COEFFICIENTS as usize,
+            stride: STRIDE,
+            by: BY,
+            longest: Office::CERTIFICATE_WORDS,
+        },
+        Form::Absence => Format {
+            head: 0x50000002,
+            count: rows as usize,
+            limit: Office::CERTIFICATE_COEFFICIENTS as usize,
+            stride: STRIDE,
+            by: BY,
+            longest: Office::CERTIFICATE_WORDS,
+        },
+    }
+}
+
+// Gives the format of what is written for a shape within the limits.
+pub fn format_for(kind: Kind, rows: u32, columns: u32, modulus: u32) -> Format
+    requires { ⌜ ShapeWithin office (shapeWith modulus rows columns) ⌝ }
+    ensures { λ r. ⌜ r ≡ formatOf office (shapeWith modulus rows columns) kind ⌝ }
+{
+    match kind {
+        Kind::System => Format {
+            head: 0x10000000 + (modulus + rows * 0x10000 + columns * 0x100000),
+            count: (rows * columns + rows) as usize,
+            limit: Office::COEFFICIENTS as usize,
+            stride: Office::COEFFICIENTS as usize,
+            by: 0,
+            longest: Office::SYSTEM_WORDS,
+        },
+        Kind::Certificate(form) => certificate_format(form, rows, columns),
+    }
+}
