@@ -1,4 +1,5 @@
-// A refusal, a count or a refusal, acceptance or a refusal. `specs/Answer.antt` gives document 01's number and values for each case.
+// A refusal, a count or a refusal, acceptance or a refusal. `specs/Answer.antt` gives document 01's number and values for each
+// case.
 
 // A refusal of document 01's table: its number, and its place.
 pub struct Refusal {
@@ -8,7 +9,7 @@ pub struct Refusal {
 
 // What a call answers that counts words or bytes.
 pub enum Counted {
-    // What was due took so many, from the first on.
+    // The number of words or bytes, from the first on.
     Count(usize),
     // All that was lent stands as before.
     Refused(Refusal),

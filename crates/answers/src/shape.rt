@@ -8,7 +8,7 @@ pub struct Shape {
     pub columns: u8,
 }
 
-// The two kinds of certificates.
+// The two forms of certificates.
 pub enum Form {
     // d, N, w and Z.
     Solution,

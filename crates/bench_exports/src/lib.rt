@@ -2,7 +2,7 @@
 ghost use mathlib.Core.Path.{_≡_};
 ghost use Rattle.bench_exports.specs.Rounds.{allAtMost, small, fit, allowed, rounds};
 
-// Whether every word of l is at most the limit.
+// Tells whether every word of l is at most `limit`.
 fn all_at_most(l: &[u64], limit: u64) -> bool
     ensures { λ r. ⌜ r ≡ allAtMost limit (now (l .entry)) ⌝ }
 {
@@ -16,7 +16,7 @@ fn all_at_most(l: &[u64], limit: u64) -> bool
     true
 }
 
-// Whether the sums of all steps fit their words.
+// Tells whether the sums of all steps fit their words.
 fn words_small(h: &[u64], s: &[u64], factors: &[u64]) -> bool
     ensures { λ r. ⌜ r ≡ small (now (h .entry)) (now (s .entry)) (now (factors .entry)) ⌝ }
 {
@@ -29,7 +29,7 @@ fn words_small(h: &[u64], s: &[u64], factors: &[u64]) -> bool
     all_at_most(h, 4294967295)
 }
 
-// Whether all words of the steps are there, and their sums fit.
+// Tells whether all words of the steps are there, and their sums fit.
 fn steps_fit(h: &[u64], s: &[u64], factors: &[u64], counts: &[u64]) -> bool
     ensures { λ r. ⌜ r ≡ fit (now (h .entry)) (now (s .entry)) (now (factors .entry)) (now (counts .entry)) ⌝ }
 {
@@ -48,8 +48,8 @@ fn steps_fit(h: &[u64], s: &[u64], factors: &[u64], counts: &[u64]) -> bool
     words_small(h, s, factors)
 }
 
-// A step for each factor: h[j] += factors[t] * s[j] for j below counts[t]. No step where one might not fit. Returns how many
-// steps were made.
+// Makes a step for each factor: adds factors[t] * s[j] to h[j] for j below counts[t]. Makes none where one might not fit. Returns
+// how many steps were made.
 #[no_mangle]
 pub extern "C" fn bench_add_scaled(
     h: &mut [u64],

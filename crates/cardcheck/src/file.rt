@@ -11,6 +11,7 @@ pub struct File {
     pub count: usize,
 }
 
+// Returns what reading gives of a file that cannot be read.
 fn none() -> File
     ensures { λ r. ⌜ r .count ≤ 0 ⌝ }
 {
@@ -20,14 +21,14 @@ fn none() -> File
     }
 }
 
-// Reads on, up to 4,096 bytes. How many they were.
+// Reads up to 4,096 bytes more. Returns their number.
 fn read_more(fd: i32) -> usize {
     let mut space = io::buffer();
     io::read_full(fd, &mut space)
 }
 
-// Reads on to the end. How many bytes these are modulo four: all reads but the last are of 4,096. A proved loop has to end, and
-// nothing says that a file does; so the turns are counted down from a number that no run uses up.
+// Reads to the end. Returns the number of these bytes modulo four: all reads but the last are of 4,096. A proved loop has to end,
+// and nothing says that a file does; so the turns are counted down from a number that no run uses up.
 fn read_on(fd: i32) -> usize
     ensures { λ r. ⌜ r < 4 ⌝ }
 {
@@ -40,7 +41,8 @@ fn read_on(fd: i32) -> usize
     last % 4
 }
 
-// How many bytes are handed on of a file of which so many are in the space: all, or, where it may have more, as many modulo four.
+// Returns how many bytes are handed on of a file of which `all` are in the space: all, or, where it may have more, as many modulo
+// four.
 fn kept(fd: i32, all: usize, bytes: &[u8]) -> usize
     requires { ⌜ 4 ≤ length (now bytes) ⌝ }
     ensures { λ r. ⌜ r ≤ length (now (bytes .entry)) ⌝ }
@@ -51,7 +53,7 @@ fn kept(fd: i32, all: usize, bytes: &[u8]) -> usize
     bytes.len() - 4 + read_on(fd)
 }
 
-// The space is of whole words, at least one.
+// Reads a file into `bytes`, whole words and at least one.
 pub fn read_file(name: &[u8], bytes: &mut [u8]) -> File
     requires { ⌜ 4 ≤ length (now bytes) ⌝ }
     ensures { λ r. ⌜ r .count ≤ length (now (bytes .exit)) ⌝ }

@@ -15,6 +15,7 @@ use verifier::file::check_files;
 // as many bytes as are behind its last whole word.
 const SPACE: usize = 4 * (Office::CERTIFICATE_WORDS + 2);
 
+// Prints `bytes`.
 fn text(bytes: &[u8]) {
     io::write_all(STDOUT_FILENO, bytes);
 }
@@ -33,6 +34,7 @@ fn refuse(refusal: Refusal) {
     text(&line[0..n]);
 }
 
+// Prints a verdict.
 fn show(verdict: Verdict) {
     match verdict {
         Verdict::Accepted => text(b"accepted\n"),
@@ -40,6 +42,7 @@ fn show(verdict: Verdict) {
     }
 }
 
+// Checks the card in one file for the sheet in the other, and prints the verdict, or which of them cannot be read.
 fn run(sheet: &[u8], card: &[u8]) {
     let mut system = [0u8; SPACE];
     let mut certificate = [0u8; SPACE];

@@ -1,7 +1,7 @@
 -- Rows, columns and sides of the definitions, as sums of products of slots.
 use mathlib.Core.Path.{_≡_, refl, sym, ap, ap₂, _∙_}
 use mathlib.Core.List.{List, []}
-use Prim.Native.Nat.{ℕ, zero, suc, _+_, _*_, _≤_, _<_}
+use Prim.Native.Nat.{ℕ, _+_, _*_, _≤_, _<_}
 use native.Mathlib.Nat.{mul-le-mul, mul-le-mul-right, suc-mul}
 use native.Mathlib.Omega.{arith}
 use lib.ListN.{getD}
@@ -11,22 +11,12 @@ use Rattle.modular.specs.Lists.{mul-comm}
 use Rattle.residue.specs.Modulus.{ValidModulus}
 use Rattle.words.specs.System.{entry, rightSide}
 use Rattle.truth.specs.Solution.{total, rowOf, columnOf, sideOf}
+use Rattle.truth.specs.Listed.{listed-at, total-ext}
 use Rattle.loader.specs.Slot.{slot, Filled}
 use Rattle.check_conditions.specs.Widths.{systemWidth, certificateWidth}
 use Rattle.check_conditions.specs.Products.{product}
-use Rattle.check_conditions.specs.Areas.{listed, systemIn, vectorIn, ValidLayout, Loaded}
+use Rattle.check_conditions.specs.Areas.{systemIn, vectorIn, ValidLayout, Loaded}
 use Rattle.check_conditions.specs.declared.layout.Layout.{Layout}
-
-pub getD-listed : {A : Type 0} (n : ℕ) (f : ℕ → A) (k : ℕ) (d : A) → k < n → getD (listed n f) k d ≡ f k
-unfolding listed
-getD-listed zero f k d lt = absurd (omega arith)
-getD-listed (suc n) f zero d lt = refl
-getD-listed (suc n) f (suc k) d lt = getD-listed n (λ i. f (suc i)) k d (omega arith)
-
-total-ext : (p n : ℕ) (f g : ℕ → List ℕ) → ((k : ℕ) → k < n → f k ≡ g k) → total p n f ≡ total p n g
-unfolding total
-total-ext p zero f g e = refl
-total-ext p (suc n) f g e = ap₂ (add (modulo p)) (total-ext p n f g (λ k lt. e k (omega arith))) (e n (omega arith))
 
 -- the place of row i and column j
 pub place-inside : {i j rows columns : ℕ} → i < rows → j < columns → i * columns + j < rows * columns
@@ -38,15 +28,15 @@ module _ (l : Layout) (S C : List ℕ) where
 
   entry-in : (i j : ℕ) → i < l .rows → j < l .columns → entry (systemIn l S) i j ≡ slot systemWidth S (i * l .columns + j)
   unfolding systemIn
-  entry-in i j hi hj = getD-listed (l .rows * l .columns) (slot systemWidth S) (i * l .columns + j) [] (place-inside hi hj)
+  entry-in i j hi hj = listed-at (l .rows * l .columns) (slot systemWidth S) [] (i * l .columns + j) (place-inside hi hj)
 
   side-in : (i : ℕ) → i < l .rows → rightSide (systemIn l S) i ≡ slot systemWidth S (l .rows * l .columns + i)
   unfolding systemIn
-  side-in i hi = getD-listed (l .rows) (λ k. slot systemWidth S (l .rows * l .columns + k)) i [] hi
+  side-in i hi = listed-at (l .rows) (λ k. slot systemWidth S (l .rows * l .columns + k)) [] i hi
 
   vector-in : (count start k : ℕ) → k < count → getD (vectorIn count start C) k [] ≡ slot certificateWidth C (start + k)
   unfolding vectorIn
-  vector-in count start k lt = getD-listed count (λ i. slot certificateWidth C (start + i)) k [] lt
+  vector-in count start k lt = listed-at count (λ i. slot certificateWidth C (start + i)) [] k lt
 
   pub row-sum : (i : ℕ) → i < l .rows → total p (l .columns) (product p S (i * l .columns) 1 C 1)
       ≡ rowOf (systemIn l S) (vectorIn (l .columns) 1 C) i

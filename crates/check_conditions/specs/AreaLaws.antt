@@ -1,25 +1,16 @@
 -- The values in areas: what stands in the slots is what was loaded.
-use mathlib.Core.Path.{_≡_, refl, sym, ap, ap₂, _∙_}
-use mathlib.Core.List.{List, [], _∷_, _++_}
-use Prim.Native.Nat.{ℕ, zero, suc, _+_, _*_, _≤_, _<_}
+use mathlib.Core.Path.{_≡_, sym, ap, ap₂, _∙_}
+use mathlib.Core.List.{List, [], _++_}
+use Prim.Native.Nat.{ℕ, _+_, _*_, _≤_, _<_}
 use native.Mathlib.Omega.{arith}
 use lib.ListN.{length, getD, length-append, List·getD-append}
 use lib.Seq.{getD-append-add}
 use Rattle.words.specs.System.{System, systemEntries}
+use Rattle.truth.specs.Listed.{listed, listed-is}
 use Rattle.loader.specs.Slot.{slot, Stands}
 use Rattle.check_conditions.specs.Widths.{systemWidth, certificateWidth}
-use Rattle.check_conditions.specs.Areas.{listed, systemIn, vectorIn}
+use Rattle.check_conditions.specs.Areas.{systemIn, vectorIn}
 use Rattle.check_conditions.specs.declared.layout.Layout.{Layout}
-
--- a list is its entries
-pub listed-is : {A : Type 0} (n : ℕ) (f : ℕ → A) (l : List A) (d : A) → length l ≡ n → ((k : ℕ) → k < n → f k ≡ getD l k d)
-    → listed n f ≡ l
-unfolding listed
-listed-is zero f [] d e h = refl
-listed-is zero f (a ∷ l) d e h = absurd (omega arith)
-listed-is (suc n) f [] d e h = absurd (omega arith)
-listed-is (suc n) f (a ∷ l) d e h =
-    ap₂ _∷_ (h 0 (omega arith)) (listed-is n (λ i. f (suc i)) l d (omega arith) (λ k lt. h (suc k) (omega arith)))
 
 -- some polynomials in a row among all that were loaded
 pub vector-is : (area : List ℕ) (all fs : List (List ℕ)) (count start : ℕ) → Stands certificateWidth area all → length fs ≡ count

@@ -1,19 +1,15 @@
 -- The areas that the check works on: the polynomials of a system and of a certificate that were read, a slot for each, and the
 -- values that they stand for. The limits are the office's: 8 rows and columns, 16 and 121 coefficients.
-use mathlib.Core.List.{List, [], _∷_}
-use Prim.Native.Nat.{ℕ, zero, suc, _+_, _*_, _≤_, _<_}
+use mathlib.Core.List.{List}
+use Prim.Native.Nat.{ℕ, _+_, _*_, _≤_, _<_}
 use Rattle.residue.specs.Modulus.{ValidModulus}
 use Rattle.words.specs.System.{System}
+use Rattle.truth.specs.Listed.{listed}
 use Rattle.loader.specs.Slot.{slot, Filled}
 use Rattle.check_conditions.specs.Widths.{systemWidth, certificateWidth}
 use Rattle.check_conditions.specs.declared.layout.Layout.{Layout}
 
 -- ---- values
-
--- f 0, f 1 .. f (n - 1)
-unfoldable pub listed : {A : Type 0} → ℕ → (ℕ → A) → List A
-listed zero f = []
-listed (suc n) f = f 0 ∷ listed n (λ i. f (suc i))
 
 -- A row by row, then b
 unfoldable pub systemIn : Layout → List ℕ → System

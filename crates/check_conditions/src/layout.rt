@@ -1,4 +1,4 @@
-// What every step is told of the areas: p, n and m.
+// What every step is told of the areas.
 use residue::modulus::Modulus;
 
 pub struct Layout {

@@ -1,5 +1,6 @@
-// The conditions 31 to 36 (document 01, "Turned back") of a system and a certificate whose polynomials stand in areas. `solution`
-// and `absence` have a function for each row of the table.
+// The check on areas of slots, a system's and a certificate's: the sums of products A·N, d·b, Z·A and Z·b (document 01, "The
+// system"), and the conditions 31 to 36 on them ("Turned back"). `solution` and `absence` have a function for each row of the
+// table.
 pub mod absence;
 pub mod layout;
 pub mod matrix;

@@ -12,7 +12,7 @@ ghost use Rattle.loader.specs.Slot.{slot};
 ghost use Rattle.check_conditions.specs.Widths.{certificateWidth};
 ghost use Rattle.check_conditions.specs.Areas.{Loaded, systemIn, vectorIn};
 
-// Computes row i of A·N.
+// Returns row i of A·N.
 pub fn row(system: &[u64], certificate: &[u64], layout: Layout, i: usize) -> Polynomial
     requires { ⌜ Loaded layout (layout .columns + 2 + layout .rows) (now system) (now certificate) × (i < layout .rows) ⌝ }
     ensures { λ r. ⌜ Represents (layout .modulus .p) r
@@ -23,7 +23,7 @@ pub fn row(system: &[u64], certificate: &[u64], layout: Layout, i: usize) -> Pol
     sum_of_products(system, i * columns, 1, certificate, 1, columns, modulus)
 }
 
-// Computes row i of d·b.
+// Returns row i of d·b.
 pub fn target(system: &[u64], certificate: &[u64], layout: Layout, i: usize) -> Polynomial
     requires { ⌜ Loaded layout (layout .columns + 2 + layout .rows) (now system) (now certificate) × (i < layout .rows) ⌝ }
     ensures { λ r. ⌜ Represents (layout .modulus .p) r
@@ -36,7 +36,7 @@ pub fn target(system: &[u64], certificate: &[u64], layout: Layout, i: usize) -> 
     sum_of_products(system, rows * columns + i, 1, certificate, 0, 1, modulus)
 }
 
-// Computes column j of Z·A, where Z stands in the certificate from `start` on.
+// Returns column j of Z·A, where Z stands in `certificate` from slot `start` on.
 pub fn column(
     system: &[u64],
     certificate: &[u64],
@@ -54,7 +54,7 @@ pub fn column(
     sum_of_products(system, j, columns, certificate, start, rows, modulus)
 }
 
-// Computes Z·b, where Z stands in the certificate from `start` on.
+// Returns Z·b, where Z stands in `certificate` from slot `start` on.
 pub fn side(system: &[u64], certificate: &[u64], start: usize, layout: Layout) -> Polynomial
     requires { ⌜ Loaded layout (start + layout .rows) (now system) (now certificate) ⌝ }
     ensures { λ r. ⌜ Represents (layout .modulus .p) r

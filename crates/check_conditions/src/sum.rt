@@ -17,8 +17,8 @@ ghost use Rattle.check_conditions.specs.Products.{product};
 // The most coefficients of a product: of 16 and of 121.
 const LONGEST: usize = 136;
 
-// Computes f_0 g_0 + f_1 g_1 + .., `count` products. The f stand in every `step`-th slot of the system from `first` on, the g in
-// the slots of the certificate from `start` on.
+// Returns f_0 g_0 + f_1 g_1 + .., `count` products. The f stand in every `step`-th slot of `system` from `first` on, the g in the
+// slots of `certificate` from `start` on.
 pub fn sum_of_products(
     system: &[u64],
     first: usize,

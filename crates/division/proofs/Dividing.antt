@@ -3,7 +3,7 @@ use mathlib.Core.Path.{_≡_, refl, sym, ap, ap₂, _∙_, subst}
 use mathlib.Core.Logic.{inl}
 use mathlib.Core.List.{List, _∷_}
 use Prim.Native.Nat.{ℕ, _+_, _-_, _*_, _%_, _≤_, _<_}
-use native.Mathlib.Nat.{mod-lt, mod-eq-of-lt, mul-le-mul, mul-le-mul-right, le-mul-of-pos-right, add-mul, add-zero}
+use native.Mathlib.Nat.{mod-lt, mod-eq-of-lt, mul-le-mul, mul-le-mul-right, le-mul-of-pos-right, add-mul}
 use native.Mathlib.Numerals.{add-one}
 use native.Mathlib.Omega.{arith}
 use lib.ListN.{length, getD, set, take, drop, length-set, length-take, length-drop}
@@ -14,7 +14,7 @@ use Rattle.modular.specs.Canonical.{Canonical}
 use Rattle.modular.specs.Coefficientwise.{coefficient-getD, coefficient-below}
 use Rattle.residue.specs.Sum.{SmallSum}
 use Rattle.vector.specs.Stored.{stored, length-stored, stored-outside}
-use Rattle.vector.specs.Bound.{AtMost, at-most-stored, at-most-sum}
+use Rattle.vector.specs.Bound.{AtMost, at-most-set, at-most-sum}
 use Rattle.vector.specs.Reduced.{polynomial, reduced, canonical-reduced, coefficient-reduced, residue-same, word-inside}
 use Rattle.vector.specs.Multiple.{sumAt, GainsMultiple}
 use Rattle.division.specs.Long.{Divisor, Divided}
@@ -37,11 +37,6 @@ pub record Dividing (p : ℕ) (h₀ q₀ : List ℕ) (n : ℕ) (d q h : List ℕ
   pub before : (j : ℕ) → j < i → getD h j 0 ≡ getD h₀ j 0
   pub quotient : polynomial p q i (n - i) ≡ divide (modulo p) (drop i (take n h₀)) d .quotient
   pub remainder : polynomial p h i (n - i) ≡ divide (modulo p) (drop i (take n h₀)) d .remainder
-
-at-most-set : (b v : ℕ) (l : List ℕ) (i : ℕ) → v ≤ b → AtMost b l → AtMost b (set l i v)
-unfolding stored
-at-most-set b v l i small words =
-    subst (λ (j : ℕ). AtMost b (set l j v)) (add-zero i) (at-most-stored b (λ _. v) l i 1 (λ _ _. small) words)
 
 module _ {p : ℕ} {h₀ q₀ : List ℕ} {n : ℕ} {w : List ℕ} {e inverse : ℕ} (task : Task p h₀ q₀ n w e inverse) where
   abbrev d : List ℕ

@@ -7,7 +7,7 @@ ghost use Rattle.modular.specs.Modulo.{modulo};
 ghost use Rattle.residue.specs.Modulus.{ValidModulus};
 ghost use Rattle.polynomial.specs.Value.{coefficientsOf, ValidPolynomial, Represents};
 
-// The monic greatest common divisor of f and g; zero where both are zero.
+// Returns the monic greatest common divisor of f and g; zero where both are zero.
 pub fn gcd(f: Polynomial, g: Polynomial, m: Modulus) -> Polynomial
     requires { ⌜ ValidModulus m × ValidPolynomial (m .p) f × ValidPolynomial (m .p) g ⌝ }
     ensures { λ r. ⌜ Represents (m .p) r (gcd (modulo (m .p)) (coefficientsOf f) (coefficientsOf g)) ⌝ }

@@ -13,12 +13,13 @@ mod long;
 
 pub use euclid::gcd;
 
+// What a division gives.
 pub struct Division {
     pub quotient: Polynomial,
     pub remainder: Polynomial,
 }
 
-// f by d, which is not zero.
+// Divides f by d, which is not zero.
 pub fn divide(f: Polynomial, d: Polynomial, m: Modulus) -> Division
     requires { ⌜ ValidModulus m × ValidPolynomial (m .p) f × ValidPolynomial (m .p) d × (0 < d .size) ⌝ }
     ensures quotient { λ r. ⌜ Represents (m .p) (r .quotient) (quotient (modulo (m .p)) (coefficientsOf f) (coefficientsOf d)) ⌝ }
@@ -37,7 +38,7 @@ pub fn divide(f: Polynomial, d: Polynomial, m: Modulus) -> Division
     }
 }
 
-// The quotient of f by d. Where d divides f, it is f / d.
+// Returns the quotient of f by d, which is not zero. Where d divides f, it is f / d.
 pub fn quotient(f: Polynomial, d: Polynomial, m: Modulus) -> Polynomial
     requires { ⌜ ValidModulus m × ValidPolynomial (m .p) f × ValidPolynomial (m .p) d × (0 < d .size) ⌝ }
     ensures { λ r. ⌜ Represents (m .p) r (quotient (modulo (m .p)) (coefficientsOf f) (coefficientsOf d)) ⌝ }
@@ -46,7 +47,7 @@ pub fn quotient(f: Polynomial, d: Polynomial, m: Modulus) -> Polynomial
     w.quotient
 }
 
-// The remainder of f by d.
+// Returns the remainder of f by d, which is not zero.
 pub fn remainder(f: Polynomial, d: Polynomial, m: Modulus) -> Polynomial
     requires { ⌜ ValidModulus m × ValidPolynomial (m .p) f × ValidPolynomial (m .p) d × (0 < d .size) ⌝ }
     ensures { λ r. ⌜ Represents (m .p) r (remainder (modulo (m .p)) (coefficientsOf f) (coefficientsOf d)) ⌝ }

@@ -8,7 +8,7 @@ ghost use Rattle.residue.specs.Modulus.{ValidModulus};
 ghost use Rattle.vector.specs.Bound.{AtMost};
 ghost use Rattle.division.specs.Long.{Divisor, Divided};
 
-// Takes multiples of d, which has e + 1 coefficients, off n words of h until only e places are left; the factors go to q.
+// Takes multiples of d, which has e + 1 coefficients, off n words of h until only e places are left; stores the factors in q.
 pub fn divide_words(
     h: &mut [u64],
     n: usize,

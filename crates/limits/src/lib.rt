@@ -5,7 +5,7 @@ ghost use Rattle.limits.specs.Value.{limitsOf};
 
 // Limits that are handed to a function.
 pub struct Limits {
-    // Rows, and columns, are 1 to so many.
+    // The most rows, and the most columns.
     pub rows: u8,
     pub columns: u8,
     // The most coefficients of a polynomial, in a system and in a certificate.
@@ -13,7 +13,7 @@ pub struct Limits {
     pub certificate_coefficients: u16,
 }
 
-// A head, so many polynomials with so many coefficients each, an end.
+// Counts a head, `count` polynomials of `coefficients` coefficients, and an end.
 fn words_for(count: u16, coefficients: u16) -> usize
     ensures { λ r. ⌜ r ≡ wordsFor count coefficients ⌝ }
 {
@@ -21,7 +21,7 @@ fn words_for(count: u16, coefficients: u16) -> usize
 }
 
 impl Limits {
-    // The words of the longest system.
+    // Counts the words of the longest system.
     pub fn system_words(self) -> usize
         ensures { λ r. ⌜ r ≡ longestSystem (limitsOf self) ⌝ }
     {
@@ -30,7 +30,7 @@ impl Limits {
         words_for(rows * columns + rows, self.coefficients)
     }
 
-    // The words of the longest certificate.
+    // Counts the words of the longest certificate.
     pub fn certificate_words(self) -> usize
         ensures { λ r. ⌜ r ≡ longestCertificate (limitsOf self) ⌝ }
     {
@@ -58,6 +58,7 @@ impl Office {
 
     pub const FILE_BYTES: usize = 4 * Office::SYSTEM_WORDS;
 
+    // Returns these limits as a value.
     pub fn limits() -> Limits
         ensures { λ r. ⌜ limitsOf r ≡ office ⌝ }
     {
@@ -69,12 +70,14 @@ impl Office {
         }
     }
 
+    // Returns the constant, which its contract ties to the definition.
     pub fn system_words() -> usize
         ensures { λ r. ⌜ r ≡ longestSystem office ⌝ }
     {
         Office::SYSTEM_WORDS
     }
 
+    // Returns the constant, which its contract ties to the definition.
     pub fn certificate_words() -> usize
         ensures { λ r. ⌜ r ≡ longestCertificate office ⌝ }
     {
@@ -98,6 +101,7 @@ impl Panel {
 
     pub const CERTIFICATE_WORDS: usize = 302;
 
+    // Returns these limits as a value.
     pub fn limits() -> Limits
         ensures { λ r. ⌜ limitsOf r ≡ panel ⌝ }
     {
@@ -109,12 +113,14 @@ impl Panel {
         }
     }
 
+    // Returns the constant, which its contract ties to the definition.
     pub fn system_words() -> usize
         ensures { λ r. ⌜ r ≡ longestSystem panel ⌝ }
     {
         Panel::SYSTEM_WORDS
     }
 
+    // Returns the constant, which its contract ties to the definition.
     pub fn certificate_words() -> usize
         ensures { λ r. ⌜ r ≡ longestCertificate panel ⌝ }
     {

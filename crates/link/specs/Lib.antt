@@ -1,7 +1,7 @@
 -- interface: the three demands; what the exported calls give, as one number
 pub mod Theorems
 pub mod Packed
--- what that number means: taken apart, of two files, of the two calls together
+-- interface: what that number means: taken apart, of two files, of the two calls together
 pub mod PackedLaws
 pub mod Checked
 pub mod Together

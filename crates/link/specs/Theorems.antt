@@ -1,14 +1,16 @@
 -- The customer's three demands, each sentence as a field, each proved from the laws below it. "Sheet" is a system here, "card" a
 -- certificate. What a call gives is what its contract says (`crates/link/src/lib.rt`): `SolvesPacked` for the solver's number and bytes,
 -- `checkGives` for the check's number. Each call has a contract without `requires`, so it is proved for all bytes that are lent that
--- it reads and writes nothing beside them and returns.
+-- it reads and writes nothing beside them and returns. Not said here, but by the definitions that contracts cite: that 11 and 12 and the
+-- writers' refusals are given under their conditions only, that the writers leave lent words as they were, and that every value can be
+-- handed to a writer.
 use Prim.Native.Nat.{ℕ, _+_, _*_, _%_, _≤_}
 use mathlib.Core.Path.{_≡_}
 use mathlib.Core.Logic.{_↔_, _⊎_}
 use mathlib.Core.Bool.{true, false, _||_}
 use mathlib.Core.List.{List}
 use lib.ListN.{length}
-use Rattle.words.specs.Limits.{office}
+use Rattle.words.specs.Limits.{office, longestCertificate}
 use Rattle.words.specs.LimitsLaws.{office-fits}
 use Rattle.words.specs.Word.{Bytes}
 use Rattle.words.specs.Outcome.Outcome.{accepted, refused}
@@ -30,9 +32,9 @@ use Rattle.link.specs.Together.{checkedAfter, every-system-checked, refu
 pub record Demand1 : Type 0 where
   pub unchanged : {file entry exit : List ℕ} {r : ℕ} → SolvesPacked office file entry exit r → ¬ (r % 64 ≡ 0) → exit ≡ entry
   -- rows 1 to 9, of a sheet's words; 21 and 24 to 29, of a card's; 10 before all others, of a file
-  pub sheet : (ws : List ℕ) (number place : ℕ)
+  pub system : (ws : List ℕ) (number place : ℕ)
       → (readSystem office ws ≡ refused number place) ↔ ByTable (systemTable office) 0 ws number place
-  pub card : (h : Shape) (cs : List ℕ) (number place : ℕ)
+  pub certificate : (h : Shape) (cs : List ℕ) (number place : ℕ)
       → (readCertificate office h cs ≡ refused number place) ↔ ByTable (certificateTable office h) 20 cs number place
   pub file : (bytes : List ℕ) (number place : ℕ) → (readSystemFile office bytes ≡ refused number place)
       ↔ (((broken bytes || tooLong office bytes ≡ true) × (number ≡ 10) × (place ≡ 0))
@@ -44,8 +46,8 @@ pub record Demand1 : Type 0 where
 pub demand-1 : Demand1
 demand-1 = record {
   unchanged = refused-unchanged;
-  sheet = system-refused-iff office;
-  card = certificate-refused-iff office;
+  system = system-refused-iff office;
+  certificate = certificate-refused-iff office;
   file = file-refused-iff office;
   says = checked-refused-iff;
 }
@@ -55,20 +57,20 @@ demand-1 = record {
 -- within the limits has one written form; it reads back as the same values, and every accepted form writes back as the same words."
 pub record Demand2 : Type 0 where
   pub accepts : (f g : List ℕ) → Bytes f → Bytes g → (checkGives f g ≡ 0) ↔ CertifiedFiles office f g
-  pub sheet-form : (ws : List ℕ) (s : System) → (readSystem office ws ≡ accepted s) ↔ ((ws ≡ systemWords s) × SystemWithin office s)
-  pub sheet-once : (s t : System) → SystemWithin office s → SystemWithin office t → systemWords s ≡ systemWords t → s ≡ t
-  pub card-form : (h : Shape) → ShapeWithin office h → (cs : List ℕ) (c : Certificate)
+  pub system-form : (ws : List ℕ) (s : System) → (readSystem office ws ≡ accepted s) ↔ ((ws ≡ systemWords s) × SystemWithin office s)
+  pub system-once : (s t : System) → SystemWithin office s → SystemWithin office t → systemWords s ≡ systemWords t → s ≡ t
+  pub certificate-form : (h : Shape) → ShapeWithin office h → (cs : List ℕ) (c : Certificate)
       → (readCertificate office h cs ≡ accepted c) ↔ ((cs ≡ certificateWords c) × CertificateWithin office h c)
-  pub card-once : (h : Shape) → ShapeWithin office h → (c e : Certificate) → CertificateWithin office h c → CertificateWithin office h e
+  pub certificate-once : (h : Shape) → ShapeWithin office h → (c e : Certificate) → CertificateWithin office h c → CertificateWithin office h e
       → certificateWords c ≡ certificateWords e → c ≡ e
 
 pub demand-2 : Demand2
 demand-2 = record {
   accepts = checked-iff;
-  sheet-form = system-accepted-iff office office-fits;
-  sheet-once = systemWords-injective office office-fits;
-  card-form = λ h within. certificate-accepted-iff office h office-fits within;
-  card-once = λ h within. certificateWords-injective office h office-fits within;
+  system-form = system-accepted-iff office office-fits;
+  system-once = systemWords-injective office office-fits;
+  certificate-form = λ h within. certificate-accepted-iff office h office-fits within;
+  certificate-once = λ h within. certificateWords-injective office h office-fits within;
 }
 
 -- 3. "However a card came about, whatever its words: once the check accepts it for a sheet, it tells the truth. Its solution solves the
@@ -80,7 +82,7 @@ pub record Demand3 : Type 0 where
   pub truth : (f g : List ℕ) → Bytes f → Bytes g → checkGives f g ≡ 0 → (a : CertifiedFiles office f g) × Says (a .system) (a .certificate)
   pub one-kind : (f g h : List ℕ) → Bytes f → Bytes g → Bytes h → checkGives f g ≡ 0 → checkGives f h ≡ 0
       → (a : CertifiedFiles office f g) × (b : CertifiedFiles office f h) × Agree (a .certificate) (b .certificate)
-  pub solved : (s : System) → SystemWithin office s → {entry exit : List ℕ} {r : ℕ} → 8792 ≤ length entry
+  pub solved : (s : System) → SystemWithin office s → {entry exit : List ℕ} {r : ℕ} → 4 * longestCertificate office ≤ length entry
       → SolvesPacked office (bytesOf (systemWords s)) entry exit r
       → (r % 64 ≡ 0) × (checkedAfter (bytesOf (systemWords s)) exit r ≡ 0)
 

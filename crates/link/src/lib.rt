@@ -1,5 +1,5 @@
-// The product for other programs, exported to C (include/yezsdolak.h): from the bytes of files to one number and the lent bytes. A
-// slice is passed as a pointer and a count of bytes.
+// The product for other programs, exported to C: from the bytes of files to one number and the lent bytes. A slice is passed as a
+// pointer and a count of bytes. The order of the parameters is that of the C header, include/yezsdolak.h.
 use answers::packed::pack_counted;
 use answers::packed::pack_verdict;
 use report::write_report;
@@ -12,7 +12,8 @@ ghost use Rattle.verifier.specs.File.{fileVerdict};
 ghost use Rattle.report.specs.Reporting.{ReportsFile};
 ghost use Rattle.link.specs.Packed.{SolvesPacked};
 
-// Writes a certificate's file for a system's over the first of the lent bytes.
+// Writes a certificate's file for a system's over the first of the lent bytes. Returns the number of its bytes, or the refusal, as
+// one number.
 #[no_mangle]
 pub extern "C" fn yezsdolak_solve(system: &[u8], certificate: &mut [u8]) -> u64
     ensures { λ r. ⌜ SolvesPacked office (now (system .entry)) (now (certificate .entry)) (now (certificate .exit)) r ⌝ }
@@ -20,7 +21,7 @@ pub extern "C" fn yezsdolak_solve(system: &[u8], certificate: &mut [u8]) -> u64
     pack_counted(solve_file(certificate, system))
 }
 
-// Whether a certificate's file is right for a system's.
+// Tells whether a certificate's file is right for a system's: returns 0, or the refusal as one number.
 #[no_mangle]
 pub extern "C" fn yezsdolak_check(system: &[u8], certificate: &[u8]) -> u64
     ensures { λ r. ⌜ r ≡ packedVerdict (fileVerdict office (now (system .entry)) (now (certificate .entry))) ⌝ }
@@ -28,7 +29,7 @@ pub extern "C" fn yezsdolak_check(system: &[u8], certificate: &[u8]) -> u64
     pack_verdict(check_files(system, certificate))
 }
 
-// Writes the report of a system's file over the first of the lent bytes and gives the number of its bytes; 0, and nothing written,
+// Writes the report of a system's file over the first of the lent bytes. Returns the number of its bytes; 0, and nothing written,
 // where fewer than 1,024 are lent.
 #[no_mangle]
 pub extern "C" fn yezsdolak_report(system: &[u8], text: &mut [u8]) -> u64

@@ -13,6 +13,7 @@ use solver::file::solve_file;
 // A byte more than the longest sheet has: what fills it is refused, like all that is longer.
 const INPUT: usize = Office::FILE_BYTES + 1;
 
+// The bytes of the longest card.
 const OUTPUT: usize = 4 * Office::CERTIFICATE_WORDS;
 
 // Prints a refusal on standard error, as the report does.
@@ -22,6 +23,7 @@ fn refuse(refusal: Refusal) {
     io::write_all(STDERR_FILENO, &line[0..n]);
 }
 
+// Solves the sheet in `file`: writes its card to standard output, or prints the refusal.
 fn answer(file: &[u8]) {
     let mut certificate = [0u8; OUTPUT];
     let solved = solve_file(&mut certificate, file);

@@ -13,7 +13,7 @@ ghost use Rattle.residue.specs.Modulus.{ValidModulus};
 ghost use Rattle.polynomial.specs.Value.{Represents};
 ghost use Rattle.loader.specs.Slot.{slot, Holds, Stands, Filled};
 
-// area[d + j] = the payload of words[a + j] for j below n.
+// Stores the payload of words[a + j] at area[d + j] for j below n.
 fn copy_payloads(area: &mut [u64], d: usize, words: &[u32], a: usize, n: usize)
     requires { ⌜ (d + n ≤ length (now area)) × (a + n ≤ length (now words)) ⌝ }
     ensures { λ _. ⌜ now (area .exit) ≡ stored (λ j. payload (getD (now (words .entry)) (a + j) 0)) (now (area .entry)) d n ⌝ }
@@ -25,7 +25,7 @@ fn copy_payloads(area: &mut [u64], d: usize, words: &[u32], a: usize, n: usize)
     }
 }
 
-// The polynomials of the words, of which there are `count`, each into its slot.
+// Loads the `count` polynomials of `words`, each into its slot of `width` words.
 pub fn load(area: &mut [u64], width: usize, words: &[u32], count: usize)
     requires { ⌜ ((fs : List (List ℕ)) × Holds width (now words) fs × (length fs ≡ count)) × (count * width ≤ length (now area)) ⌝ }
     ensures { λ _. ⌜ ((fs : List (List ℕ)) → Holds width (now (words .entry)) fs → length fs ≡ count
@@ -41,7 +41,7 @@ pub fn load(area: &mut [u64], width: usize, words: &[u32], count: usize)
     }
 }
 
-// The coefficients in slot k.
+// Borrows the coefficients in slot k.
 pub fn coefficients_in(area: &[u64], width: usize, k: usize) -> &[u64]
     requires { ⌜ (k * width + width ≤ length (now area)) × (getD (now area) (k * width) 0 < width) ⌝ }
     ensures { λ r. ⌜ now r ≡ slot width (now (area .entry)) k ⌝ }
@@ -52,7 +52,7 @@ pub fn coefficients_in(area: &[u64], width: usize, k: usize) -> &[u64]
     &area[from..to]
 }
 
-// The polynomial in slot k.
+// Returns the polynomial in slot k.
 pub fn polynomial_in(area: &[u64], width: usize, k: usize, m: Modulus) -> Polynomial
     requires { ⌜ ValidModulus m × Filled (m .p) width (now area) k × (width ≤ 257) ⌝ }
     ensures { λ r. ⌜ Represents (m .p) r (slot width (now (area .entry)) k) ⌝ }

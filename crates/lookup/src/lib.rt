@@ -1,5 +1,5 @@
 // The lookup of one polynomial of a system or of a certificate (document 01, end of "Turned back"). `lookup_part` says where it
-// stands, `lookup` gives that part of the lent words, and its companion `lookup_refusal` says why there is none.
+// stands, `lookup` returns that part of the lent words, and its companion `lookup_refusal` says why there is none.
 pub mod part;
 
 use crate::part::Part;
@@ -24,7 +24,7 @@ pub enum Side {
     Certificate,
 }
 
-// Gives the words of the side that is asked for.
+// Borrows the words of the side that is asked for.
 fn words_on<'a>(side: Side, system: &'a [u32], certificate: &'a [u32]) -> &'a [u32]
     ensures { λ r. ⌜ (now r ≡ on (sideOf side) (now (system .entry)) (now (certificate .entry)))
         × (r .ptr ≡ on (sideOf side) (system .entry .ptr) (certificate .entry .ptr)) ⌝ }
@@ -63,7 +63,7 @@ pub fn lookup_part(
     }
 }
 
-// Gives the part that `lookup_part` tells of the lent words: the words of that polynomial; empty on a refusal.
+// Borrows the part that `lookup_part` tells of the lent words: the words of that polynomial; empty on a refusal.
 pub fn lookup<'a>(
     system: &'a [u32],
     certificate: &'a [u32],

@@ -1,14 +1,14 @@
 -- Words copied to zeros and reduced there: the words of the value that they stand for.
-use mathlib.Core.Path.{_≡_, sym, ap, _∙_, subst}
+use mathlib.Core.Path.{_≡_, sym, ap, _∙_}
 use mathlib.Core.Logic.{⊎-elim, inr}
 use mathlib.Core.List.{List}
 use Prim.Native.Nat.{ℕ, _+_, _%_, _≤_, _<_}
-use native.Mathlib.Nat.{zero-add, zero-mod, mod-lt, mod-mod}
+use native.Mathlib.Nat.{zero-mod, mod-lt, mod-mod}
 use native.Mathlib.Omega.{arith}
 use lib.ListN.{length, getD, take, drop}
 use Rattle.algebra.specs.Coefficients.{coefficient}
 use Rattle.modular.specs.Modulo.{modulo}
-use Rattle.vector.specs.Stored.{stored, stored-inside, stored-outside, length-stored, below-or-not}
+use Rattle.vector.specs.Stored.{stored, stored-first, stored-outside, length-stored, below-or-not}
 use Rattle.vector.specs.Reduced.{polynomial, canonical-reduced, coefficient-reduced, word-inside, word-behind}
 use Rattle.vector.specs.Moved.{polynomial-stored}
 use Rattle.polynomial.specs.Value.{Represents, represents}
@@ -21,16 +21,11 @@ pub record Copied (words : List ℕ) (a n : ℕ) (zeros copied : List ℕ) : Typ
   pub zero : (i : ℕ) → getD zeros i 0 ≡ 0
   pub copies : copied ≡ stored (λ j. getD words (a + j) 0) zeros 0 n
 
--- the word at j of what is stored from the first place on
-stored-at : (f : ℕ → ℕ) (l : List ℕ) (n j : ℕ) → n ≤ length l → j < n → getD (stored f l 0 n) j 0 ≡ f j
-stored-at f l n j room lt =
-    subst (λ (i : ℕ). getD (stored f l 0 n) i 0 ≡ f j) (zero-add j) (stored-inside f l 0 n j (omega arith) lt)
-
 module _ {words : List ℕ} {a n : ℕ} {zeros copied : List ℕ} (by : Copied words a n zeros copied) where
   pub copied-word : (j : ℕ) → j < n → getD copied j 0 ≡ getD words (a + j) 0
   copied-word j lt =
       ap (λ (l : List ℕ). getD l j 0) (by .copies)
-      ∙ stored-at (λ j. getD words (a + j) 0) zeros n j (omega (arith, by .few, by .room)) lt
+      ∙ stored-first (λ j. getD words (a + j) 0) zeros n j (omega (arith, by .few, by .room)) lt
 
   long : length copied ≡ 256
   long = ap length (by .copies) ∙ length-stored (λ j. getD words (a + j) 0) zeros 0 n ∙ by .room
@@ -39,7 +34,7 @@ module _ {words : List ℕ} {a n : ℕ} {zeros copied : List ℕ} (by : Copied w
     residue-word : (j : ℕ) → j < n → getD residues j 0 ≡ getD words (a + j) 0 % p
     residue-word j lt =
         ap (λ (l : List ℕ). getD l j 0) reduces
-        ∙ stored-at (λ j. getD copied j 0 % p) copied n j (omega (arith, by .few, long)) lt
+        ∙ stored-first (λ j. getD copied j 0 % p) copied n j (omega (arith, by .few, long)) lt
         ∙ ap (λ (x : ℕ). x % p) (copied-word j lt)
 
     pub residue-small : (j : ℕ) → j < n → getD residues j 0 < p

@@ -6,7 +6,7 @@ ghost use lib.ListN.{length, take};
 ghost use Rattle.polynomial.specs.Value.{coefficientsOf};
 ghost use Rattle.polynomial.specs.Decides.{Decides};
 
-// Whether the first n words of both are the same.
+// Tells whether the first n words of f and g are the same.
 fn same_words(f: &[u64], g: &[u64], n: usize) -> bool
     requires { ⌜ (n ≤ length (now f)) × (n ≤ length (now g)) ⌝ }
     ensures { λ r. ⌜ Decides r (take n (now (f .entry)) ≡ take n (now (g .entry))) ⌝ }
@@ -22,6 +22,7 @@ fn same_words(f: &[u64], g: &[u64], n: usize) -> bool
 }
 
 impl Polynomial {
+    // Tells whether self and g are equal.
     pub fn equal(self, g: Polynomial) -> bool
         requires { ⌜ (self .size ≤ 256) × (g .size ≤ 256) ⌝ }
         ensures { λ r. ⌜ Decides r (coefficientsOf self ≡ coefficientsOf g) ⌝ }

@@ -9,7 +9,7 @@ ghost use Rattle.modular.specs.Modulo.{modulo};
 ghost use Rattle.residue.specs.Modulus.{ValidModulus};
 ghost use Rattle.polynomial.specs.Value.{coefficientsOf, ValidPolynomial, Represents};
 
-// The larger of two sizes.
+// Returns the larger of two sizes.
 pub fn larger(a: usize, b: usize) -> usize
     ensures { λ r. ⌜ r ≡ max a b ⌝ }
 {
@@ -17,7 +17,7 @@ pub fn larger(a: usize, b: usize) -> usize
 }
 
 impl Polynomial {
-    // self + c g. A sum, a difference and a multiple are each one of these.
+    // Returns self + c g. A sum, a difference and a multiple are each one of these.
     pub fn add_multiple(self, c: u64, g: Polynomial, m: Modulus) -> Polynomial
         requires { ⌜ ValidModulus m × ValidPolynomial (m .p) self × (c < m .p) × ValidPolynomial (m .p) g ⌝ }
         ensures { λ r. ⌜ Represents (m .p) r (add (modulo (m .p)) (coefficientsOf self) (scale (modulo (m .p)) c (coefficientsOf g))) ⌝ }
@@ -27,6 +27,7 @@ impl Polynomial {
         Polynomial::from_words(&h, 0, larger(self.size, g.size), m)
     }
 
+    // Returns self + g.
     pub fn add(self, g: Polynomial, m: Modulus) -> Polynomial
         requires { ⌜ ValidModulus m × ValidPolynomial (m .p) self × ValidPolynomial (m .p) g ⌝ }
         ensures { λ r. ⌜ Represents (m .p) r (add (modulo (m .p)) (coefficientsOf self) (coefficientsOf g)) ⌝ }
@@ -34,6 +35,7 @@ impl Polynomial {
         self.add_multiple(1, g, m)
     }
 
+    // Returns self - g.
     pub fn subtract(self, g: Polynomial, m: Modulus) -> Polynomial
         requires { ⌜ ValidModulus m × ValidPolynomial (m .p) self × ValidPolynomial (m .p) g ⌝ }
         ensures { λ r. ⌜ Represents (m .p) r (subtract (modulo (m .p)) (coefficientsOf self) (coefficientsOf g)) ⌝ }
@@ -41,7 +43,7 @@ impl Polynomial {
         self.add_multiple(m.p - 1, g, m)
     }
 
-    // c self.
+    // Returns c self.
     pub fn scale(self, c: u64, m: Modulus) -> Polynomial
         requires { ⌜ ValidModulus m × ValidPolynomial (m .p) self × (c < m .p) ⌝ }
         ensures { λ r. ⌜ Represents (m .p) r (scale (modulo (m .p)) c (coefficientsOf self)) ⌝ }
@@ -49,7 +51,7 @@ impl Polynomial {
         Polynomial::zero().add_multiple(c, self, m)
     }
 
-    // The monic associate; the zero polynomial's is zero.
+    // Divides by the leading coefficient; zero stays zero.
     pub fn monic(self, m: Modulus) -> Polynomial
         requires { ⌜ ValidModulus m × ValidPolynomial (m .p) self ⌝ }
         ensures { λ r. ⌜ Represents (m .p) r (monic (modulo (m .p)) (coefficientsOf self)) ⌝ }

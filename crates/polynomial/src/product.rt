@@ -12,7 +12,8 @@ ghost use Rattle.vector.specs.Bound.{AtMost};
 ghost use Rattle.polynomial.specs.Value.{coefficientsOf, ValidPolynomial, Represents};
 ghost use Rattle.polynomial.specs.Product.{GainsProduct};
 
-// h += f g, for n words of f and k words of g: a row c x^i g for each coefficient c of f. The words of h may be sums of many products.
+// Adds f g to h, for n words of f and k words of g: a row c x^i g for each coefficient c of f. The words of h may be sums of many
+// products.
 pub fn add_rows(h: &mut [u64], f: &[u64], n: usize, g: &[u64], k: usize)
     requires { ⌜ (n ≤ length (now f)) × (k ≤ length (now g)) × (n + k ≤ length (now h) + 1) × (n ≤ 256) ⌝ }
     requires small { ⌜ AtMost 4611686018427387904 (now h) × AtMost 65535 (now f) × AtMost 65535 (now g) ⌝ }
@@ -26,7 +27,7 @@ pub fn add_rows(h: &mut [u64], f: &[u64], n: usize, g: &[u64], k: usize)
 }
 
 impl Polynomial {
-    // self + f g: what a growing sum of products is made of.
+    // Returns self + f g.
     pub fn add_product(self, f: Polynomial, g: Polynomial, m: Modulus) -> Polynomial
         requires { ⌜ ValidModulus m × ValidPolynomial (m .p) self × ValidPolynomial (m .p) f × ValidPolynomial (m .p) g ⌝ }
         requires room { ⌜ f .size + g .size ≤ 257 ⌝ }
@@ -38,6 +39,7 @@ impl Polynomial {
         Polynomial::from_words(&h, 0, larger(self.size + 1, f.size + g.size) - 1, m)
     }
 
+    // Returns self g.
     pub fn multiply(self, g: Polynomial, m: Modulus) -> Polynomial
         requires { ⌜ ValidModulus m × ValidPolynomial (m .p) self × ValidPolynomial (m .p) g × (self .size + g .size ≤ 257) ⌝ }
         ensures { λ r. ⌜ Represents (m .p) r (mul (modulo (m .p)) (coefficientsOf self) (coefficientsOf g)) ⌝ }

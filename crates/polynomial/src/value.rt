@@ -22,7 +22,7 @@ pub struct Polynomial {
     pub coefficients: [u64; 256],
 }
 
-// Words to compute in.
+// Returns words to compute in, all 0.
 pub fn zeros() -> [u64; 256]
     ensures { λ r. ⌜ (length r ≡ 256) × ((i : ℕ) → getD r i 0 ≡ 0) ⌝ }
 {
@@ -30,7 +30,7 @@ pub fn zeros() -> [u64; 256]
 }
 
 impl Polynomial {
-    // The zero polynomial.
+    // Returns the zero polynomial.
     pub fn zero() -> Polynomial
         ensures { λ r. ⌜ ((p : ℕ) → Represents p r []) ⌝ }
     {
@@ -41,7 +41,7 @@ impl Polynomial {
         }
     }
 
-    // The polynomial 1.
+    // Returns the polynomial 1.
     pub fn one() -> Polynomial
         ensures { λ r. ⌜ ((p : ℕ) → 1 < p → Represents p r (one (modulo p))) ⌝ }
     {
@@ -53,7 +53,7 @@ impl Polynomial {
         }
     }
 
-    // The polynomial that n words from the place a on stand for: sums that need not be reduced, with zeros at the end.
+    // Returns the polynomial that n words from the place a on stand for: sums that need not be reduced, with zeros at the end.
     pub fn from_words(words: &[u64], a: usize, n: usize, m: Modulus) -> Polynomial
         requires { ⌜ ValidModulus m × (n ≤ 256) × (a + n ≤ length (now words)) ⌝ }
         requires small { ⌜ ((i : ℕ) → i < n → SmallSum (m .p) (getD (now words) (a + i) 0)) ⌝ }
@@ -69,14 +69,14 @@ impl Polynomial {
         }
     }
 
-    // Whether it is the zero polynomial.
+    // Tells whether it is the zero polynomial.
     pub fn is_zero(self) -> bool
         ensures { λ r. ⌜ Decides r (coefficientsOf self ≡ []) ⌝ }
     {
         self.size == 0
     }
 
-    // The coefficient of the highest power; the zero polynomial's is 0.
+    // Returns the coefficient of the highest power; the zero polynomial's is 0.
     pub fn leading(self) -> u64
         requires { ⌜ self .size ≤ 256 ⌝ }
         ensures { λ r. ⌜ ((p : ℕ) → r ≡ leading (modulo p) (coefficientsOf self)) ⌝ }
@@ -88,7 +88,7 @@ impl Polynomial {
         self.coefficients[n - 1]
     }
 
-    // Whether the leading coefficient is 1.
+    // Tells whether the leading coefficient is 1.
     pub fn is_monic(self) -> bool
         requires { ⌜ self .size ≤ 256 ⌝ }
         ensures { λ r. ⌜ ((p : ℕ) → r ≡ eqb (leading (modulo p) (coefficientsOf self)) 1) ⌝ }

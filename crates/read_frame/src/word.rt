@@ -2,14 +2,14 @@
 ghost use mathlib.Core.Path.{_≡_};
 ghost use Rattle.words.specs.Word.{kind, payload};
 
-// The top four bits.
+// Returns the top four bits.
 pub fn kind_of(word: u32) -> u32
     ensures { λ r. ⌜ r ≡ kind word ⌝ }
 {
     word / 268435456
 }
 
-// The other 28 bits.
+// Returns the other 28 bits.
 pub fn payload_of(word: u32) -> u32
     ensures { λ r. ⌜ r ≡ payload word ⌝ }
 {

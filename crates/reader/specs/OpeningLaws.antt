@@ -38,9 +38,9 @@ stops true {number} {place} m next e =
     rw (en, ep) refl
 stops false m next e = absurd (let z : _≡_ {A = ℕ} 0 1 = cc in omega arith)
 
-not-right : (a b : Bool) → a || b ≡ false → b ≡ false
-not-right true b e = absurd (let z : _≡_ {A = ℕ} 0 1 = cc in omega arith)
-not-right false b e = e
+pub or-right : (a b : Bool) → a || b ≡ false → b ≡ false
+or-right true b e = absurd (let z : _≡_ {A = ℕ} 0 1 = cc in omega arith)
+or-right false b e = e
 
 module _ {limit : ℕ} {bytes before after : List ℕ} {told : Outcome ℕ} (opened : Opened limit bytes before after told) where
   -- 10, before anything else
@@ -79,7 +79,7 @@ module _ {limit : ℕ} {bytes before after : List ℕ} {told : Outcome ℕ} (ope
     -- and all of them where there was room for `limit` bytes
     pub opened-all : limit ≤ 4 * length before → take n after ≡ wordsOf bytes
     opened-all room =
-        let short = ltb-false limit (length bytes) (not-right (broken bytes) (ltb limit (length bytes)) (passed .0)) in
+        let short = ltb-false limit (length bytes) (or-right (broken bytes) (ltb limit (length bytes)) (passed .0)) in
         opened-first
         ∙ ap (λ (i : ℕ). take i (wordsOf bytes)) (min-eq-left {m = length before} (omega (arith, length-wordsOf bytes, short)))
         ∙ take-length (wordsOf bytes)

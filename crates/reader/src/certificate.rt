@@ -37,7 +37,7 @@ fn read_head(words: &[u32]) -> CertificateRead
     CertificateRead::Refused(Refusal { number: 21, place })
 }
 
-// Gives the number of polynomials of a certificate.
+// Returns the number of polynomials of a certificate.
 fn entry_count(form: Form, shape: Shape) -> u32
     ensures { λ r. ⌜ r ≡ entryCount (shapeOf shape) (formOf form) ⌝ }
 {

@@ -13,8 +13,8 @@ ghost use Rattle.words.specs.Bytes.{readSystemFile};
 ghost use Rattle.answers.specs.Answer.{countedOutcome, systemOutcome};
 ghost use Rattle.reader.specs.Opening.{Opened};
 
-// Writes the words of a file over the first of `words`, as many as there is room for, and gives their number. Number 10 where the
-// bytes are not whole words or are more than `limit`; the lent words then stay.
+// Writes the words of a file over the first of `words`, as many as there is room for. Returns their number. Refuses with number 10
+// where the bytes are not whole words or are more than `limit`; `words` then stay.
 pub fn open_file(words: &mut [u32], bytes: &[u8], limit: usize) -> Counted
     ensures { λ r. ⌜ Opened limit (now (bytes .entry)) (now (words .entry)) (now (words .exit)) (countedOutcome r) ⌝ }
 {

@@ -21,7 +21,7 @@ fn word_at(bytes: &[u8], at: usize) -> u32
     word_of(bytes[at], bytes[at + 1], bytes[at + 2], bytes[at + 3])
 }
 
-// Writes the words of `bytes` over the first of `words`, as many as there is room for, and gives their number. The others stay.
+// Writes the words of `bytes` over the first of `words`, as many as there is room for. Returns their number. The others stay.
 pub fn unpack(words: &mut [u32], bytes: &[u8]) -> usize
     ensures { λ r. ⌜ Unpacked (now (bytes .entry)) (now (words .entry)) (now (words .exit)) r ⌝ }
 {

@@ -21,7 +21,7 @@ ghost use Rattle.report_text.specs.Longest.{reportSpace};
 ghost use Rattle.solver.specs.Certified.{Read};
 ghost use Rattle.report.specs.Reporting.{Given, ReportsFile};
 
-// Writes the report of a system that was read.
+// Writes the report of a system that was read. Returns the number of its bytes.
 fn report_read(out: &mut [u8], system: &[u32], shape: Shape) -> usize
     requires { ⌜ Read (shapeOf shape) (now system) × (reportSpace ≤ length (now out)) ⌝ }
     ensures { λ r. ⌜ Given (readSystem office (now (system .entry))) (now (out .entry)) (now (out .exit)) r ⌝ }
@@ -37,7 +37,7 @@ fn report_read(out: &mut [u8], system: &[u32], shape: Shape) -> usize
     }
 }
 
-// Writes the report of the words of a file.
+// Writes the report of the words of a file. Returns the number of its bytes.
 fn report_words(out: &mut [u8], system: &[u32]) -> usize
     requires { ⌜ reportSpace ≤ length (now out) ⌝ }
     ensures { λ r. ⌜ Given (readSystem office (now (system .entry))) (now (out .entry)) (now (out .exit)) r ⌝ }
@@ -49,8 +49,8 @@ fn report_words(out: &mut [u8], system: &[u32]) -> usize
     }
 }
 
-// Writes the report of a system's file over the first of the lent bytes and gives the number of its bytes. Where fewer than `SPACE`
-// are lent, it writes nothing and gives 0.
+// Writes the report of a system's file over the first of the lent bytes. Returns the number of its bytes. Where fewer than `SPACE`
+// are lent, writes nothing and returns 0.
 pub fn write_report(out: &mut [u8], file: &[u8]) -> usize
     ensures { λ r. ⌜ ReportsFile office (now (file .entry)) (now (out .entry)) (now (out .exit)) r ⌝ }
 {

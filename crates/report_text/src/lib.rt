@@ -17,10 +17,10 @@ ghost use Rattle.report_text.specs.Written.{Written};
 mod line;
 mod text;
 
-// No report has more bytes: so many are lent.
+// The bytes to lend: no report has more.
 pub const SPACE: usize = 1024;
 
-// Writes a solution's report, from the coefficients of its denominator d, lowest first. Gives the number of its bytes.
+// Writes a solution's report, from the coefficients of its denominator d, lowest first. Returns the number of its bytes.
 pub fn write_solution(out: &mut [u8], d: &[u64]) -> usize
     requires { ⌜ DenominatorWithin office (now d) × (reportSpace ≤ length (now out)) ⌝ }
     ensures { λ r. ⌜ Written (reportText (accepted (least (now (d .entry))))) (now (out .entry)) (now (out .exit)) r ⌝ }
@@ -30,7 +30,7 @@ pub fn write_solution(out: &mut [u8], d: &[u64]) -> usize
     append_feedback(out, second, d)
 }
 
-// Writes the report that there is no solution. Gives the number of its bytes.
+// Writes the report that there is no solution. Returns the number of its bytes.
 pub fn write_none(out: &mut [u8]) -> usize
     requires { ⌜ reportSpace ≤ length (now out) ⌝ }
     ensures { λ r. ⌜ Written (reportText (accepted none)) (now (out .entry)) (now (out .exit)) r ⌝ }
@@ -38,7 +38,7 @@ pub fn write_none(out: &mut [u8]) -> usize
     append(out, 0, b"answer none\n")
 }
 
-// Writes the report of a refusal. Gives the number of its bytes.
+// Writes the report of a refusal. Returns the number of its bytes.
 pub fn write_refusal(out: &mut [u8], refusal: Refusal) -> usize
     requires { ⌜ reportSpace ≤ length (now out) ⌝ }
     ensures { λ r. ⌜ Written (reportText (refusedBy refusal)) (now (out .entry)) (now (out .exit)) r ⌝ }

@@ -6,7 +6,7 @@ ghost use mathlib.Core.Path.{_≡_};
 ghost use Rattle.report_text.specs.Text.{degree, denominatorLine, feedbackLine};
 ghost use Rattle.report_text.specs.Written.{Room, Appended};
 
-// The second line: the coefficients of d, lowest first.
+// Appends the second line: the coefficients of d, lowest first.
 pub fn append_denominator(out: &mut [u8], at: usize, d: &[u64]) -> usize
     requires { ⌜ Room (denominatorLine (now d)) (now out) at ⌝ }
     ensures { λ r. ⌜ Appended (denominatorLine (now (d .entry))) (now (out .entry)) at (now (out .exit)) r ⌝ }
@@ -16,7 +16,7 @@ pub fn append_denominator(out: &mut [u8], at: usize, d: &[u64]) -> usize
     append(out, listed, b"\n")
 }
 
-// The third line: the degree of d.
+// Appends the third line: the degree of d.
 pub fn append_feedback(out: &mut [u8], at: usize, d: &[u64]) -> usize
     requires { ⌜ Room (feedbackLine (now d)) (now out) at ⌝ }
     ensures { λ r. ⌜ Appended (feedbackLine (now (d .entry))) (now (out .entry)) at (now (out .exit)) r ⌝ }
@@ -25,6 +25,7 @@ pub fn append_feedback(out: &mut [u8], at: usize, d: &[u64]) -> usize
     append(out, numbered, b"\n")
 }
 
+// Returns the degree of d; 0 where it has no coefficients.
 fn degree_of(d: &[u64]) -> u64
     ensures { λ r. ⌜ r ≡ degree (now (d .entry)) ⌝ }
 {

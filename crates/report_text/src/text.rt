@@ -1,10 +1,11 @@
-// Text appended to what stands in lent bytes: each function writes from the place `at` on and gives the place behind what it wrote.
+// Text appended to what stands in lent bytes: each function writes from the place `at` on and returns the place behind what it
+// wrote.
 ghost use mathlib.Core.List.{_++_, map};
 ghost use Rattle.report_text.specs.Decimal.{decimal};
 ghost use Rattle.report_text.specs.Text.{spaced, allSpaced};
 ghost use Rattle.report_text.specs.Written.{Room, Appended};
 
-// The bytes of `text`.
+// Appends the bytes of `text`.
 pub fn append(out: &mut [u8], at: usize, text: &[u8]) -> usize
     requires { ⌜ Room (now text) (now out) at ⌝ }
     ensures { λ r. ⌜ Appended (now (text .entry)) (now (out .entry)) at (now (out .exit)) r ⌝ }
@@ -17,7 +18,7 @@ pub fn append(out: &mut [u8], at: usize, text: &[u8]) -> usize
     at + j
 }
 
-// The number n in decimal.
+// Appends the number n in decimal.
 fn append_decimal(out: &mut [u8], at: usize, n: u64) -> usize
     requires { ⌜ Room (decimal n) (now out) at ⌝ }
     ensures { λ r. ⌜ Appended (decimal n) (now (out .entry)) at (now (out .exit)) r ⌝ }
@@ -27,7 +28,7 @@ fn append_decimal(out: &mut [u8], at: usize, n: u64) -> usize
     append(out, at, &digits[..count])
 }
 
-// The number n as a part of a line, behind a space.
+// Appends the number n as a part of a line, behind a space.
 fn append_number(out: &mut [u8], at: usize, n: u64) -> usize
     requires { ⌜ Room (spaced (decimal n)) (now out) at ⌝ }
     ensures { λ r. ⌜ Appended (spaced (decimal n)) (now (out .entry)) at (now (out .exit)) r ⌝ }
@@ -36,7 +37,7 @@ fn append_number(out: &mut [u8], at: usize, n: u64) -> usize
     append_decimal(out, next, n)
 }
 
-// A label, and the number n behind it.
+// Appends a label, and the number n behind it.
 pub fn append_labelled(out: &mut [u8], at: usize, label: &[u8], n: u64) -> usize
     requires { ⌜ Room (now label ++ spaced (decimal n)) (now out) at ⌝ }
     ensures { λ r. ⌜ Appended (now (label .entry) ++ spaced (decimal n)) (now (out .entry)) at (now (out .exit)) r ⌝ }
@@ -45,7 +46,7 @@ pub fn append_labelled(out: &mut [u8], at: usize, label: &[u8], n: u64) -> usize
     append_number(out, next, n)
 }
 
-// The numbers in their order, each behind a space.
+// Appends the numbers in their order, each behind a space.
 pub fn append_numbers(out: &mut [u8], at: usize, numbers: &[u64]) -> usize
     requires { ⌜ Room (allSpaced (map decimal (now numbers))) (now out) at ⌝ }
     ensures { λ r. ⌜ Appended (allSpaced (map decimal (now (numbers .entry)))) (now (out .entry)) at (now (out .exit)) r ⌝ }

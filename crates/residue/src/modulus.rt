@@ -16,7 +16,7 @@ pub struct Modulus {
 }
 
 impl Modulus {
-    // The modulus p, with its shift and reciprocal. `scale` is 2^shift throughout.
+    // Returns the modulus p, with its shift and reciprocal. `scale` is 2^shift throughout.
     pub fn new(p: u64) -> Modulus
         requires { ⌜ Prime p × (p ≤ 65521) ⌝ }
         ensures { λ r. ⌜ ValidModulus r × (r .p ≡ p) ⌝ }
@@ -34,7 +34,7 @@ impl Modulus {
         }
     }
 
-    // a + b modulo p.
+    // Returns a + b modulo p.
     pub fn add(self, a: u64, b: u64) -> u64
         requires { ⌜ ValidModulus self × (a < self .p) × (b < self .p) ⌝ }
         ensures { λ r. ⌜ r ≡ modulo (self .p) .add a b ⌝ }
@@ -42,7 +42,7 @@ impl Modulus {
         self.wrap(a + b)
     }
 
-    // -a modulo p. What is not 0 needs no reduction, and a compiler makes the test a choice without a branch.
+    // Returns -a modulo p. What is not 0 needs no reduction, and a compiler makes the test a choice without a branch.
     pub fn neg(self, a: u64) -> u64
         requires { ⌜ ValidModulus self × (a < self .p) ⌝ }
         ensures { λ r. ⌜ r ≡ modulo (self .p) .neg a ⌝ }
@@ -50,7 +50,7 @@ impl Modulus {
         if a == 0 { 0 } else { self.p - a }
     }
 
-    // a - b modulo p.
+    // Returns a - b modulo p.
     pub fn sub(self, a: u64, b: u64) -> u64
         requires { ⌜ ValidModulus self × (a < self .p) × (b < self .p) ⌝ }
         ensures { λ r. ⌜ r ≡ modulo (self .p) .add a (modulo (self .p) .neg b) ⌝ }
@@ -58,7 +58,7 @@ impl Modulus {
         self.wrap(a + (self.p - b))
     }
 
-    // a b modulo p. By the reciprocal, which is faster than `%`.
+    // Returns a b modulo p. By the reciprocal, which is faster than `%`.
     pub fn mul(self, a: u64, b: u64) -> u64
         requires { ⌜ ValidModulus self × (a < self .p) × (b < self .p) ⌝ }
         ensures { λ r. ⌜ r ≡ modulo (self .p) .mul a b ⌝ }
@@ -66,7 +66,7 @@ impl Modulus {
         self.reduce(a * b)
     }
 
-    // The inverse of a modulo p, by the descent of its definition: it is `factor` times the inverse of `rest` throughout.
+    // Returns the inverse of a modulo p, by the descent of its definition: it is `factor` times the inverse of `rest` throughout.
     pub fn inverse(self, a: u64) -> u64
         requires { ⌜ ValidModulus self × (0 < a) × (a < self .p) ⌝ }
         ensures { λ r. ⌜ r ≡ modulo (self .p) .inverse a ⌝ }
@@ -81,7 +81,7 @@ impl Modulus {
         factor
     }
 
-    // x modulo p, of a sum of products that was left unreduced.
+    // Returns x modulo p, of a sum of products that was left unreduced.
     pub fn reduce(self, x: u64) -> u64
         requires { ⌜ ValidModulus self × SmallSum (self .p) x ⌝ }
         ensures { λ r. ⌜ r ≡ x % self .p ⌝ }
@@ -89,8 +89,8 @@ impl Modulus {
         self.wrap(self.barrett_step(x))
     }
 
-    // x modulo p, for x below 2p: bit 32 of the sum is set where p is to be taken off. There is no branch in it, so that loops over
-    // it become vector code.
+    // Returns x modulo p, for x below 2p: bit 32 of the sum is set where p is to be taken off. There is no branch in it, so that
+    // loops over it become vector code.
     fn wrap(self, x: u64) -> u64
         requires { ⌜ ValidModulus self × (x < self .p + self .p) ⌝ }
         ensures { λ r. ⌜ r ≡ x % self .p ⌝ }
@@ -99,8 +99,8 @@ impl Modulus {
         x - ((x + (4294967296 - p)) >> 32) % 4294967296 * p
     }
 
-    // x less a multiple of p, which the reciprocal estimates. No factor has more than 32 bits: the remainders by 2^32 only tell the
-    // compiler so, which then has a vector instruction for the product.
+    // Returns x less a multiple of p, which the reciprocal estimates. No factor has more than 32 bits: the remainders by 2^32 only
+    // tell the compiler so, which then has a vector instruction for the product.
     fn barrett_step(self, x: u64) -> u64
         requires { ⌜ ValidModulus self × SmallSum (self .p) x ⌝ }
         ensures { λ r. ⌜ BarrettStep (self .p) x r ⌝ }

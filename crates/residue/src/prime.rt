@@ -2,7 +2,7 @@
 ghost use mathlib.Core.Path.{_≡_};
 ghost use Rattle.modular.specs.Prime.{prime?};
 
-// Whether p is prime. A number with no divisor from 2 up to its square root has none at all, so the division stops there.
+// Tells whether p is prime. A number with no divisor from 2 up to its square root has none at all, so the division stops there.
 pub fn is_prime(p: u16) -> bool
     ensures { λ r. ⌜ r ≡ prime? p ⌝ }
 {

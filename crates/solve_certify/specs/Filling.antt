@@ -25,7 +25,7 @@ use Rattle.reduction.specs.Filling.{filledWith, filled-with-blocks, filled-link
 use Rattle.reduction.specs.Levels.{level-of}
 use Rattle.reduction.specs.Descent.{Descent, Turn, descent-turn}
 use Rattle.solve_lattice.specs.declared.stage.Stage.{Stage}
-use Rattle.solve_lattice.specs.Room.{blockWords, rowsWords}
+use Rattle.solve_lattice.specs.Room.{blockWords, slotPlaces}
 use Rattle.solve_lattice.specs.Memory.{row, height, Level, slotSize, slotInverse, ValidLevel}
 use Rattle.solve_lattice.specs.Sums.{sums-room}
 use Rattle.solve_lattice.specs.Reading.{ends-pivot}
@@ -171,7 +171,7 @@ module _ {s : Stage} {input : List ℕ} {L : Level} {quotients output : List ℕ
   pub left-reducible : Reducible (s .modulus .p) rest blockWords
   left-reducible i lt = omega (
     arith,
-    sums-room (s .modulus .p) rest (rowsWords + left) (omega (arith, given .stage .modulus .prime .large)) (C .divided .sums) i,
+    sums-room (s .modulus .p) rest (slotPlaces + left) (omega (arith, given .stage .modulus .prime .large)) (C .divided .sums) i,
   )
 
   fill-valid : ValidLevel (s .modulus .p) (filled (s .modulus .p) L (row left) rest left)

@@ -1,14 +1,14 @@
--- what is asked
+-- inside: the right side at the top; what is asked of it
 pub mod Witnessed
--- laws on words
+-- inside: laws on words
 pub mod Words
--- the right side inserted
+-- inside: the right side inserted
 pub mod Inserted
--- its two ends
+-- inside: its two ends
 pub mod Denominator
 pub mod Solution
 pub mod Absence
--- that both are what is asked
+-- inside: that both are what is asked
 pub mod Found
 -- interface: what the solver's loops do as a whole
 pub mod Certifies

@@ -15,7 +15,7 @@ ghost use Rattle.solve_lattice.specs.Output.{ValidOutput};
 ghost use Rattle.solve_certify.specs.Inserted.{HasStuck};
 ghost use Rattle.solve_certify.specs.Absence.{AbsenceFound};
 
-// Stores q in the output, from the last level, of n rows, into which the right side was inserted and got stuck at row h: minus the
+// Stores q in `output`, from the last level, of n rows, into which the right side was inserted and got stuck at row h: minus the
 // rows of the second system's solution, but for w at place h.
 pub fn find_absence(output: &mut Output, level: &Level, n: usize, h: usize, modulus: Modulus)
     requires { ⌜ ValidModulus modulus × (n ≤ lanes) × (h < lanes) × ValidLevel (modulus .p) (now level) ⌝ }

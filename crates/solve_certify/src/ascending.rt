@@ -24,10 +24,9 @@ ghost use Rattle.solve_certify.specs.Dropping.{Spanned};
 ghost use Rattle.solve_certify.specs.Filling.{Fills};
 ghost use Rattle.solve_certify.specs.Rising.{Leaves};
 
-// Goes from the level of the first columns of the stage to a certificate, but for the numerators of these columns; the coefficients
-// of what is left of d b in the blocks of the level go to the quotients, which are 0 at the start. The level is then as before.
-// Returns whether there is a solution. What is left of the stage's column when it is divided by the slots decides what becomes of
-// it.
+// Makes a certificate in `output`, but for the numerators of the columns that are in `level`, the first of the stage; stores the
+// coefficients of what is left of d b in the blocks of `level` in `quotients`, which are 0. Leaves `level` as before. Returns
+// whether there is a solution. What is left of the stage's column when it is divided by the slots decides what becomes of it.
 pub fn ascend(
     output: &mut Output,
     quotients: &mut Product,

@@ -18,8 +18,8 @@ ghost use Rattle.solve_lattice.specs.Output.{ValidOutput};
 ghost use Rattle.solve_certify.specs.Falling.{Fallen};
 
 // Takes the stage's column off what is left of d b, whose coefficients in the blocks of `upper`, the level that the column's
-// insertion made, are the quotients: stores its numerator in the output, and makes the quotients those of what is left in the
-// blocks of `level`. The kernel of the insertion has `size` words.
+// insertion made, are `quotients`: stores its numerator in `output`, and in `quotients` the coefficients of what is then left in
+// the blocks of `level`. The kernel of the insertion has `size` words.
 pub fn descend(
     quotients: &mut Product,
     output: &mut Output,

@@ -18,8 +18,8 @@ ghost use Rattle.solve_lattice.specs.Memory.{ValidLevel};
 ghost use Rattle.solve_lattice.specs.Input.{ValidInput};
 ghost use Rattle.solve_certify.specs.Inserted.{Inserted};
 
-// Inserts the right side, which stands behind the columns of the input, with tail 1 into a copy of the level: the slots go to
-// `next`, the tail that is left to `tail`, both 0 at the start. Returns how many words are left of the right side's block.
+// Inserts the right side, which stands behind the columns of `input`, with tail 1 into a copy of `level`: stores the slots in
+// `next` and the tail that is left in `tail`, which are 0. Returns how many words are left of the right side's block.
 pub fn insert_side(
     next: &mut Level,
     tail: &mut Tail,

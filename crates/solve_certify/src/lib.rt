@@ -1,4 +1,5 @@
-// The solver's loops as a whole: from a system in memory to its certificate.
+// The solver on memory, from a system to its certificate: up over the columns and down again (ascending; descending, dropping), and
+// at the top the right side inserted and the second system solved (witness; insertion, solution, absence).
 pub mod absence;
 pub mod ascending;
 pub mod descending;
@@ -22,7 +23,8 @@ ghost use Rattle.solve_lattice.specs.Input.{ValidInput};
 ghost use Rattle.solve_lattice.specs.Output.{ValidOutput};
 ghost use Rattle.solve_certify.specs.Certifies.{HasSystem, Certifies};
 
-// Stores the certificate of the system in the input, of so many rows and columns, in the output. Returns whether it is a solution.
+// Stores the certificate of the system in `input`, of `rows` rows and `columns` columns, in `output`. Returns whether there is a
+// solution.
 pub fn certify(
     output: &mut Output,
     input: &Input,
@@ -43,8 +45,8 @@ pub fn certify(
         column: 0,
         modulus,
     };
-    // with this second call the compiler keeps `find_witness`, which has large arrays, out of `ascend`, of which each column has
-    // one
+    // no system that was read has 0 columns; but with this second call the compiler keeps `find_witness`, which has large arrays,
+    // out of `ascend`, of which each column has one
     if columns == 0 {
         return find_witness(output, &mut quotients, &level, input, stage);
     }

@@ -7,10 +7,10 @@ use solve_lattice::Level;
 use solve_lattice::Output;
 use solve_lattice::PRODUCT;
 use solve_lattice::Product;
+use solve_lattice::ROWS;
 use solve_lattice::Stage;
 use solve_lattice::Tail;
 use solve_lattice::divide;
-use solve_second::ROWS;
 use solve_second::Side;
 use solve_second::make_monic;
 use solve_second::multiply;
@@ -30,8 +30,8 @@ ghost use Rattle.solve_certify.specs.Inserted.{HasVanished};
 ghost use Rattle.solve_certify.specs.Denominator.{HasTail, HasDenominator};
 ghost use Rattle.solve_certify.specs.Solution.{storedSolution, SolutionFound};
 
-// Stores the tail made monic, d, and d times the right side behind the columns of the input in t, which is 0 at the start. Returns
-// the number of coefficients of d.
+// Stores `tail` made monic in d, and d times the right side, which stands behind the columns of `input`, in `t`, which is 0.
+// Returns the number of coefficients of d.
 pub fn find_denominator(
     d: &mut Block,
     t: &mut Product,
@@ -54,7 +54,7 @@ pub fn find_denominator(
     size
 }
 
-// Stores d, w and the n rows of Z at their places in the output of a system of m columns; those of the numerators, between d and w,
+// Stores d, w and the n rows of Z at their places in `output`, of a system of m columns; those of the numerators, between d and w,
 // stay as they are.
 fn store_solution(output: &mut Output, d: &Block, w: &Block, rows: &[u64; ROWS], n: usize, m: usize)
     requires { ⌜ (n ≤ lanes) × (m ≤ lanes) ⌝ }
@@ -66,9 +66,9 @@ fn store_solution(output: &mut Output, d: &Block, w: &Block, rows: &[u64; ROWS],
     copy(output, BLOCK * (2 + m), rows, 0, BLOCK * n);
 }
 
-// Stores d, w and Z in the output, and adds the coefficients of d b in the blocks of the level to the quotients, which are 0 at the
-// start. `next` and `tail` are what the insertion of the right side into a copy of the level left, when its block became zero. By
-// L8, d and the second system's w have together at most 122 coefficients.
+// Stores d, w and Z in `output`, and the coefficients of d b in the blocks of `level` in `quotients`, which are 0. `next` and
+// `tail` are what the insertion of the right side into a copy of `level` left, when its block became zero. By L8, d and the second
+// system's w have together at most 122 coefficients.
 pub fn find_solution(
     output: &mut Output,
     quotients: &mut Product,

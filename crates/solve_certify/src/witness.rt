@@ -17,9 +17,9 @@ ghost use Rattle.solve_lattice.specs.Input.{ValidInput};
 ghost use Rattle.solve_lattice.specs.Output.{ValidOutput};
 ghost use Rattle.solve_certify.specs.Witnessed.{HasLast, Witnessed};
 
-// Finds what decides whether a system has a solution, from its last level. Where it has one: stores d, w and Z in the output and
-// adds the coefficients of d b in the blocks of the level to the quotients, which are 0 at the start; returns true. Where it has
-// none: stores q in the output and returns false.
+// Finds what decides whether a system has a solution, from its last level. Where it has one: stores d, w and Z in `output` and the
+// coefficients of d b in the blocks of `level` in `quotients`, which are 0; returns true. Where it has none: stores q in `output`
+// and returns false.
 pub fn find_witness(
     output: &mut Output,
     quotients: &mut Product,

@@ -25,6 +25,7 @@ use Rattle.solve_lattice.specs.Word.{words, words-first, words-inside}
 use Rattle.solve_lattice.specs.Range.{words-upper, words-lower, zero-word}
 use Rattle.residue.specs.Sum.{SmallSum, sum-fits}
 use Rattle.solve_lattice.specs.Room.{productWords, blockWords, tailWords}
+use Rattle.solve_lattice.proofs.Stepping.{cancelled}
 use Rattle.solve_descent.specs.Product.{less}
 use Rattle.solve_descent.specs.Kernel.{ValidKernel, Lessened, TakesKernel}
 use Rattle.solve_descent.proofs.Products.{product-most}
@@ -36,11 +37,6 @@ pub record Reducing (p : ℕ) (y₀ kernel : List ℕ) (k : ℕ) (y : List ℕ) 
   pub behind : ZeroFrom p y 0 tailWords k
   pub holds : (prime : Prime p) (x u : Polynomial (residues p prime)) → Holds (residues p prime) (words p prime y₀ 0 tailWords) x
       → Holds (residues p prime) (words p prime kernel 0 blockWords) u → Lessened p prime x u y
-
--- h - (h·i)·u is zero for u·i = 1
-cancelled : {K : Type 0} (R : Ring K) (h u i : K) → R .mul u i ≡ R .one → R .add h (R .neg (R .mul (R .mul h i) u)) ≡ R .zero
-cancelled R h u i e = combination R (R .add h (R .neg (R .mul (R .mul h i) u))) (R .zero) (given (R .neg h) e ∷ [])
-    (identity R (h ∷ u ∷ i ∷ []) (λ ρ qh qu qi. search quotes depth 16) refl)
 
 -- h is zero if h·i is, for u·i = 1
 vanishing : {K : Type 0} (R : Ring K) (h u i : K) → R .mul u i ≡ R .one → R .mul h i ≡ R .zero → h ≡ R .zero

@@ -19,7 +19,7 @@ use Rattle.reduction.specs.Flat.{flat}
 use Rattle.solve_lattice.specs.Memory.{ZeroFrom}
 use Rattle.solve_lattice.specs.Word.{residue-zero, words, words-behind}
 use Rattle.solve_lattice.specs.Range.{words-upper, words-lower}
-use Rattle.solve_lattice.specs.Room.{tailWords}
+use Rattle.solve_lattice.specs.Room.{mostFactors}
 use Rattle.solve_descent.specs.Read.{read-suc, read-zeros}
 use Rattle.solve_descent.specs.Product.{strided, less, TakesProduct}
 use Rattle.solve_descent.specs.Held.{none-held}
@@ -79,10 +79,10 @@ module _ {p w : ℕ} {h₀ f : List ℕ} {b v : ℕ} {s : List ℕ} {a m : ℕ} 
     c = p - getD f (b + k * v) 0
 
     -- no sum is too large
-    pub product-sum : (n : ℕ) → k < n → n ≤ tailWords → p ≤ 65521 → AtMost 281474976710656 h₀ → (j : ℕ) → j < m
+    pub product-sum : (n : ℕ) → k < n → n ≤ mostFactors → p ≤ 65521 → AtMost 281474976710656 h₀ → (j : ℕ) → j < m
         → sumAt h (k * w) s a (p - getD f (b + k * v) 0) j < 18446744073709551616
     product-sum n lt most limit words₀ j inside =
-        let few : k ≤ tailWords = omega arith in
+        let few : k ≤ mostFactors = omega arith in
         let square : p * p ≤ 65521 * 65521 = mul-le-mul limit limit in
         omega (
           arith,

@@ -2,7 +2,7 @@
 use Prim.Native.Nat.{ℕ, _+_, _-_, _*_, _<_, _≤_, min}
 use mathlib.Core.Path.{_≡_, _∙_, ap}
 use native.Mathlib.Omega.{arith}
-use Rattle.solve_lattice.specs.Room.{productWords, blockWords, tailWords}
+use Rattle.solve_lattice.specs.Room.{productWords, blockWords, mostFactors}
 use Rattle.solve_descent.specs.Blocks.{mostTerms, blockTerms}
 
 -- the lesser of the two bounds
@@ -13,5 +13,5 @@ pub terms-room : (degrees size : ℕ) {k : ℕ} → k ≡ blockTerms degrees siz
 terms-room degrees size is within = (omega arith, omega arith)
 
 pub terms-fit : (q size : ℕ) {k t f : ℕ} → (k ≤ 136) × (k * 8 + size ≤ productWords + 8) → productWords ≤ t → productWords ≤ f
-    → (k ≤ tailWords) × (k * 8 + size ≤ t + 8) × (7 - q + k * 8 < f + 8)
+    → (k ≤ mostFactors) × (k * 8 + size ≤ t + 8) × (7 - q + k * 8 < f + 8)
 terms-fit q size room long factors = (omega arith, omega arith, omega arith)

@@ -1,7 +1,7 @@
 -- The sum of quotient times block over the slots of a level: the vector that the quotients are the coefficients of.
 use Prim.Native.Nat.{ℕ, _-_, _*_, _/_, _<_, _≤_, min}
 use mathlib.Core.List.{List}
-use Rattle.solve_lattice.specs.Room.{productWords}
+use Rattle.solve_lattice.specs.Room.{productWords, combinationProducts}
 use Rattle.algebra.specs.Polynomial.{Polynomial}
 use Rattle.algebra.specs.Size.{size}
 use Rattle.modular.specs.Prime.{Prime}
@@ -23,7 +23,7 @@ abbrev pub blockTerms : ℕ → ℕ → ℕ
 blockTerms degrees size = min degrees (mostTerms size)
 
 pub record CombinesBlocks (p : ℕ) (L : Level) (n : ℕ) (quotients quotients′ t : List ℕ) : Type 0 where
-  pub bound : AtMost (productWords * (p * p)) t
+  pub bound : AtMost (combinationProducts * (p * p)) t
   pub cleared : AtMost 0 quotients′
   pub holds : (prime : Prime p) (U : Slots (Polynomial (residues p prime))) (v : ℕ → Polynomial (residues p prime))
       → HoldsSlots p prime n unweighted L U → HoldsCoefficients p prime n U v quotients

@@ -62,8 +62,8 @@ fn subtract_blocks(
     }
 }
 
-// Stores the sum of quotient times block over the first `rows` slots of `level` in t, which is 0, in sums that are not reduced. The
-// quotients, of so many degrees, are negated for that, and then cleared.
+// Stores the sum of quotient times block over the first `rows` slots of `level` in `t`, which is 0, in sums that are not reduced.
+// Negates the first `degrees` degrees of `quotients` for that, then clears them.
 pub fn combine_blocks(
     t: &mut Product,
     quotients: &mut Product,

@@ -15,11 +15,11 @@ ghost use Prim.Native.Nat.{ℕ, _+_, _*_, _<_, _≤_};
 ghost use lib.ListN.{getD};
 ghost use Rattle.residue.specs.Modulus.{ValidModulus};
 ghost use Rattle.vector.specs.Bound.{AtMost};
-ghost use Rattle.solve_lattice.specs.Room.{blockWords, inputWords, outputWords};
+ghost use Rattle.solve_lattice.specs.Room.{blockWords, inputWords, outputWords, combinationProducts};
 ghost use Rattle.solve_descent.specs.Column.{TakesColumn};
 
-// Stores minus y, the coordinate, in `output` from `place` on, and takes the coordinate times the column, the block of `input`
-// from `at` on, off the block t, in sums that are not reduced.
+// Stores minus y, the coordinate, in `output` from `place` on, and takes the coordinate times the column, the block of `input` from
+// `at` on, off `t`, in sums that are not reduced.
 pub fn take_column(
     t: &mut Product,
     output: &mut Output,
@@ -30,7 +30,7 @@ pub fn take_column(
     modulus: Modulus,
 )
     requires { ⌜ ValidModulus modulus × (place + blockWords ≤ outputWords) × (at + blockWords ≤ inputWords) ⌝ }
-    requires block { ⌜ AtMost (1088 * (modulus .p * modulus .p)) (now t) ⌝ }
+    requires block { ⌜ AtMost (combinationProducts * (modulus .p * modulus .p)) (now t) ⌝ }
     requires coordinates { ⌜ ((i : ℕ) → getD (now output) i 0 < modulus .p) ⌝ }
     requires sums { ⌜ AtMost (1344 * (modulus .p * modulus .p)) (now y) ⌝ }
     requires column { ⌜ ((i : ℕ) → getD (now input) i 0 < modulus .p) ⌝ }

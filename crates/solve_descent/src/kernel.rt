@@ -7,13 +7,14 @@ use vector::add_scaled;
 ghost use Prim.Native.Nat.{_*_};
 ghost use Rattle.residue.specs.Modulus.{ValidModulus};
 ghost use Rattle.vector.specs.Bound.{AtMost};
+ghost use Rattle.solve_lattice.specs.Room.{combinationProducts};
 ghost use Rattle.solve_descent.specs.Kernel.{ValidKernel, TakesKernel};
 
 // Takes multiples of `kernel`, of which `size` words count, off y until fewer than `size` words are left. Where the level has no
 // kernel, the size is 0 and nothing is done.
 pub fn reduce_by_kernel(y: &mut Tail, kernel: &Block, size: usize, modulus: Modulus)
     requires { ⌜ ValidModulus modulus × ValidKernel (modulus .p) (now kernel) size ⌝ }
-    requires sums { ⌜ AtMost (1088 * (modulus .p * modulus .p)) (now y) ⌝ }
+    requires sums { ⌜ AtMost (combinationProducts * (modulus .p * modulus .p)) (now y) ⌝ }
     ensures { λ _. ⌜ TakesKernel (modulus .p) (now (y .entry)) (now (kernel .entry)) size (now (y .exit)) ⌝ }
 {
     if size == 0 {

@@ -8,7 +8,7 @@ ghost use lib.ListN.{length, getD};
 ghost use Rattle.vector.specs.Stored.{stored};
 ghost use Rattle.solve_lattice.specs.Room.{lanes, blockWords};
 
-// Stores quotients[8 * e + lane] at to[at + e] for e below 128.
+// Stores quotients[LANES * e + lane] at to[at + e] for e below BLOCK.
 pub fn gather_lane(to: &mut [u64], at: usize, quotients: &Product, lane: usize)
     requires { ⌜ (lane < lanes) × (at + blockWords ≤ length (now to)) ⌝ }
     ensures { λ _. ⌜ now (to .exit) ≡ stored (λ e. getD (now (quotients .entry)) (lanes * e + lane) 0)

@@ -1,22 +1,18 @@
-// The way down, for a column that was inserted: by its coefficients in the level above, a vector is taken apart into the column's
-// coordinate and a vector of the span below.
+// The way down from d·b to the numerators, a column a turn: descend_column for a column that was inserted, lower_quotients for one
+// that filled an empty slot. Below both: products, lanes and negatives of words.
 pub mod blocks;
+pub mod bound;
 pub mod combination;
 pub mod coordinate;
 pub mod kernel;
+pub mod lane;
+pub mod lowering;
+pub mod multiple;
+pub mod negated;
+pub mod product;
 pub mod quotients;
 pub mod search;
 pub mod turn;
-
-// Words in lanes, one lane or eight: a product taken off them, one lane taken out, and negatives.
-pub mod bound;
-pub mod lane;
-pub mod negated;
-pub mod product;
-
-// The way down by quotients: the coefficients of a vector in the slots of a level become those in the slots of the level below.
-pub mod lowering;
-pub mod multiple;
 
 pub use bound::min;
 pub use lane::gather_lane;

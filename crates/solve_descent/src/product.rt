@@ -5,6 +5,7 @@ ghost use Prim.Native.Nat.{ℕ, _+_, _*_, _<_, _≤_};
 ghost use lib.ListN.{length, getD};
 ghost use Rattle.residue.specs.Modulus.{ValidModulus};
 ghost use Rattle.vector.specs.Bound.{AtMost};
+ghost use Rattle.solve_lattice.specs.Room.{mostFactors};
 ghost use Rattle.solve_descent.specs.Product.{TakesProduct};
 
 // Where the coefficients of a polynomial stand in an array: `count` of them, at `at`, `at + step`, `at + 2·step`, ..
@@ -25,7 +26,7 @@ pub fn subtract_product(
     m: usize,
     modulus: Modulus,
 )
-    requires { ⌜ ValidModulus modulus × (terms .count ≤ 256) × (terms .count * w + m ≤ length (now h) + w)
+    requires { ⌜ ValidModulus modulus × (terms .count ≤ mostFactors) × (terms .count * w + m ≤ length (now h) + w)
         × (a + m ≤ length (now s)) ⌝ }
     requires factors { ⌜ (terms .at + terms .count * terms .step < length (now f) + terms .step)
         × ((i : ℕ) → getD (now f) i 0 < modulus .p) ⌝ }

@@ -16,8 +16,8 @@ ghost use Rattle.solve_descent.specs.Degrees.{FewDegrees};
 ghost use Rattle.solve_descent.specs.Kernel.{ValidKernel};
 ghost use Rattle.solve_descent.specs.Coordinate.{FindsCoordinate};
 
-// Finds the coordinate of a column: `quotients`, of so many degrees, are the coefficients of a vector in the first `rows` slots of
-// `level`. y, which is 0, becomes minus that combination of their tails, modulo the kernel, in sums that are not reduced.
+// Stores in y, which is 0, minus the combination of the tails of the first `rows` slots of `level` by `quotients`, which have
+// `degrees` degrees, modulo `kernel`, of which `size` words count, in sums that are not reduced.
 pub fn find_coordinate(
     y: &mut Tail,
     quotients: &Product,

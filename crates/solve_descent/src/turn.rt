@@ -20,10 +20,10 @@ ghost use Rattle.solve_lattice.specs.Memory.{ValidLevel};
 ghost use Rattle.solve_descent.specs.Kernel.{ValidKernel};
 ghost use Rattle.solve_descent.specs.Turn.{Turned};
 
-// Takes the column of the stage off a vector in the span of the level `upper` behind it, given by its coefficients, `quotients`. Of
-// the level's kernel `size` words count. The coordinate of the column goes to its polynomial of `output`, and `rest`, which is 0,
-// becomes the vector less the coordinate times the column, in sums that are not reduced. `quotients` are left all 0, so that `rest`
-// can be divided at once.
+// Takes the column of the stage off a vector in the span of `upper`, the level that the column's insertion made; `quotients` are
+// the vector's coefficients there, and of `kernel` `size` words count. Stores the coordinate of the column as its polynomial of
+// `output`, and the vector less the coordinate times the column in `rest`, which is 0, in sums that are not reduced. Clears
+// `quotients`, so that `rest` can be divided at once.
 pub fn descend_column(
     rest: &mut Product,
     output: &mut Output,

@@ -22,7 +22,7 @@ use Rattle.reduction.specs.Moves.{Taken}
 use Rattle.reduction.specs.Division.{start, step, quotient, division-on}
 use Rattle.reduction.specs.Holds.{monomial}
 use Rattle.reduction.specs.Flat.{flat, flat-step}
-use Rattle.solve_lattice.specs.Room.{productWords, rowsWords}
+use Rattle.solve_lattice.specs.Room.{productWords, slotPlaces}
 use Rattle.solve_lattice.specs.declared.step.Remains.{Remains}
 use Rattle.solve_lattice.specs.Word.{residue, residue-mod, residue-add, words, words-first}
 use Rattle.solve_lattice.specs.Memory.{row, height, Ends, Level, slotSize, Sums, ValidLevel}
@@ -42,7 +42,7 @@ pub record Dividing (p : ℕ) (L : Level) (block₀ quotients₀ block quotients
   pub places : k ≤ length quotients₀
   pub ends : Ends p block 0 productWords k
   pub leading : 0 < k → value ≡ getD block (k - 1) 0 % p
-  pub sums : Sums p (rowsWords + k) block
+  pub sums : Sums p (slotPlaces + k) block
   pub below : (i : ℕ) → getD quotients i 0 < p
   pub divides : (prime : Prime p) (n : ℕ) (ω : ℕ → ℕ) (f : Dividend p prime n ω L block₀)
       → Divides p prime n ω (f .slots) (f .vector) block quotients
@@ -60,7 +60,7 @@ module _ {p : ℕ} (prime₀ : Prime p) {L : Level} {block₀ quotients₀ : Lis
     places = places;
     ends = ends;
     leading = leading;
-    sums = sums-fewer p block₀ 2112 (rowsWords + k) (omega (arith, ends .within)) sums;
+    sums = sums-fewer p block₀ 2112 (slotPlaces + k) (omega (arith, ends .within)) sums;
     below = λ i. omega (arith, zeros i, prime₀ .large);
     divides = λ prime n ω f. record {
       rest = f .vector;
@@ -204,8 +204,8 @@ module _ {p : ℕ} (prime₀ : Prime p) {L : Level} {block₀ quotients₀ : Lis
       places = omega (arith, so-far .places, T .fewer);
       ends = T .ends;
       leading = T .leading;
-      sums = sums-fewer p block′ (rowsWords + k - 1) (rowsWords + r .size) (omega (arith, T .fewer))
-          (Stepping.step-sums p prime₀ S (r .factor) (T .factor) block′ (T .words) (rowsWords + k) (omega arith)
+      sums = sums-fewer p block′ (slotPlaces + k - 1) (slotPlaces + r .size) (omega (arith, T .fewer))
+          (Stepping.step-sums p prime₀ S (r .factor) (T .factor) block′ (T .words) (slotPlaces + k) (omega arith)
           (omega (arith, S .ends .within)) (so-far .sums));
       below = below-set;
       divides = divides;

@@ -26,8 +26,8 @@ use Rattle.solve_lattice.specs.Sums.{sums-room, sums-step}
 use Rattle.solve_lattice.specs.Step.{factorOf, HasStep, Rest, Left}
 use Rattle.solve_lattice.specs.Range.{zero-word, words-upper, words-lower, zero-kept}
 
--- h less h/u times u
-cancelled : {K : Type 0} (R : Ring K) (h u i : K) → R .mul u i ≡ R .one → R .add h (R .neg (R .mul (R .mul h i) u)) ≡ R .zero
+-- h - (h·i)·u is zero for u·i = 1
+pub cancelled : {K : Type 0} (R : Ring K) (h u i : K) → R .mul u i ≡ R .one → R .add h (R .neg (R .mul (R .mul h i) u)) ≡ R .zero
 cancelled R h u i e = combination R (R .add h (R .neg (R .mul (R .mul h i) u))) (R .zero) (given (R .neg h) e ∷ [])
     (identity R (h ∷ u ∷ i ∷ []) (λ ρ qh qu qi. search quotes depth 16) refl)
 

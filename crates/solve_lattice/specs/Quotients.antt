@@ -11,7 +11,7 @@ use Rattle.reduction.specs.Span.{InSpan}
 use Rattle.reduction.specs.Division.{Division, quotient}
 use Rattle.reduction.specs.Holds.{Holds}
 use Rattle.reduction.specs.Flat.{Flat, flat}
-use Rattle.solve_lattice.specs.Room.{productWords, rowsWords}
+use Rattle.solve_lattice.specs.Room.{productWords, slotPlaces}
 use Rattle.solve_lattice.specs.Word.{words}
 use Rattle.solve_lattice.specs.Memory.{Level, Ends, Sums}
 use Rattle.solve_lattice.specs.Holding.{HoldsSlots}
@@ -37,10 +37,10 @@ module _ (p : ℕ) (prime : Prime p) (n : ℕ) (ω : ℕ → ℕ) where
     pub holds : Flat (residues p prime) n 8 ω (words p prime block 0 productWords) vector
 
 -- What is left of the block has so many words, none where the vector is in the span of the slots. It may be inserted into them as
--- it is: its sums have room for 1024 places of the slots and its own.
+-- it is: its sums have room for all places of the slots and its own.
 pub record Divided (p : ℕ) (L : Level) (block block′ quotients : List ℕ) (left : ℕ) : Type 0 where
   pub ends : Ends p block′ 0 productWords left
-  pub sums : Sums p (rowsWords + left) block′
+  pub sums : Sums p (slotPlaces + left) block′
   pub below : (i : ℕ) → getD quotients i 0 < p
   pub divides : (prime : Prime p) (n : ℕ) (ω : ℕ → ℕ) (f : Dividend p prime n ω L block)
       → Divides p prime n ω (f .slots) (f .vector) block′ quotients

@@ -28,7 +28,7 @@ inversesFrom = 2064
 abbrev pub levelWords : ℕ
 levelWords = 2072
 
--- words of a long block, of the input, and of the output
+-- words of a long block, of the input, of the output, and of 8 polynomials
 abbrev pub productWords : ℕ
 productWords = 1088
 
@@ -38,6 +38,15 @@ inputWords = 1152
 abbrev pub outputWords : ℕ
 outputWords = 2304
 
--- words of 8 polynomials
 abbrev pub rowsWords : ℕ
 rowsWords = 1024
+
+-- bounds of what is added up in a word: places of the blocks of all slots; terms of a product; products of a combination of slots
+abbrev pub slotPlaces : ℕ
+slotPlaces = 1024
+
+abbrev pub mostFactors : ℕ
+mostFactors = 256
+
+abbrev pub combinationProducts : ℕ
+combinationProducts = 1088

@@ -36,7 +36,7 @@ pub fn lengthen(
 }
 
 // Makes one turn of `insert`, where the slot at the pivot is filled: makes the longer of the hand and that slot the hand, and takes
-// the multiple of the other off it that takes its leading word away.
+// the multiple of the other off it that takes its leading word away. Returns what the hand then is.
 pub fn turn(
     level: &mut Level,
     block: &mut [u64],

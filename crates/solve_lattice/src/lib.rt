@@ -1,4 +1,4 @@
-// The two loops of the solver on memory: a vector is inserted into the slots of a level, and a vector is divided by them.
+// The bottom of the solver: how levels, input and output lie in memory (room), and the two loops on them, insert and divide.
 pub mod division;
 pub mod hand;
 pub mod insertion;
@@ -22,6 +22,7 @@ pub use room::OUTPUT;
 pub use room::Output;
 pub use room::PRODUCT;
 pub use room::Product;
+pub use room::ROWS;
 pub use room::SIZES;
 pub use room::SLOT;
 pub use room::TAIL;

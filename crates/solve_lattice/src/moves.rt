@@ -43,7 +43,8 @@ pub fn add_tail(h: &mut [u64], d: usize, s: &[u64], a: usize, n: usize, c: u64)
     }
 }
 
-// Takes the multiple of the slot at the pivot off the hand, `block` and `tail`, that takes its leading word away.
+// Takes the multiple of the slot at the pivot off the hand, `block` and `tail`, that takes its leading word away. Returns what the
+// hand then is.
 pub fn take_from_hand(
     block: &mut [u64],
     tail: &mut Tail,
@@ -79,7 +80,8 @@ pub fn take_from_hand(
     }
 }
 
-// Exchanges the hand with the slot at its pivot, which may be empty. What goes into the slot is reduced.
+// Exchanges the hand with the slot at its pivot, which may be empty; reduces what goes into the slot. Returns what the hand then
+// is.
 pub fn swap_with_slot(
     level: &mut Level,
     block: &mut [u64],

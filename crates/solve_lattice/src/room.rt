@@ -7,21 +7,23 @@ pub const BLOCK: usize = 128;
 // Words of the tail of a hand.
 pub const TAIL: usize = 256;
 // Words of a slot: its block, then its tail.
-pub const SLOT: usize = 256;
-// In a level, behind its 8 slots: where the sizes of the blocks begin, those of the tails, and the inverses of the last words.
-pub const SIZES: usize = 2048;
-
-pub const TAIL_SIZES: usize = 2056;
-
-pub const INVERSES: usize = 2064;
-
-pub const LEVEL: usize = 2072;
+pub const SLOT: usize = 2 * BLOCK;
+// Where the sizes of the blocks begin in a level, behind its slots.
+pub const SIZES: usize = LANES * SLOT;
+// Where the sizes of the tails begin in a level.
+pub const TAIL_SIZES: usize = SIZES + LANES;
+// Where the inverses of the last words of the blocks begin in a level.
+pub const INVERSES: usize = TAIL_SIZES + LANES;
+// Words of a level.
+pub const LEVEL: usize = INVERSES + LANES;
 // Words of a long block, 136 degrees in 8 lanes: a block times a denominator, or quotients.
 pub const PRODUCT: usize = 1088;
+// Words of 8 polynomials.
+pub const ROWS: usize = LANES * BLOCK;
 // Words of the input: a block for each of 8 columns, and one for the right side.
-pub const INPUT: usize = 1152;
-// Words of the output: 18 polynomials.
-pub const OUTPUT: usize = 2304;
+pub const INPUT: usize = (LANES + 1) * BLOCK;
+// Words of the output: two polynomials, d and w, and one for each of 8 columns and 8 rows.
+pub const OUTPUT: usize = (2 + 2 * LANES) * BLOCK;
 
 pub type Level = [u64; LEVEL];
 

@@ -61,7 +61,7 @@ pub fn words_unseen(k: usize, n: usize) -> usize
     k - 2
 }
 
-// Takes the multiple of the slot at the pivot off `block` that takes its leading word away.
+// Takes the multiple of the slot at the pivot off `block` that takes its leading word away. Returns what that leaves.
 pub fn take_multiple(block: &mut [u64], level: &Level, found: Leading, modulus: Modulus) -> Remains
     requires { ⌜ ValidModulus modulus ⌝ }
     requires step { ⌜ HasStep (modulus .p) (now level) (now block) (found .size) (found .value) ⌝ }
@@ -89,8 +89,9 @@ pub fn take_multiple(block: &mut [u64], level: &Level, found: Leading, modulus: 
     }
 }
 
-// Finds size and leading word of what a step leaves: n words, the last of them known where value is not 0, else at most `unseen`.
-// By a branch, which the processor foresees where p is large: a size computed from the value would have the next step wait for it.
+// Finds size and leading word of what a step leaves: n words, the last of them `value` where that is not 0, else at most `unseen`
+// words. Branches on `value`, which the processor foresees where p is large: a size computed from `value` would have the next step
+// wait for it.
 pub fn find_rest(block: &[u64], n: usize, value: u64, unseen: usize, modulus: Modulus) -> Leading
     requires { ⌜ ValidModulus modulus ⌝ }
     requires rest { ⌜ Rest (modulus .p) (now block) n value unseen ⌝ }

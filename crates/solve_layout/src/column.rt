@@ -13,7 +13,7 @@ ghost use Rattle.solve_layout.specs.Column.{FitsSlot, ColumnStored};
 // The width of a slot: a number of coefficients, and 16 of these.
 pub const WIDTH: usize = 17;
 
-// Stores column j: the polynomial of row i is in slot first + step i of the area.
+// Stores column j: the polynomial of row i is in slot first + step i of `area`.
 pub fn store_column(
     input: &mut Input,
     j: usize,

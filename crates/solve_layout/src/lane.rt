@@ -4,14 +4,14 @@ ghost use Prim.Native.Nat.{_+_, _<_};
 ghost use lib.ListN.{length, getD};
 ghost use Rattle.solve_lattice.specs.LaneStored.{lane};
 
-// Coefficient e of f, 0 behind its last.
+// Returns coefficient e of f, 0 behind its last.
 pub fn coefficient(f: &[u64], e: usize) -> u64
     ensures { λ r. ⌜ r ≡ getD (now (f .entry)) e 0 ⌝ }
 {
     if e < f.len() { f[e] } else { 0 }
 }
 
-// h[d + 8 e] = coefficient e of f, for e below 16.
+// Stores coefficient e of f at h[d + LANES * e] for each degree e of a block.
 pub fn store_lane(h: &mut [u64], d: usize, f: &[u64])
     requires { ⌜ d + 120 < length (now h) ⌝ }
     ensures { λ _. ⌜ now (h .exit) ≡ lane (λ e. getD (now (f .entry)) e 0) (now (h .entry)) d 16 ⌝ }

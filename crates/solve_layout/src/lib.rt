@@ -17,8 +17,8 @@ ghost use Rattle.solve_layout.specs.Column.{FitsSlot};
 ghost use Rattle.solve_layout.specs.Matrix.{LaidOut};
 ghost use Rattle.solve_layout.specs.HasWords.{HasWords};
 
-// Lays out the polynomials of an area as `load` leaves it, A row by row, then b: column j in its block of the input, b behind the
-// last column.
+// Lays out the polynomials of `area` as `load` leaves it, A row by row, then b: column j in its block of `input`, b behind the last
+// column.
 fn lay_area(input: &mut Input, area: &[u64], rows: usize, columns: usize)
     requires { ⌜ (rows ≤ lanes) × (columns ≤ lanes) × (length (now input) ≡ inputWords) ⌝ }
     requires slots { ⌜ ((k : ℕ) → k < rows * columns + rows → FitsSlot (now area) k) ⌝ }
@@ -32,7 +32,7 @@ fn lay_area(input: &mut Input, area: &[u64], rows: usize, columns: usize)
     store_column(input, columns, area, rows * columns, 1, rows);
 }
 
-// Lays out the system of these words, which were read and accepted, in an input that is all 0.
+// Lays out the system of `words`, which were read and accepted, in `input`, which is 0.
 pub fn lay_system(input: &mut Input, words: &[u32], rows: usize, columns: usize)
     requires { ⌜ ((s : System) × HasWords s (now words) rows columns) ⌝ }
     requires area { ⌜ (length (now input) ≡ inputWords) × AtMost 0 (now input) ⌝ }

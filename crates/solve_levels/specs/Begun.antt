@@ -26,14 +26,14 @@ use Rattle.solve_lattice.specs.Range.{words-zero, words-shorter, ends-same}
 use Rattle.solve_lattice.specs.Sums.{sums-fewer}
 use Rattle.solve_lattice.specs.Reading.{flat-same}
 use Rattle.solve_lattice.specs.Insertion.{Starts}
-use Rattle.solve_lattice.specs.Room.{productWords, rowsWords, blockWords, tailWords}
+use Rattle.solve_lattice.specs.Room.{productWords, slotPlaces, blockWords, tailWords}
 use Rattle.solve_levels.specs.Cleared.{held-extend}
 
 -- a column in memory: a block of 128 words, of which so many count, in sums with room for an insertion
 pub record ValidColumn (p : ℕ) (column : List ℕ) (size : ℕ) : Type 0 where
   pub room : length column ≡ blockWords
   pub ends : Ends p column 0 blockWords size
-  pub sums : Sums p (rowsWords + size) column
+  pub sums : Sums p (slotPlaces + size) column
 
 abbrev pub begun : ℕ → List ℕ → ℕ → Hand
 begun p column size = record { size = size; leading = getD column (size - 1) 0 % p; tail = 1 }
@@ -77,7 +77,7 @@ module _ {p : ℕ} (prime₀ : Prime p) {column : List ℕ} {size : ℕ} (valid 
     leading = λ some. refl;
     tail-within = omega arith;
     tail = tail-zero;
-    sums = sums-fewer p column (rowsWords + size) (places (memory L column tail′ (begun p column size)))
+    sums = sums-fewer p column (slotPlaces + size) (places (memory L column tail′ (begun p column size)))
         (omega (
           arith,
           total-le 8 (slotSize L) (λ q. blockWords) (λ q h. level .slot q h .block .within),

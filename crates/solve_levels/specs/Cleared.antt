@@ -22,7 +22,7 @@ use Rattle.solve_lattice.specs.Memory.{row, height, Ends, Level, slotSize, tail
 use Rattle.solve_lattice.specs.Holding.{HoldsSlots}
 use Rattle.solve_lattice.specs.Range.{words-same, words-zero}
 use Rattle.solve_lattice.specs.Reading.{flat-same}
-use Rattle.solve_lattice.specs.Room.{levelWords, sizesFrom, blockWords, slotWords, tailWords}
+use Rattle.solve_lattice.specs.Room.{levelWords, sizesFrom, blockWords, slotWords}
 use Rattle.solve_levels.specs.Copied.{Copied}
 
 -- the level L′ has the blocks of L and no tails
@@ -54,7 +54,7 @@ copied-copies {p} {L} {L′} valid copied = record {
     block q j h lt (inr not) = copied .others q j h (omega arith) (λ l. not)
         ∙ sym (sym (mod-eq-of-lt (valid .below (slotWords * q + j) (omega arith))) ∙ valid .slot q h .block .behind j not lt)
 
-    below : (q j : ℕ) → q < 8 → j < tailWords → getD L′ (slotWords * q + j) 0 < p
+    below : (q j : ℕ) → q < 8 → j < slotWords → getD L′ (slotWords * q + j) 0 < p
     below q j h lt = ⊎-elim
         (λ counts. omega (arith, copied .blocks q j h counts, valid .below (slotWords * q + j) (omega arith)))
         (λ not. omega (arith, copied .others q j h lt (λ l. not), valid .below 0 (omega arith)))

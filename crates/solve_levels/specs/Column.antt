@@ -6,7 +6,7 @@ use mathlib.Core.List.{List, [], _∷_}
 use native.Mathlib.Nat.{zero-mod}
 use native.Mathlib.Omega.{arith}
 use lib.ListN.{length, getD, List·getD-eq-default}
-use Rattle.solve_lattice.specs.Room.{productWords, rowsWords, blockWords}
+use Rattle.solve_lattice.specs.Room.{productWords, slotPlaces, blockWords}
 use Rattle.ring.specs.Identity.{quotes, identity}
 use Rattle.ring.specs.Ring.{Ring}
 use Rattle.ring.specs.Combination.{given, combination}
@@ -37,7 +37,7 @@ pub record HoldsLeft (p : ℕ) (prime : Prime p) (n : ℕ) (U : Slots (Polynomia
 
 pub record ColumnDivided (p : ℕ) (L : Level) (input : List ℕ) (at : ℕ) (rest factors : List ℕ) (left : ℕ) : Type 0 where
   pub room : length rest ≡ blockWords
-  pub sums : Sums p (rowsWords + left) rest
+  pub sums : Sums p (slotPlaces + left) rest
   pub factors-below : (i : ℕ) → getD factors i 0 < p
   pub ends : Ends p rest 0 blockWords left
   -- of a column in the span nothing is left

@@ -6,7 +6,7 @@ use native.Mathlib.Omega.{arith}
 use native.Mathlib.Decide.{ℕ-discrete}
 use lib.ListN.{length, getD, set, length-set}
 use lib.Seq.{getD-set-same, getD-set-other}
-use Rattle.solve_lattice.specs.Room.{levelWords, inversesFrom, tailSizesFrom, sizesFrom, blockWords, slotWords, tailWords}
+use Rattle.solve_lattice.specs.Room.{levelWords, inversesFrom, tailSizesFrom, sizesFrom, blockWords, slotWords}
 use Rattle.vector.specs.Bound.{AtMost}
 use Rattle.vector.specs.Stored.{stored, length-stored, stored-inside, stored-outside, below-or-not}
 use Rattle.solve_lattice.specs.Memory.{Level, slotSize, tailSize, slotInverse}
@@ -15,7 +15,7 @@ use Rattle.solve_lattice.specs.Memory.{Level, slotSize, tailSize, slotInverse}
 pub record Copied (L : Level) (n : ℕ) (L′ : Level) : Type 0 where
   pub room : length L′ ≡ levelWords
   pub blocks : (q j : ℕ) → q < n → j < slotSize L q → getD L′ (slotWords * q + j) 0 ≡ getD L (slotWords * q + j) 0
-  pub others : (q j : ℕ) → q < 8 → j < tailWords → (q < n → slotSize L q ≤ j) → getD L′ (slotWords * q + j) 0 ≡ 0
+  pub others : (q j : ℕ) → q < 8 → j < slotWords → (q < n → slotSize L q ≤ j) → getD L′ (slotWords * q + j) 0 ≡ 0
   pub sizes : (q : ℕ) → q < n → slotSize L′ q ≡ slotSize L q
   pub tail-sizes : (q : ℕ) → q < 8 → tailSize L′ q ≡ 0
   pub inverses : (q : ℕ) → q < n → slotInverse L′ q ≡ slotInverse L q
@@ -58,7 +58,7 @@ module _ {L : Level} {n : ℕ} {next : Level} (so-far : Copied L n next) (inside
         → getD after x 0 ≡ getD next x 0
     kept x a b out = word-set x a b ∙ stored-outside block next (slotWords * n) (slotSize L n) x out
 
-    apart : (q j : ℕ) → q < 8 → j < tailWords → ¬ (q ≡ n) → getD after (slotWords * q + j) 0 ≡ getD next (slotWords * q + j) 0
+    apart : (q j : ℕ) → q < 8 → j < slotWords → ¬ (q ≡ n) → getD after (slotWords * q + j) 0 ≡ getD next (slotWords * q + j) 0
     apart q j h lt other = kept (slotWords * q + j) (λ x. omega arith) (λ x. omega arith)
         (⊎-elim (λ less. inl (omega (arith, here))) (λ more. inr (omega (arith, here))) (below-or-not q n))
 
@@ -68,13 +68,13 @@ module _ {L : Level} {n : ℕ} {next : Level} (so-far : Copied L n next) (inside
         word-set (slotWords * n + j) (λ x. omega (arith, here)) (λ x. omega (arith, here))
         ∙ stored-inside block next (slotWords * n) (slotSize L n) j (omega (arith, so-far .room, here)) lt
 
-    blocks : (q j : ℕ) → q < n + 1 → j < slotSize L q → slotSize L q ≤ tailWords → Dec (q ≡ n)
+    blocks : (q j : ℕ) → q < n + 1 → j < slotSize L q → slotSize L q ≤ slotWords → Dec (q ≡ n)
         → getD after (slotWords * q + j) 0 ≡ getD L (slotWords * q + j) 0
     blocks q j h lt le (yes same) =
         subst (λ x. j < slotSize L x → getD after (slotWords * x + j) 0 ≡ getD L (slotWords * x + j) 0) (sym same) (inside-block j) lt
     blocks q j h lt le (no other) = apart q j (omega arith) (omega arith) other ∙ so-far .blocks q j (omega arith) lt
 
-    others : (q j : ℕ) → q < 8 → j < tailWords → (q < n + 1 → slotSize L q ≤ j) → Dec (q ≡ n) → getD after (slotWords * q + j) 0 ≡ 0
+    others : (q j : ℕ) → q < 8 → j < slotWords → (q < n + 1 → slotSize L q ≤ j) → Dec (q ≡ n) → getD after (slotWords * q + j) 0 ≡ 0
     others q j l lt h (yes same) =
         subst (λ x. slotSize L x ≤ j → getD after (slotWords * x + j) 0 ≡ 0) (sym same)
         (λ ge. kept (slotWords * n + j) (λ x. omega arith) (λ x. omega arith) (inr (omega arith))

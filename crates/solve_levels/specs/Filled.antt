@@ -20,7 +20,7 @@ use Rattle.reduction.specs.Holds.{read, read-holds}
 use Rattle.reduction.specs.Flat.{Flat}
 use Rattle.reduction.specs.Held.{Held}
 use Rattle.solve_lattice.specs.Word.{words, words-behind}
-use Rattle.solve_lattice.specs.Room.{lanes, blockWords, slotWords, sizesFrom, inversesFrom, levelWords, tailSizesFrom, tailWords}
+use Rattle.solve_lattice.specs.Room.{lanes, blockWords, slotWords, sizesFrom, inversesFrom, levelWords, tailSizesFrom}
 use Rattle.solve_lattice.specs.Memory.{row, height, Ends, Level, slotSize, tailSize, slotInverse, ValidSlot, ValidLevel}
 use Rattle.solve_lattice.specs.Holding.{HoldsSlots}
 use Rattle.solve_lattice.specs.Range.{words-same}
@@ -116,7 +116,7 @@ module _ {p : ℕ} {L : Level} (valid : ValidLevel p L) (q : ℕ) (inside : q < 
   size-other i h other = number-other (sizesFrom + i) (omega arith) (λ e. other (omega arith)) (λ e. omega arith)
 
   -- the words of other slots, and tails
-  apart : (i j : ℕ) → i < 8 → j < tailWords → (i ≡ q → blockWords ≤ j) → getD F (slotWords * i + j) 0 ≡ getD L (slotWords * i + j) 0
+  apart : (i j : ℕ) → i < 8 → j < slotWords → (i ≡ q → blockWords ≤ j) → getD F (slotWords * i + j) 0 ≡ getD L (slotWords * i + j) 0
   apart i j h lt tail = slot-word (slotWords * i + j) (omega arith)
       ∙ stored-outside word L (slotWords * q) size (slotWords * i + j) (go (ℕ-discrete i q))
     where

@@ -19,7 +19,7 @@ fn last_place(size: usize) -> usize
 }
 
 // Makes the hand (column | 1): stores 1 in `tail`, which is 0. The first `size` words of `column` are those that count; it is the
-// hand's block as it stands.
+// hand's block as it stands. Returns what the hand is.
 pub fn lay_hand(tail: &mut Tail, column: &Block, size: usize, modulus: Modulus) -> Hand
     requires { ⌜ ValidModulus modulus × (size ≤ blockWords) ⌝ }
     requires sums { ⌜ Reducible (modulus .p) (now column) blockWords ⌝ }

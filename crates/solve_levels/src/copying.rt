@@ -1,4 +1,4 @@
-// A level copied to cleared memory, without its tails.
+// A level copied without its tails.
 use solve_lattice::INVERSES;
 use solve_lattice::LANES;
 use solve_lattice::Level;
@@ -13,7 +13,7 @@ ghost use Rattle.solve_lattice.specs.Room.{lanes, blockWords, levelWords};
 ghost use Rattle.solve_lattice.specs.Memory.{slotSize};
 ghost use Rattle.solve_levels.specs.Copied.{Copied};
 
-// Copies of each slot of `level` the words of its block that count, their number and the inverse of the last. `next` is cleared:
+// Copies of each slot of `level` the words of its block that count, their number and the inverse of the last to `next`, which is 0:
 // tails stay 0.
 pub fn copy_level(next: &mut Level, level: &Level)
     requires blocks { ⌜ ((q : ℕ) → q < lanes → slotSize (now level) q ≤ blockWords) ⌝ }

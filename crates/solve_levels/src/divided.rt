@@ -15,7 +15,7 @@ ghost use Rattle.solve_lattice.specs.Memory.{ValidLevel};
 ghost use Rattle.solve_levels.specs.Column.{ColumnDivided};
 
 // Divides the block of `input` from `at` on by the slots of `level`. Stores what is left in `rest`, in sums that are not reduced,
-// and the quotients in `factors`, both 0 before. Returns how many words are left.
+// and the quotients in `factors`, which are 0. Returns how many words are left.
 pub fn divide_column(
     rest: &mut Block,
     factors: &mut Block,

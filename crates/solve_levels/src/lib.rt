@@ -1,12 +1,11 @@
-// The levels of the solver in memory: a column that is inserted makes the next one.
+// The next level: a column divided by a level's slots (divide_column), then put into an empty slot (fill_slot, empty_slot) or
+// inserted into a copy of the level (next_level).
 pub mod beginning;
 pub mod column;
 pub mod copying;
+pub mod divided;
 pub mod next;
 pub mod settling;
-
-// A column divided by the slots of a level, and what is left of it put into an empty slot and taken out again.
-pub mod divided;
 pub mod slot;
 
 pub use divided::divide_column;

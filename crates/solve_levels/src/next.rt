@@ -18,8 +18,8 @@ ghost use Rattle.solve_levels.specs.Begun.{ValidColumn};
 ghost use Rattle.solve_levels.specs.Started.{Started};
 ghost use Rattle.solve_levels.specs.Next.{NextLevel};
 
-// Copies `level`, with tails 0, to `next`, and makes a hand of the first `size` words of `column`, with tail 1. Both areas that are
-// written are 0 before.
+// Copies `level`, with tails 0, to `next`, and makes a hand of the first `size` words of `column`, with tail 1 in `tail`. Both,
+// `next` and `tail`, are 0. Returns what the hand is.
 pub fn start_column(
     next: &mut Level,
     tail: &mut Tail,
@@ -39,8 +39,8 @@ pub fn start_column(
     lay_hand(tail, column, size, modulus)
 }
 
-// Makes the next level in `next`, which is 0 before: `level` with `column` inserted, of which `size` words count; and stores the
-// kernel of the column. What is then in `column` is left open. Returns the size of the kernel.
+// Makes the next level in `next`, which is 0: `level` with `column` inserted, of which `size` words count; and stores the kernel of
+// the column. What is then in `column` is left open. Returns the size of the kernel.
 pub fn next_level(
     next: &mut Level,
     kernel: &mut Block,

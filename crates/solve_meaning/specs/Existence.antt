@@ -22,7 +22,8 @@ use Rattle.words.specs.Certificate.{Certificate, CertificateWithin}
 use Rattle.words.specs.Certificate.Certificate.{solution, absence}
 use Rattle.truth.specs.Solution.{Answer, Answers}
 use Rattle.truth.specs.Right.{Right}
-use Rattle.solve_meaning.specs.Listed.{listed, listed-at, vector-listed}
+use Rattle.truth.specs.Listed.{listed, listed-at}
+use Rattle.solve_meaning.specs.Listed.{vector-listed}
 use Rattle.solve_meaning.specs.Lists.{listOf, list-canonical, list-length}
 use Rattle.solve_meaning.specs.Equations.{systemDegree, equated}
 use Rattle.solve_meaning.specs.RightLists.{solution-right, absence-right}

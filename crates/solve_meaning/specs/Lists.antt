@@ -2,7 +2,6 @@
 use Prim.Native.Nat.{ℕ, zero, suc, _<_}
 use mathlib.Core.Path.{_≡_, refl, sym, _∙_, ap, ap₂}
 use mathlib.Core.List.{List, [], map}
-use native.Mathlib.Omega.{arith}
 use lib.ListN.{length, length-map}
 use Rattle.ring.specs.Ring.{Ring}
 use Rattle.ring.specs.Sum.{sum}
@@ -22,13 +21,7 @@ use Rattle.modular.specs.Canonical.{Canonical}
 use Rattle.modular.specs.Residue.{Residue, value, residues, value-homomorphism}
 use Rattle.modular.specs.Values.{canonical-values}
 use Rattle.truth.specs.Solution.{total, Divides, Monic}
-
--- equal terms, equal sums
-pub total-ext : (p n : ℕ) (f g : ℕ → List ℕ) → ((i : ℕ) → i < n → f i ≡ g i) → total p n f ≡ total p n g
-unfolding total
-total-ext p zero f g e = refl
-total-ext p (suc n) f g e =
-    ap₂ (Coefficients.add (modulo p)) (total-ext p n f g (λ i h. e i (omega arith))) (e n (omega arith))
+use Rattle.truth.specs.Listed.{total-ext}
 
 module _ (p : ℕ) (prime : Prime p) where
   abbrev F : Field (Residue p)

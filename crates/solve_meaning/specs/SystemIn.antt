@@ -8,7 +8,7 @@ use Rattle.vector.specs.Reduced.{reduced}
 use Rattle.reduction.specs.Flat.{flat}
 use Rattle.solve_lattice.specs.Room.{lanes, blockWords, inputWords}
 use Rattle.words.specs.System.{System, Shape}
-use Rattle.solve_meaning.specs.Listed.{listed}
+use Rattle.truth.specs.Listed.{listed}
 
 -- what the lane of row i stands for in the block from the word b on
 unfoldable pub lanePolynomial : ℕ → List ℕ → (b i : ℕ) → List ℕ

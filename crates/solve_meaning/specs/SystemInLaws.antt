@@ -19,7 +19,8 @@ use Rattle.words.specs.Polynomial.{Within}
 use Rattle.words.specs.System.{System, Shape, ShapeWithin, SystemWithin, shape, entry, rightSide}
 use Rattle.words.specs.SystemLaws.{entry-within, rightSide-within}
 use Rattle.solve_lattice.specs.Room.{blockWords}
-use Rattle.solve_meaning.specs.Listed.{listed, length-listed, listed-at, listed-is, vector-listed}
+use Rattle.truth.specs.Listed.{listed, length-listed, listed-at, listed-is}
+use Rattle.solve_meaning.specs.Listed.{vector-listed}
 use Rattle.solve_meaning.specs.SystemIn.{lanePolynomial, systemIn, SystemArea}
 use Rattle.solve_meaning.specs.Laid.{Laid}
 

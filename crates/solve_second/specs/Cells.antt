@@ -8,7 +8,7 @@ use lib.ListN.{getD}
 use Rattle.reduction.specs.Flat.{flat}
 use Rattle.reduction.specs.Transpose.{back}
 use Rattle.solve_lattice.specs.Memory.{height, Level, slotSize}
-use Rattle.solve_lattice.specs.Room.{blockWords, slotWords, tailWords}
+use Rattle.solve_lattice.specs.Room.{blockWords, slotWords}
 use Rattle.solve_second.specs.Greatest.{greatest}
 use Rattle.solve_second.specs.Words.{reversed, lift, transposedSize, blockWord, tailWord}
 use Rattle.solve_second.specs.Words.{transposedWord, transposed-beyond, transposed-beside}
@@ -88,7 +88,7 @@ module _ (L : Level) (n : ℕ) where
               places u v = omega arith
 
   -- behind the greatest height all words are 0
-  pub cell-behind : {T : Level} → SlotsLaid n L T → (k j : ℕ) → k < 8 → 8 * greatest L n ≤ j → j < tailWords
+  pub cell-behind : {T : Level} → SlotsLaid n L T → (k j : ℕ) → k < 8 → 8 * greatest L n ≤ j → j < slotWords
       → getD T (slotWords * k + j) 0 ≡ 0
   cell-behind laid k j h past lt =
       laid .words y (omega arith) ∙ go (decLt 0 (transposedSize L n (y / slotWords))) (decLt (7 - y % 8) n)

@@ -1,6 +1,6 @@
 -- interface, what contracts, other crates and PROVED.md cite: Monic, Product, ProductLaws, Greatest, Words, Laid,
 --   TransposeFilling, RightFilling, WithRow, Side, Solved, Denominator, QuotientRows
--- inside: Negated, Reduced, MonicLaws, Cells, Transposed, ValidTransposed, Spread, Filling, First, Same, RowLaid,
+-- inside: Negated, Reduced, MonicLaws, Cells, Transposed, ValidTransposed, Spread, Filling, Same, RowLaid,
 --   RightInserted, SecondDual, Scaled, DividedSecond, SecondEnds
 -- what the products ensure
 pub mod Monic
@@ -24,7 +24,6 @@ pub mod Filling
 pub mod TransposeFilling
 pub mod RightFilling
 -- the level with a row of its blocks for tails
-pub mod First
 pub mod Same
 pub mod WithRow
 pub mod RowLaid

@@ -7,11 +7,10 @@ use native.Mathlib.Decide.{decLt}
 use lib.ListN.{length, getD, List·getD-eq-default}
 use Rattle.reduction.specs.Flat.{flat}
 use Rattle.reduction.specs.Transpose.{back}
-use Rattle.vector.specs.Stored.{stored, stored-all-first}
+use Rattle.vector.specs.Stored.{stored, stored-first, stored-all-first}
 use Rattle.solve_lattice.specs.Room.{rowsWords, blockWords}
 use Rattle.solve_second.specs.Words.{when, when-yes, when-no, reversed}
 use Rattle.solve_second.specs.ValidTransposed.{when-below}
-use Rattle.solve_second.specs.First.{stored-first}
 
 -- the word at x of the rows
 abbrev pub quotientWord : (l : List ℕ) (n x : ℕ) → ℕ

@@ -8,7 +8,7 @@ use native.Mathlib.Omega.{arith}
 use native.Mathlib.Decide.{decLt, ℕ-discrete}
 use lib.ListN.{getD}
 use Rattle.algebra.specs.Field.{Field}
-use Rattle.algebra.specs.Polynomial.{Polynomial, polynomials, coefficients-zero}
+use Rattle.algebra.specs.Polynomial.{Polynomial, polynomials}
 use Rattle.algebra.specs.Expressions.{shift, shift-zero}
 use Rattle.modular.specs.Prime.{Prime}
 use Rattle.modular.specs.Residue.{Residue, residues}
@@ -24,6 +24,7 @@ use Rattle.solve_lattice.specs.Memory.{height, Level, slotSize, tailSize, Valid
 use Rattle.solve_lattice.specs.Holding.{HoldsSlots}
 use Rattle.solve_lattice.specs.Range.{words-zero}
 use Rattle.solve_lattice.specs.Room.{productWords, blockWords, slotWords}
+use Rattle.solve_descent.specs.Held.{none-held}
 use Rattle.solve_second.specs.Greatest.{greatest, greatest-high, greatest-small, greatest-positive}
 use Rattle.solve_second.specs.Words.{reversed, transposedSize, size-empty, size-filled}
 use Rattle.solve_second.specs.Laid.{SlotsLaid, Laid}
@@ -33,11 +34,6 @@ use Rattle.solve_second.specs.Cells.{right-cell-beside, right-cell-empty
 module _ (p : ℕ) (prime : Prime p) where
   abbrev F : Field (Residue p)
   F = residues p prime
-
-  -- words that are all 0 hold the zero polynomial
-  holds-none : {H : ℕ → Residue p} → ((j : ℕ) → H j ≡ residues p prime .ring .zero) → Holds (residues p prime) H
-      (polynomials (residues p prime) .zero)
-  holds-none z = record { at = λ j. coefficients-zero F j ∙ sym (z j) }
 
   zero-inside : (l : List ℕ) (b n j : ℕ) → (j < n → getD l (b + j) 0 ≡ 0) → words p prime l b n j ≡ residues p prime .ring .zero
   zero-inside l b n j e = go (decLt j n)
@@ -113,7 +109,7 @@ module _ (p : ℕ) (prime : Prime p) where
             → Holds (residues p prime) (λ j. words p prime T (slotWords * k) blockWords (flat 8 i (ω i + j)))
             (transposed (polynomials (residues p prime)) n (greatest L n) U .at k i)
         coordinate i l (yes none) = subst (Holds F _) (sym (masked-empty (U .size (back n i)) _ (U .at (back n i) (back n k)) none))
-            (holds-none (λ j. cell-past i (ω i + j) (omega arith) (omega arith)))
+            (none-held p prime (λ j. cell-past i (ω i + j) (omega arith) (omega arith)))
         coordinate i l (no some) =
             subst (Holds F _) (sym (masked-filled (U .size (back n i)) _ (U .at (back n i) (back n k)) (omega arith)))
             (record {
@@ -136,7 +132,7 @@ module _ (p : ℕ) (prime : Prime p) where
             beside = λ i e out l. cell-zero i e l (λ lt. cell-beside L n laid k i e (omega arith) l lt f out);
           };
           tail = subst (Holds F _) (sym (extend-at n (C .at k) (polynomials F .zero)))
-              (holds-none (λ j. zero-inside T (slotWords * k + blockWords) blockWords j (λ lt. cell-tail L n top-low laid k j (omega arith) lt)));
+              (none-held p prime (λ j. zero-inside T (slotWords * k + blockWords) blockWords j (λ lt. cell-tail L n top-low laid k j (omega arith) lt)));
         }
           where
             C : Slots (Polynomial (residues p prime))
@@ -211,7 +207,7 @@ module _ (p : ℕ) (prime : Prime p) where
             (λ j. words p prime b 0 productWords (flat 8 i (ω i + j)))
             (rightSide (polynomials (residues p prime)) n (greatest L n) U i)
         right-coordinate (yes none) = subst (Holds F _) (sym (masked-empty (U .size (back n i)) _ (U .at (back n i) n) none))
-            (holds-none (λ j. right-zero i (ω i + j) (omega arith)
+            (none-held p prime (λ j. right-zero i (ω i + j) (omega arith)
             (λ lt. right-cell-empty L n laid i (ω i + j) (omega arith) lt l (omega (arith, size-of i l)))))
         right-coordinate (no some) =
             subst (Holds F _) (sym (masked-filled (U .size (back n i)) _ (U .at (back n i) n) (omega arith)))

@@ -17,7 +17,7 @@ use Rattle.reduction.specs.Slots.{Slots, unweighted, tailed}
 use Rattle.reduction.specs.Holds.{Holds}
 use Rattle.reduction.specs.Flat.{flat}
 use Rattle.reduction.specs.Held.{Held}
-use Rattle.vector.specs.Stored.{stored, length-stored, below-or-not}
+use Rattle.vector.specs.Stored.{stored, length-stored, stored-first, below-or-not}
 use Rattle.solve_lattice.specs.Word.{residue, words, words-inside, words-behind}
 use Rattle.solve_lattice.specs.Memory.{row, height, ZeroFrom, Ends, Level, slotSize, tailSize, ValidSlot, ValidLevel}
 use Rattle.solve_lattice.specs.Holding.{HoldsSlots}
@@ -26,7 +26,6 @@ use Rattle.solve_lattice.specs.Reading.{flat-same}
 use Rattle.solve_lattice.specs.Room.{levelWords, inversesFrom, tailSizesFrom, sizesFrom, blockWords, slotWords}
 use Rattle.solve_second.specs.Words.{either, either-yes, either-no, when, when-yes, when-no, blockWord}
 use Rattle.solve_second.specs.ValidTransposed.{when-below}
-use Rattle.solve_second.specs.First.{stored-first}
 use Rattle.solve_second.specs.Same.{SameBlocks}
 
 -- coefficient e of row h in the block of slot q, which has 16

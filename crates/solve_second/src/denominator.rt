@@ -14,8 +14,8 @@ ghost use Rattle.solve_lattice.specs.Insertion.{Starts};
 ghost use Rattle.solve_second.specs.Laid.{startingMemory};
 ghost use Rattle.solve_second.specs.Denominator.{TailFound};
 
-// Inserts the block with tail 1 into the level, and stores the tail with which that ends, made monic, to w. Returns the number of
-// its coefficients. Level and block are changed.
+// Inserts `block` with tail 1 into `level` and stores the tail that is left, made monic, in w. Returns the number of its
+// coefficients. Changes `level` and `block`.
 pub fn second_denominator(
     w: &mut Block,
     level: &mut Level,

@@ -14,7 +14,7 @@ pub fn slot_height(level: &Level, q: usize) -> usize
     (level[SIZES + q] as usize + 7) / 8
 }
 
-// Finds the greatest height of the first n slots.
+// Returns the greatest height of the first n slots.
 pub fn greatest_height(level: &Level, n: usize) -> usize
     requires { ⌜ (n ≤ 8) × Low (now level) ⌝ }
     ensures { λ r. ⌜ r ≡ greatest (now (level .entry)) n ⌝ }

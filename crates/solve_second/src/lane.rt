@@ -11,7 +11,7 @@ ghost use Rattle.solve_lattice.specs.Room.{sizesFrom};
 ghost use Rattle.solve_second.specs.Greatest.{Low};
 ghost use Rattle.solve_second.specs.Words.{blockWord};
 
-// Stores block[to + 8 e] = level[from + step e] for e below `count`.
+// Stores level[from + step e] at block[to + LANES e] for e below `count`.
 pub fn copy_lane(
     block: &mut [u64],
     to: usize,

@@ -14,7 +14,7 @@ ghost use Rattle.solve_second.specs.Laid.{Laid};
 ghost use Rattle.solve_second.specs.RightFilling.{TailsEnd};
 ghost use Rattle.solve_second.specs.Side.{sided, sideRow};
 
-// Lays out the second system of a level of n rows, with the side told, in cleared memory.
+// Lays out the second system of a level of n rows, with `side` for its right side, in `transposed` and `right`, which are 0.
 pub fn lay_second(transposed: &mut Level, right: &mut Product, level: &Level, n: usize, side: Side)
     requires { ⌜ Low (now level) × TailsEnd (sided side (now level)) × (sideRow side < 8) × (n ≤ 8) ⌝ }
     requires room { ⌜ (length (now transposed) ≡ levelWords) × (length (now right) ≡ productWords) ⌝ }

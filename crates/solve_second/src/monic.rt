@@ -16,7 +16,7 @@ ghost use Rattle.solve_lattice.specs.Memory.{ZeroFrom, Sums};
 ghost use Rattle.solve_lattice.specs.Room.{tailWords};
 ghost use Rattle.solve_second.specs.Monic.{MadeMonic};
 
-// Stores h[j] = y[j] times the factor, modulo p, for j below n.
+// Stores y[j] times `factor`, modulo p, at h[j] for j below n.
 fn store_scaled(h: &mut [u64], y: &[u64], n: usize, factor: u64, modulus: Modulus)
     requires { ⌜ ValidModulus modulus × (n ≤ length (now h)) × (n ≤ length (now y)) × (factor < modulus .p) ⌝ }
     requires sums { ⌜ Reducible (modulus .p) (now y) n ⌝ }
@@ -30,8 +30,8 @@ fn store_scaled(h: &mut [u64], y: &[u64], n: usize, factor: u64, modulus: Modulu
     }
 }
 
-// Divides the tail, in sums that are not reduced, by its leading coefficient into d. Returns the number of its coefficients.
-// A tail that is zero has none, and zero is stored.
+// Divides `tail`, in sums that are not reduced, by its leading coefficient into d. Returns the number of its coefficients. A tail
+// that is zero has none, and zero is stored.
 pub fn make_monic(d: &mut Block, tail: &Tail, modulus: Modulus) -> usize
     requires { ⌜ ValidModulus modulus ⌝ }
     requires tail { ⌜ ZeroFrom (modulus .p) (now tail) 0 tailWords 121 × Sums (modulus .p) 0 (now tail) ⌝ }

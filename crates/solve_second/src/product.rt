@@ -24,8 +24,8 @@ fn less(n: usize, m: usize) -> usize
     if m < n { n - m } else { 0 }
 }
 
-// Multiplies the block of 8 lanes in m words by f, its first n words, into cleared memory and in sums that are not reduced: the
-// product is divided next, and a division takes such sums.
+// Multiplies the first m words of `block`, of 8 lanes, by f, its first n words, into `out`, which is 0, in sums that are not
+// reduced: the product is divided next, and a division takes such sums.
 pub fn multiply_block(
     out: &mut Product,
     f: &Block,
@@ -49,7 +49,7 @@ pub fn multiply_block(
     subtract_product(out, LANES, &minus, terms, block, 0, m, modulus);
 }
 
-// Multiplies f, its first n words, by g, its first m. What stood in `out` is lost.
+// Multiplies f, its first n words, by g, its first m, into `out`. What stood there is lost.
 pub fn multiply(out: &mut Block, f: &Block, n: usize, g: &Block, m: usize, modulus: Modulus)
     requires { ⌜ ValidModulus modulus × (n ≤ blockWords) × (m ≤ blockWords) × (n + m ≤ blockWords + 1) ⌝ }
     requires small { ⌜ ((i : ℕ) → getD (now f) i 0 < modulus .p) × ((i : ℕ) → getD (now g) i 0 < modulus .p) ⌝ }

@@ -19,9 +19,11 @@ ghost use Rattle.solve_second.specs.RightFilling.{TailsEnd, Righting};
 ghost use Rattle.solve_second.specs.Side.{sided, sideRow};
 ghost use Rattle.solve_second.specs.Words.{rightWord};
 
-// What is the right side of a second system: the tails of the level's slots, or a row of their blocks.
+// The right side of a second system.
 pub enum Side {
+    // The tails of the level's slots.
     Tails,
+    // This row of their blocks.
     Row(usize),
 }
 
@@ -54,7 +56,7 @@ fn side_lane(right: &mut Product, level: &Level, n: usize, side: Side, top: usiz
     }
 }
 
-// Stores the right side, 136 degrees of it, into cleared memory.
+// Stores the right side in `right`, which is 0; `top` is the height of the transposed slots.
 pub fn lay_side(right: &mut Product, level: &Level, n: usize, side: Side, top: usize)
     requires { ⌜ Low (now level) × TailsEnd (sided side (now level)) × (sideRow side < 8) × (n ≤ 8) ⌝ }
     requires height { ⌜ top ≡ greatest (now level) n ⌝ }

@@ -14,12 +14,14 @@ use vector::find_leading;
 ghost use Prim.Native.Nat.{ℕ, _<_, _≤_};
 ghost use lib.ListN.{length, getD};
 ghost use Rattle.residue.specs.Modulus.{ValidModulus};
+ghost use Rattle.solve_lattice.specs.Room.{rowsWords};
 ghost use Rattle.solve_lattice.specs.Memory.{ValidLevel};
 ghost use Rattle.solve_second.specs.Side.{sided, sideRow};
 ghost use Rattle.solve_second.specs.Solved.{HasTops, SecondSolved};
 
-// Solves the second system of a level of n rows, with the side told: stores w to its 128 words, and Y k to the 128 words of `rows`
-// from 128 k on. What stood in the first 1,024 words is lost. The insertion works on copies, since it changes what it works on.
+// Solves the second system of a level of n rows, with `side` for its right side: stores w, and row k of the solution in `rows` from
+// BLOCK * k on. What stood in the first ROWS words of `rows` is lost. The insertion changes what it works on, so it works on
+// copies.
 pub fn solve_second(
     w: &mut Block,
     rows: &mut [u64],
@@ -30,7 +32,7 @@ pub fn solve_second(
 )
     requires { ⌜ ValidModulus modulus × (n ≤ 8) × (sideRow side < 8) × ValidLevel (modulus .p) (now level) ⌝ }
     requires tops { ⌜ HasTops (modulus .p) n (sided side (now level)) ⌝ }
-    requires room { ⌜ (1024 ≤ length (now rows)) × ((i : ℕ) → 1024 ≤ i → getD (now rows) i 0 < modulus .p) ⌝ }
+    requires room { ⌜ (rowsWords ≤ length (now rows)) × ((i : ℕ) → rowsWords ≤ i → getD (now rows) i 0 < modulus .p) ⌝ }
     ensures { λ _. ⌜ SecondSolved (modulus .p) n (sided side (now (level .entry))) (now (w .exit)) (now (rows .exit)) ⌝ }
 {
     let mut transposed = [0u64; LEVEL];

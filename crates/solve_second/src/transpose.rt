@@ -15,8 +15,8 @@ ghost use Rattle.solve_second.specs.Greatest.{Low, greatest};
 ghost use Rattle.solve_second.specs.Laid.{SlotsLaid};
 ghost use Rattle.solve_second.specs.TransposeFilling.{SlotsSoFar};
 
-// Stores slot k, where it is filled: lane by lane, then its size and its inverse. The leading word is that of slot n - 1 - k of the
-// level.
+// Stores slot k, where it is filled: lane by lane, then its size and its inverse. Its leading word is that of slot n - 1 - k of
+// `level`.
 fn transpose_slot(transposed: &mut Level, level: &Level, n: usize, top: usize, k: usize)
     requires { ⌜ Low (now level) × (n ≤ 8) × (k < n) ⌝ }
     requires height { ⌜ top ≡ greatest (now level) n ⌝ }
@@ -37,7 +37,7 @@ fn transpose_slot(transposed: &mut Level, level: &Level, n: usize, top: usize, k
     transposed[INVERSES + k] = level[INVERSES + q];
 }
 
-// Stores the transposed level of a level of n rows, its tails 0, into cleared memory. Returns the height of its slots.
+// Stores the slots of the second system of a level of n rows, their tails 0, in `transposed`, which is 0. Returns their height.
 pub fn lay_slots(transposed: &mut Level, level: &Level, n: usize) -> usize
     requires { ⌜ Low (now level) × (n ≤ 8) ⌝ }
     requires zeros { ⌜ (length (now transposed) ≡ levelWords) × AtMost 0 (now transposed) ⌝ }

@@ -26,6 +26,7 @@ use Rattle.solve_meaning.specs.Equations.{equations}
 use Rattle.solve_meaning.specs.LaidLaws.{laid-valid, laid-holds}
 use Rattle.solve_meaning.specs.TakenRight.{taken-right, taken-within}
 use Rattle.solve_meaning.specs.Answers.{right-answers}
+use Rattle.solver.specs.SolvingLaws.{accepted-same}
 use Rattle.solver.specs.Certified.{HasShape, Read, Certified, CertifiedRead, certified-of}
 
 -- the system in the input area
@@ -60,9 +61,6 @@ module _ {h : Shape} (within : ShapeWithin office h) {input : List ℕ} (area : 
           right = right;
           answers = right-answers office s w (takenCertificate (shape s) (formOf solved) output) kept right;
         }
-
-accepted-same : {A : Type 0} {a b : A} → accepted a ≡ accepted b → a ≡ b
-accepted-same e = cc
 
 module _ {h : Shape} {ws : List ℕ} (R : Read h ws) where
   -- whatever system was read has this shape

@@ -5,5 +5,5 @@ pub mod FileLaws
 -- interface: a right certificate in the output area
 pub mod Certified
 pub mod OutputLaws
--- document 01's examples for 11
+-- interface: document 01's examples for 11
 pub mod Examples

@@ -22,7 +22,7 @@ use Rattle.truth.specs.Accepted.{accepted-of-words}
 use Rattle.write_frame.specs.Overwriting.{overwritten}
 use Rattle.solver.specs.Solving.{withRoom, systemToSolve, Gives, SolvesOr, Solves}
 
-accepted-same : {A : Type 0} {a b : A} → accepted a ≡ accepted b → a ≡ b
+pub accepted-same : {A : Type 0} {a b : A} → accepted a ≡ accepted b → a ≡ b
 accepted-same e = cc
 
 -- what is written is no longer than what was lent
@@ -46,6 +46,13 @@ gives-words {write = write} {entry = entry} {exit = exit} {count = count} G =
     ap (λ l. take count l) (G .words)
     ∙ ap (λ n. take n (overwritten (write (G .certificate)) entry)) (G .same-count)
     ∙ take-append-seam (write (G .certificate)) _
+
+-- "or change a lent word when it refuses"
+pub refused-unchanged : (limits : Limits) (write : Certificate → List ℕ) (o : Outcome System) (entry exit : List ℕ) (answer : Outcome ℕ)
+    → SolvesOr limits write o entry exit answer → {number place : ℕ} → answer ≡ refused number place → exit ≡ entry
+unfolding SolvesOr
+refused-unchanged limits write (refused n k) entry exit answer h a = h .1
+refused-unchanged limits write (accepted s) entry exit answer h a = absurd (refused-accepted (sym a ∙ h .1))
 
 -- a count is given only for a system that was read
 pub solved-gives : (limits : Limits) (write : Certificate → List ℕ) (longest lent : ℕ) (read : Outcome System) (entry exit : List ℕ)

@@ -16,8 +16,8 @@ ghost use Rattle.solve_meaning.specs.SystemIn.{systemIn, SystemArea};
 ghost use Rattle.answers.specs.Answer.{shapeOf};
 ghost use Rattle.solver.specs.Certified.{HasShape, Certified, CertifiedRead};
 
-// Stores a right certificate of the system that is laid out in the input, of that shape, in the output, which is 0 at the start.
-// Returns whether there is a solution.
+// Stores a right certificate of the system that is laid out in `input`, of that shape, in `output`, which is 0. Returns whether
+// there is a solution.
 pub fn certify_laid(output: &mut Output, input: &Input, shape: Shape) -> bool
     requires { ⌜ ShapeWithin office (shapeOf shape) × SystemArea (shapeOf shape) (now input) ⌝ }
     requires cleared { ⌜ (length (now output) ≡ outputWords) × AtMost 0 (now output) ⌝ }
@@ -29,8 +29,8 @@ pub fn certify_laid(output: &mut Output, input: &Input, shape: Shape) -> bool
     certify(output, input, rows, columns, modulus)
 }
 
-// Stores a right certificate of the system that these words were read as, of that shape, in the output, which is 0 at the start.
-// Returns whether there is a solution.
+// Stores a right certificate of the system that the words of `system` were read as, of that shape, in `output`, which is 0. Returns
+// whether there is a solution.
 pub fn certify_words(output: &mut Output, system: &[u32], shape: Shape) -> bool
     requires { ⌜ HasShape (shapeOf shape) (now system) ⌝ }
     requires cleared { ⌜ (length (now output) ≡ outputWords) × AtMost 0 (now output) ⌝ }

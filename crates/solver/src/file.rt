@@ -15,7 +15,7 @@ ghost use Rattle.solver.specs.Solving.{withRoom, certificateBytes, Solve
 // The bytes of the longest certificate's file.
 const CERTIFICATE_BYTES: usize = 4 * Office::CERTIFICATE_WORDS;
 
-// Solves the system of some words; writes its certificate over the first of the lent bytes and gives the number of its bytes.
+// Solves the system of some words: writes its certificate over the first of the lent bytes. Returns the number of its bytes.
 fn solve_to_bytes(bytes: &mut [u8], system: &[u32]) -> Counted
     ensures { λ r. ⌜ SolvesOr office certificateBytes
         (withRoom (4 * longestCertificate office) (length (now (bytes .entry))) (readSystem office (now (system .entry))))
@@ -36,7 +36,7 @@ fn solve_to_bytes(bytes: &mut [u8], system: &[u32]) -> Counted
     }
 }
 
-// Solves the system in a file: writes its certificate's file over the first of the lent bytes and gives the number of its bytes.
+// Solves the system in a file: writes its certificate's file over the first of the lent bytes. Returns the number of its bytes.
 pub fn solve_file(bytes: &mut [u8], file: &[u8]) -> Counted
     ensures { λ r. ⌜ SolvesFile office (now (file .entry)) (now (bytes .entry)) (now (bytes .exit)) (countedOutcome r) ⌝ }
 {

@@ -23,7 +23,7 @@ ghost use Rattle.answers.specs.Answer.{countedOutcome, shapeOf, formOf};
 ghost use Rattle.solver.specs.Certified.{Read};
 ghost use Rattle.solver.specs.Solving.{Gives, Solves};
 
-// Gives the kind of a certificate.
+// Returns the form of the certificate.
 fn form_for(solved: bool) -> Form
     ensures { λ r. ⌜ formOf r ≡ certificate.formOf solved ⌝ }
 {
@@ -34,7 +34,7 @@ fn form_for(solved: bool) -> Form
     }
 }
 
-// Writes a certificate for a system that was read over the first of the lent words. Gives the number of its words.
+// Writes a certificate for a system that was read over the first of the lent words. Returns the number of its words.
 fn solve_read(words: &mut [u32], system: &[u32], shape: Shape) -> usize
     requires { ⌜ Read (shapeOf shape) (now system) × (longestCertificate office ≤ length (now words)) ⌝ }
     ensures { λ r. ⌜ ((s : System) → readSystem office (now (system .entry)) ≡ accepted s
@@ -45,8 +45,8 @@ fn solve_read(words: &mut [u32], system: &[u32], shape: Shape) -> usize
     write_output(words, &output, form_for(solved), shape)
 }
 
-// Solves a system: writes its certificate over the first of the lent words and gives the number of its words. Those behind it stand as
-// before, and so do all where it refuses.
+// Solves a system: writes its certificate over the first of the lent words. Returns the number of its words. Those behind it stand
+// as before, and so do all where it refuses.
 pub fn solve(words: &mut [u32], system: &[u32]) -> Counted
     ensures { λ r. ⌜ Solves office (now (system .entry)) (now (words .entry)) (now (words .exit)) (countedOutcome r) ⌝ }
 {

@@ -189,19 +189,20 @@ module _ (limits : Limits) (fit : LimitsFit limits) where
         right = verdict-right (first .0) (system-read .1) (second .0) (certificate-read .1) (second .2);
       }
 
-  pub accepted-of-words : (ws cs : List ℕ) → AcceptedWords limits ws cs → verdict limits ws cs ≡ accepted tt
+  -- the verdict on written forms is that on what they are written of
+  pub verdict-of-written : {ws cs : List ℕ} (s : System) (c : Certificate) → ws ≡ systemWords s → SystemWithin limits s
+      → cs ≡ certificateWords c → CertificateWithin limits (shape s) c → verdict limits ws cs ≡ certificateVerdict s c
   unfolding verdict
-  accepted-of-words ws cs a =
-      ap (λ o. followedBy o (λ s. followedBy (readCertificate limits (shape s) cs) (certificateVerdict s))) system-read
-      ∙ ap (λ o. followedBy o (certificateVerdict (a .system))) certificate-read
-      ∙ right-verdict (a .system) (a .system-within) (a .certificate) (a .certificate-within) (a .right)
-    where
-      system-read : readSystem limits ws ≡ accepted (a .system)
-      system-read = ap (readSystem limits) (a .system-words) ∙ system-read-of-written limits fit (a .system) (a .system-within)
+  verdict-of-written {ws} {cs} s c es hs ec hc =
+      ap (λ o. followedBy o (λ s. followedBy (readCertificate limits (shape s) cs) (certificateVerdict s)))
+      (ap (readSystem limits) es ∙ system-read-of-written limits fit s hs)
+      ∙ ap (λ o. followedBy o (certificateVerdict s))
+      (ap (readCertificate limits (shape s)) ec ∙ certificate-read-of-written limits (shape s) fit (hs .shape) c hc)
 
-      certificate-read : readCertificate limits (shape (a .system)) cs ≡ accepted (a .certificate)
-      certificate-read = ap (readCertificate limits (shape (a .system))) (a .certificate-words)
-          ∙ certificate-read-of-written limits (shape (a .system)) fit (a .system-within .shape) (a .certificate) (a .certificate-within)
+  pub accepted-of-words : (ws cs : List ℕ) → AcceptedWords limits ws cs → verdict limits ws cs ≡ accepted tt
+  accepted-of-words ws cs a =
+      verdict-of-written (a .system) (a .certificate) (a .system-words) (a .system-within) (a .certificate-words) (a .certificate-within)
+      ∙ right-verdict (a .system) (a .system-within) (a .certificate) (a .certificate-within) (a .right)
 
   pub accepted-iff : (ws cs : List ℕ) → (verdict limits ws cs ≡ accepted tt) ↔ AcceptedWords limits ws cs
   accepted-iff ws cs = (words-of-accepted ws cs, accepted-of-words ws cs)

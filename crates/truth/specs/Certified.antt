@@ -1,7 +1,7 @@
 -- The conditions for a certified solution and for a certified absence of solutions (document 002, section 1, for the ring of polynomials
 -- modulo p), and demand 2's own: "any stated denominator is monic, and the solution's is in lowest terms". Nothing is computed here: no
 -- greatest common divisor and no remainder.
-use Prim.Native.Nat.{ℕ, zero, suc, _<_}
+use Prim.Native.Nat.{ℕ, _<_}
 use mathlib.Core.Path.{_≡_}
 use mathlib.Core.List.{List, [], _∷_}
 use lib.ListN.{length, getD}
@@ -10,12 +10,8 @@ use Rattle.words.specs.System.{System}
 use Rattle.words.specs.Certificate.{Certificate}
 use Rattle.words.specs.Certificate.Certificate.{solution, absence}
 use Rattle.truth.specs.Solution.{columnOf, sideOf, RationalSolution, Divides, Clears, Monic, Denominator}
+use Rattle.truth.specs.Listed.{listed}
 use Rattle.truth.specs.Fractions.{SameFractions}
-
--- f 0, .., f (n - 1)
-unfoldable pub listed : ℕ → (ℕ → List ℕ) → List (List ℕ)
-listed zero f = []
-listed (suc n) f = f zero ∷ listed n (λ i. f (suc i))
 
 -- the row Z·A
 unfoldable pub productOf : System → List (List ℕ) → List (List ℕ)

@@ -23,23 +23,13 @@ use Rattle.modular.specs.MonicLaws.{monicLaws}
 use Rattle.modular.specs.Numbers.{numbers}
 use Rattle.words.specs.System.{System, rightSide}
 use Rattle.truth.specs.Solution.{AllCanonical, Divides, Clears, Monic, Denominator, rowOf, columnOf, sideOf}
+use Rattle.truth.specs.Listed.{listed, length-listed, listed-at}
 use Rattle.truth.specs.Right.{RightSolution, RightAbsence, certified}
 use Rattle.truth.specs.Lift.{Proper, canonical-at, ringOf, equations, vector, column-list, side-list, divides-list, divides-lift}
 use Rattle.truth.specs.Truth.{ProperSolution, right-solves, right-denominator}
 use Rattle.truth.specs.Denominators.{denominator-exists, denominator-unique, denominator-divides, single-denominator}
-use Rattle.truth.specs.Certified.{listed, productOf, Whole, Generates, LowestTerms, ZeroFractions, StatedSolution, CertifiedAbsence}
+use Rattle.truth.specs.Certified.{productOf, Whole, Generates, LowestTerms, ZeroFractions, StatedSolution, CertifiedAbsence}
 use Rattle.truth.specs.Witness
-
-length-listed : (n : ℕ) (f : ℕ → List ℕ) → length (listed n f) ≡ n
-unfolding listed
-length-listed zero f = refl
-length-listed (suc n) f = ap suc (length-listed n (λ i. f (suc i)))
-
-getD-listed : (n : ℕ) (f : ℕ → List ℕ) (i : ℕ) → i < n → getD (listed n f) i [] ≡ f i
-unfolding listed
-getD-listed zero f i h = absurd (omega arith)
-getD-listed (suc n) f zero h = refl
-getD-listed (suc n) f (suc i) h = getD-listed n (λ i. f (suc i)) i (omega arith)
 
 canonical-listed : (p n : ℕ) (f : ℕ → List ℕ) → ((i : ℕ) → Canonical p (f i)) → AllCanonical p (listed n f)
 unfolding listed AllCanonical
@@ -82,10 +72,10 @@ module _ (p : ℕ) (prime : Prime p) where
   unfolding numbers one modulo mul
   zero-iff M hM e = (
     λ z j k. sym (ap (λ x. x .0) (R .mul-one (vector p M hM j))) ∙ z .entries j k
-        ∙ ap (λ f. mul (modulo p) f e) (getD-listed (length M) (λ j. []) j k),
+        ∙ ap (λ f. mul (modulo p) f e) (listed-at (length M) (λ j. []) [] j k),
     λ z. record {
       count = sym (length-listed (length M) (λ j. []));
-      entries = λ j k. ap (λ f. mul (modulo p) f (1 ∷ [])) (z j k) ∙ ap (λ f. mul (modulo p) f e) (sym (getD-listed (length M) (λ j. []) j k));
+      entries = λ j k. ap (λ f. mul (modulo p) f (1 ∷ [])) (z j k) ∙ ap (λ f. mul (modulo p) f e) (sym (listed-at (length M) (λ j. []) [] j k));
     },
   )
 
@@ -208,7 +198,7 @@ module _ (s : System) (h : Proper s) where
     -- 1 times an entry of Z·A
     entry-is : (j : ℕ) → j < s .columns → mul (modulo p) (1 ∷ []) (getD (productOf s Z) j []) ≡ columnOf s Z j
     unfolding productOf
-    entry-is j k = ap (mul (modulo p) (1 ∷ [])) (getD-listed (s .columns) (columnOf s Z) j k)
+    entry-is j k = ap (mul (modulo p) (1 ∷ [])) (listed-at (s .columns) (columnOf s Z) [] j k)
         ∙ one-times p (h .prime) (columnOf s Z j) (column-canonical j)
 
     -- "every entry of Z·A is divisible by w" says that the entries of z·A are polynomials
@@ -233,11 +223,11 @@ module _ (s : System) (h : Proper s) where
         let n = length-listed (s .columns) (columnOf s Z) in (
           λ C. record {
             certifying = nonzero;
-            columns = columns .1 (λ j k. let l = subst (λ n. j < n) n k in getD-listed (s .columns) (columnOf s Z) j l ∙ C .columns j l);
+            columns = columns .1 (λ j k. let l = subst (λ n. j < n) n k in listed-at (s .columns) (columnOf s Z) [] j l ∙ C .columns j l);
             side = λ z. C .side (side .0 z 0 (omega arith));
           },
           λ C. record {
-            columns = λ j k. sym (getD-listed (s .columns) (columnOf s Z) j k) ∙ columns .0 (C .columns) j (subst (λ n. j < n) (sym n) k);
+            columns = λ j k. sym (listed-at (s .columns) (columnOf s Z) [] j k) ∙ columns .0 (C .columns) j (subst (λ n. j < n) (sym n) k);
             side = λ z. C .side (side .1 (only z));
           },
         )

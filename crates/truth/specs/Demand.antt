@@ -1,11 +1,10 @@
 -- Demand 3's truth, of words: whatever the words are and however they came about, an accepted certificate tells the truth.
 use Prim.Native.Nat.{ℕ}
-use mathlib.Core.Path.{_≡_, sym, _∙_, ap, subst}
+use mathlib.Core.Path.{_≡_, refl, sym, _∙_, subst}
 use mathlib.Core.List.{List}
 use Rattle.words.specs.Limits.{Limits}
 use Rattle.words.specs.LimitsLaws.{LimitsFit}
 use Rattle.words.specs.Outcome.Outcome.{accepted}
-use Rattle.words.specs.Outcome.{followedBy}
 use Rattle.words.specs.System.{System, SystemWithin, shape, systemWords, readSystem}
 use Rattle.words.specs.SystemLaws.{systemWords-injective, system-written-of-read}
 use Rattle.words.specs.Certificate.{Certificate, CertificateWithin, certificateWords, readCertificate}
@@ -13,9 +12,9 @@ use Rattle.words.specs.CertificateLaws.{certificate-written-of-read}
 use Rattle.words.specs.Certificate.Certificate.{solution, absence}
 use Rattle.truth.specs.Solution.{RationalSolution, Denominator, LeastDenominator}
 use Rattle.truth.specs.Right.{Right}
-use Rattle.truth.specs.Verdict.{verdict, certificateVerdict}
+use Rattle.truth.specs.Verdict.{verdict}
 use Rattle.truth.specs.Truth.{right-solves, right-denominator, right-least, right-absent, never-both}
-use Rattle.truth.specs.Accepted.{AcceptedWords, words-of-accepted, verdict-right, proper, proper-solution, all-canonical}
+use Rattle.truth.specs.Accepted.{AcceptedWords, words-of-accepted, verdict-of-written, verdict-right, proper, proper-solution, all-canonical}
 
 -- what a solution says: N/d solves the system, d is its denominator, and the least one
 pub record SolutionTrue (s : System) (d : List ℕ) (N : List (List ℕ)) : Type 0 where
@@ -47,13 +46,10 @@ module _ (limits : Limits) where
   -- so also of a system and a certificate whose written forms read back as themselves
   pub verdict-true : (fit : LimitsFit limits) (s : System) (c : Certificate) → readSystem limits (systemWords s) ≡ accepted s
       → readCertificate limits (shape s) (certificateWords c) ≡ accepted c → verdict limits (systemWords s) (certificateWords c) ≡ accepted tt → True s c
-  unfolding verdict
   verdict-true fit s c e f g =
       let h = system-written-of-read limits fit (systemWords s) s e .1 in
       let k = certificate-written-of-read limits (shape s) (certificateWords c) c f .1 in
-      right-true s h c k (verdict-right limits fit s h c k
-      (sym (ap (λ o. followedBy o (λ s. followedBy (readCertificate limits (shape s) (certificateWords c)) (certificateVerdict s))) e
-      ∙ ap (λ o. followedBy o (certificateVerdict s)) f) ∙ g))
+      right-true s h c k (verdict-right limits fit s h c k (sym (verdict-of-written limits fit s c refl h refl k) ∙ g))
 
   -- no system's words are accepted with certificates of both kinds
   pub accepted-once : (fit : LimitsFit limits) (ws cs es : List ℕ) (a : AcceptedWords limits ws cs) (b : AcceptedWords limits ws es)

@@ -1,9 +1,10 @@
--- interface, what contracts, other crates and PROVED.md cite: Solution, Right, Verdict, Truth, RefusalLaws, Accepted, Demand,
+-- interface, what contracts, other crates and PROVED.md cite: Solution, Listed, Right, Verdict, Truth, RefusalLaws, Accepted, Demand,
 --   Denominators, Cases, Places, Prefix, Certified, CertifiedLaws, CertifiedWords, TurnedBack, TurnedBackLaws, DemandLaws,
 --   RefusedWords
 -- inside: Witness, Lift, Fractions, CertifiedTruth
 pub mod Witness
 pub mod Solution
+pub mod Listed
 pub mod Right
 pub mod Verdict
 pub mod Lift

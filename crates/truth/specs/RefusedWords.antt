@@ -1,6 +1,6 @@
 -- 31 to 36 of words: both are written forms, and the first condition of the table that the certificate's values break decides.
 use Prim.Native.Nat.{ℕ}
-use mathlib.Core.Path.{_≡_, refl, _∙_, ap}
+use mathlib.Core.Path.{_≡_, refl, _∙_}
 use mathlib.Core.Logic.{_⊎_, inl, inr}
 use mathlib.Core.List.{List}
 use Rattle.words.specs.Limits.{Limits}
@@ -8,10 +8,11 @@ use Rattle.words.specs.LimitsLaws.{LimitsFit}
 use Rattle.words.specs.Outcome.{Outcome, followedBy}
 use Rattle.words.specs.Outcome.Outcome.{accepted, refused}
 use Rattle.words.specs.System.{System, shape, SystemWithin, systemWords, readSystem}
-use Rattle.words.specs.SystemLaws.{system-read-of-written, system-written-of-read}
+use Rattle.words.specs.SystemLaws.{system-written-of-read}
 use Rattle.words.specs.Certificate.{Certificate, CertificateWithin, certificateWords, readCertificate}
-use Rattle.words.specs.CertificateLaws.{certificate-read-of-written, certificate-written-of-read}
+use Rattle.words.specs.CertificateLaws.{certificate-written-of-read}
 use Rattle.truth.specs.Verdict.{certificateVerdict, verdict}
+use Rattle.truth.specs.Accepted.{verdict-of-written}
 use Rattle.truth.specs.TurnedBack.{Fault}
 use Rattle.truth.specs.TurnedBackLaws.{refused-iff-fault}
 
@@ -27,18 +28,10 @@ pub record FaultyWords (limits : Limits) (ws cs : List ℕ) (number place : ℕ)
 
 module _ (limits : Limits) (fit : LimitsFit limits) (ws cs : List ℕ) (number place : ℕ) where
   pub faulty-refused : FaultyWords limits ws cs number place → verdict limits ws cs ≡ refused number place
-  unfolding verdict
   faulty-refused a =
-      ap (λ o. followedBy o (λ s. followedBy (readCertificate limits (shape s) cs) (certificateVerdict s))) system-read
-      ∙ ap (λ o. followedBy o (certificateVerdict (a .system))) certificate-read
+      verdict-of-written limits fit (a .system) (a .certificate) (a .system-words) (a .system-within)
+      (a .certificate-words) (a .certificate-within)
       ∙ refused-iff-fault limits (a .system) (a .system-within) (a .certificate) (a .certificate-within) number place .1 (a .fault)
-    where
-      system-read : readSystem limits ws ≡ accepted (a .system)
-      system-read = ap (readSystem limits) (a .system-words) ∙ system-read-of-written limits fit (a .system) (a .system-within)
-
-      certificate-read : readCertificate limits (shape (a .system)) cs ≡ accepted (a .certificate)
-      certificate-read = ap (readCertificate limits (shape (a .system))) (a .certificate-words)
-          ∙ certificate-read-of-written limits (shape (a .system)) fit (a .system-within .shape) (a .certificate) (a .certificate-within)
 
   -- the certificate's words, once the system is read
   abbrev CertificateRefused : Type 0

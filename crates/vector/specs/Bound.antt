@@ -28,7 +28,7 @@ at-most-reducible b p l n small h j lt = omega (arith, h j)
 pub below-reducible : (p : ℕ) (l : List ℕ) (n : ℕ) → ((i : ℕ) → getD l i 0 < p) → Reducible p l n
 below-reducible p l n below j lt = residue-small p (getD l j 0) (omega (arith, below j)) (omega (arith, below j))
 
-at-most-set : (b v : ℕ) (l : List ℕ) (i : ℕ) → v ≤ b → AtMost b l → AtMost b (set l i v)
+pub at-most-set : (b v : ℕ) (l : List ℕ) (i : ℕ) → v ≤ b → AtMost b l → AtMost b (set l i v)
 at-most-set b v [] i hv h k = h k
 at-most-set b v (x ∷ l) zero hv h zero = hv
 at-most-set b v (x ∷ l) zero hv h (suc k) = h (suc k)

@@ -53,6 +53,11 @@ module _ (f : ℕ → ℕ) (l : List ℕ) (d : ℕ) where
   pub stored-next : (j : ℕ) (w : List ℕ) (i : ℕ) → w ≡ stored f l d j → d + j ≤ i → getD w i 0 ≡ getD l i 0
   stored-next j w i e later = rw e (stored-outside j i (inr later))
 
+-- the word at j of what is stored from the first place on
+pub stored-first : (f : ℕ → ℕ) (l : List ℕ) (n j : ℕ) → n ≤ length l → j < n → getD (stored f l 0 n) j 0 ≡ f j
+stored-first f l n j room lt =
+    subst (λ (i : ℕ). getD (stored f l 0 n) i 0 ≡ f j) (zero-add j) (stored-inside f l 0 n j (omega arith) lt)
+
 -- what holds of the words stored, and of the others, holds of all
 pub stored-all : (P : ℕ → ℕ → Type 0) (f : ℕ → ℕ) (l l′ : List ℕ) (d n : ℕ) → l′ ≡ stored f l d n → d + n ≤ length l
     → ((j : ℕ) → j < n → P (d + j) (f j)) → ((i : ℕ) → (i < d) ⊎ (d + n ≤ i) → P i (getD l i 0)) → (i : ℕ) → P i (getD l′ i 0)

@@ -1,4 +1,4 @@
-// Size and leading coefficient of a hand, found from its end.
+// Size and leading coefficient of words, found from their end.
 ghost use mathlib.Core.Path.{_≡_};
 ghost use Prim.Native.Nat.{_≤_};
 ghost use lib.ListN.{length};
@@ -16,8 +16,8 @@ pub struct Leading {
     pub value: u64,
 }
 
-// Size and leading coefficient of the polynomial that h[0] .. h[n - 1] stand for modulo p. Words that are 0, of which there may be
-// many at the end, are passed over in rows of eight.
+// Finds size and leading coefficient of the polynomial that h[0] .. h[n - 1] stand for modulo p. Passes over words that are 0, of
+// which there may be many at the end, in rows of eight.
 pub fn find_leading(h: &[u64], n: usize, modulus: Modulus) -> Leading
     requires { ⌜ ValidModulus modulus × (n ≤ length (now h)) ⌝ }
     requires sums { ⌜ Reducible (modulus .p) (now h) n ⌝ }
@@ -32,8 +32,8 @@ pub fn find_leading(h: &[u64], n: usize, modulus: Modulus) -> Leading
     find_leading_near(h, k, modulus)
 }
 
-// The same, word by word: for a leading coefficient that is expected near the end. A word that is 0 is reduced like any other, since
-// the processor cannot foresee which are.
+// Does the same word by word, for a leading coefficient near the end. Reduces a word that is 0 like any other, since the processor
+// cannot foresee which are.
 pub fn find_leading_near(h: &[u64], n: usize, modulus: Modulus) -> Leading
     requires { ⌜ ValidModulus modulus × (n ≤ length (now h)) ⌝ }
     requires sums { ⌜ Reducible (modulus .p) (now h) n ⌝ }

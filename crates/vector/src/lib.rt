@@ -1,5 +1,4 @@
-// Loops on flat ranges of 64-bit words: the inner loops of the solver, the check and the polynomial product. A hand holds
-// sums that are not reduced, a slot numbers below p.
+// Loops on ranges of 64-bit words, in rows of eight where ranges are long.
 pub mod leading;
 pub mod multiple;
 pub mod range;

@@ -7,7 +7,7 @@ ghost use Rattle.vector.specs.Multiple.{sumAt, GainsMultiple};
 use crate::sum::add_row;
 use crate::sum::sum_at;
 
-// h[d + j] += c * s[a + j] for j below n, in rows of eight and what is left word by word.
+// Adds c * s[a + j] to h[d + j] for j below n, in rows of eight and what is left word by word.
 pub fn add_scaled(h: &mut [u64], d: usize, s: &[u64], a: usize, n: usize, c: u64)
     requires { ⌜ (d + n ≤ length (now h)) × (a + n ≤ length (now s)) × (c < 4294967296) ⌝ }
     requires small { ⌜ ((j : ℕ) → j < n → getD (now s) (a + j) 0 < 4294967296) ⌝ }

@@ -5,7 +5,7 @@ ghost use lib.ListN.{length};
 ghost use lib.Bits.{bitOr};
 ghost use Rattle.vector.specs.Or.{orTo};
 
-// h[a] | .. | h[a + 3].
+// Returns h[a] | .. | h[a + 3].
 fn or_of_four(h: &[u64], a: usize) -> u64
     requires { ⌜ a + 4 ≤ length (now h) ⌝ }
     ensures { λ r. ⌜ r ≡ orTo (now (h .entry)) a 3 ⌝ }
@@ -13,7 +13,7 @@ fn or_of_four(h: &[u64], a: usize) -> u64
     h[a] | h[a + 1] | h[a + 2] | h[a + 3]
 }
 
-// h[a] | .. | h[a + 7], as four and four.
+// Returns h[a] | .. | h[a + 7], as four and four.
 pub fn or_of_row(h: &[u64], a: usize) -> u64
     requires { ⌜ a + 8 ≤ length (now h) ⌝ }
     ensures { λ r. ⌜ r ≡ bitOr (orTo (now (h .entry)) a 3) (orTo (now (h .entry)) (a + 4) 3) ⌝ }

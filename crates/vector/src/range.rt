@@ -7,7 +7,7 @@ ghost use Rattle.vector.specs.Bound.{Reducible};
 ghost use Rattle.vector.specs.Stored.{stored};
 use residue::modulus::Modulus;
 
-// h[j] modulo p for j below n.
+// Reduces h[j] modulo p for j below n.
 pub fn reduce_range(h: &mut [u64], n: usize, modulus: Modulus)
     requires { ⌜ ValidModulus modulus × (n ≤ length (now h)) ⌝ }
     requires sums { ⌜ Reducible (modulus .p) (now h) n ⌝ }
@@ -20,7 +20,7 @@ pub fn reduce_range(h: &mut [u64], n: usize, modulus: Modulus)
     }
 }
 
-// h[a + j] = 0 for j below n.
+// Clears h[a + j] for j below n.
 pub fn clear(h: &mut [u64], a: usize, n: usize)
     requires { ⌜ a + n ≤ length (now h) ⌝ }
     ensures { λ _. ⌜ now (h .exit) ≡ stored (λ j. 0) (now (h .entry)) a n ⌝ }
@@ -32,7 +32,7 @@ pub fn clear(h: &mut [u64], a: usize, n: usize)
     }
 }
 
-// h[d + j] = s[a + j] for j below n.
+// Copies s[a + j] to h[d + j] for j below n.
 pub fn copy(h: &mut [u64], d: usize, s: &[u64], a: usize, n: usize)
     requires { ⌜ (d + n ≤ length (now h)) × (a + n ≤ length (now s)) ⌝ }
     ensures { λ _. ⌜ now (h .exit) ≡ stored (λ j. getD (now (s .entry)) (a + j) 0) (now (h .entry)) d n ⌝ }
@@ -44,7 +44,7 @@ pub fn copy(h: &mut [u64], d: usize, s: &[u64], a: usize, n: usize)
     }
 }
 
-// h[j] and s[a + j] change places for j below n; what goes into the slot is reduced.
+// Exchanges h[j] and s[a + j] for j below n; reduces what goes into s.
 pub fn exchange(h: &mut [u64], s: &mut [u64], a: usize, n: usize, modulus: Modulus)
     requires { ⌜ ValidModulus modulus × (n ≤ length (now h)) × (a + n ≤ length (now s)) ⌝ }
     requires sums { ⌜ Reducible (modulus .p) (now h) n ⌝ }

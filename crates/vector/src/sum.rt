@@ -13,8 +13,8 @@ pub struct Four {
     pub fourth: u64,
 }
 
-// h[d + j] + c * s[a + j]. The remainders change nothing: they show the compiler that a product of two numbers of 32 bits is
-// meant, for which it has vector instructions.
+// Returns h[d + j] + c * s[a + j]. The remainders change nothing: they show the compiler that a product of two numbers of 32 bits
+// is meant, for which it has vector instructions.
 pub fn sum_at(h: &[u64], d: usize, s: &[u64], a: usize, c: u64, j: usize) -> u64
     requires { ⌜ SumFits (now h) d (now s) a c j ⌝ }
     ensures { λ r. ⌜ r ≡ sumAt (now (h .entry)) d (now (s .entry)) a c j ⌝ }
@@ -22,7 +22,7 @@ pub fn sum_at(h: &[u64], d: usize, s: &[u64], a: usize, c: u64, j: usize) -> u64
     h[d + j] + c % 4294967296 * (s[a + j] % 4294967296)
 }
 
-// h[d + j] + c * s[a + j] for j below 4.
+// Returns h[d + j] + c * s[a + j] for j below 4.
 fn sums_at(h: &[u64], d: usize, s: &[u64], a: usize, c: u64) -> Four
     requires { ⌜ SumsFit (now h) d (now s) a 4 c ⌝ }
     ensures first { λ r. ⌜ r .first ≡ sumAt (now (h .entry)) d (now (s .entry)) a c 0 ⌝ }
@@ -38,7 +38,7 @@ fn sums_at(h: &[u64], d: usize, s: &[u64], a: usize, c: u64) -> Four
     }
 }
 
-// h[d] = v.first .. h[d + 3] = v.fourth.
+// Stores v at h[d] .. h[d + 3].
 fn store_four(h: &mut [u64], d: usize, v: Four)
     requires { ⌜ d + 4 ≤ length (now h) ⌝ }
     ensures { λ _. ⌜ now (h .exit) ≡ fourStored (now (h .entry)) d (v .first) (v .second) (v .third) (v .fourth) ⌝ }
@@ -49,7 +49,7 @@ fn store_four(h: &mut [u64], d: usize, v: Four)
     h[d + 3] = v.fourth;
 }
 
-// h[d + j] += c * s[a + j] for j below 8. All words are read before any is written: so the compiler takes vector instructions
+// Adds c * s[a + j] to h[d + j] for j below 8. All words are read before any is written: so the compiler takes vector instructions
 // with no test whether the ranges overlap.
 pub fn add_row(h: &mut [u64], d: usize, s: &[u64], a: usize, c: u64)
     requires { ⌜ SumsFit (now h) d (now s) a 8 c ⌝ }

@@ -23,6 +23,7 @@ use Rattle.truth.specs.Demand.{True}
 use Rattle.truth.specs.Certified.{Certified}
 use Rattle.truth.specs.CertifiedWords.{accepted-iff-certified}
 use Rattle.truth.specs.DemandLaws.{Says, Agree, certified-true, true-says, true-agree, same-head}
+use Rattle.reader.specs.OpeningLaws.{or-right}
 use Rattle.verifier.specs.File.{filesBroken, fileVerdict}
 
 -- the files are the bytes of accepted words
@@ -46,10 +47,6 @@ pub record CertifiedFiles (limits : Limits) (f g : List ℕ) : Type 0 where
 or-left : (a b : Bool) → a || b ≡ false → a ≡ false
 or-left true b e = e
 or-left false b e = refl
-
-or-right : (a b : Bool) → a || b ≡ false → b ≡ false
-or-right true b e = absurd (let z : _≡_ {A = ℕ} 0 1 = cc in omega arith)
-or-right false b e = e
 
 pub whole-words : (ws : List ℕ) → broken (bytesOf ws) ≡ false
 whole-words ws =

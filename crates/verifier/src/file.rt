@@ -12,7 +12,7 @@ ghost use Rattle.verifier.specs.File.{fileVerdict};
 // One word more than the longest certificate has: among so many is the first word at fault of whatever is longer.
 const CERTIFICATE_SPACE: usize = Office::CERTIFICATE_WORDS + 1;
 
-// Tries number 10 on either file, then gives the verdict on their words. A certificate's file may have any length.
+// Tries number 10 on either file, then returns the verdict on their words. A certificate's file may have any length.
 pub fn check_files(system: &[u8], certificate: &[u8]) -> Verdict
     ensures { λ r. ⌜ verdictOutcome r ≡ fileVerdict office (now (system .entry)) (now (certificate .entry)) ⌝ }
 {

@@ -1,4 +1,5 @@
-// The check (document 01, "Turned back"): reads the system, then the certificate, then tries 31 to 36, which are in `check_conditions`.
+// The check (document 01, "Turned back"): reads the system, then the certificate, then tries 31 to 36, which are in
+// `check_conditions`. On files: `file::check_files`.
 pub mod file;
 
 use answers::CertificateRead;
@@ -35,27 +36,32 @@ fn check_read(system: &[u32], certificate: &[u32], shape: Shape, form: Form) -> 
         rows,
         columns,
     };
-    let mut equations = [0u64; 72 * SYSTEM_WIDTH];
-    load(&mut equations, SYSTEM_WIDTH, system, rows * columns + rows);
-    let mut witness = [0u64; 18 * CERTIFICATE_WIDTH];
+    let mut system_area = [0u64; 72 * SYSTEM_WIDTH];
+    load(
+        &mut system_area,
+        SYSTEM_WIDTH,
+        system,
+        rows * columns + rows,
+    );
+    let mut certificate_area = [0u64; 18 * CERTIFICATE_WIDTH];
     match form {
         Form::Solution => {
             load(
-                &mut witness,
+                &mut certificate_area,
                 CERTIFICATE_WIDTH,
                 certificate,
                 columns + 2 + rows,
             );
-            check_solution(&equations, &witness, layout)
+            check_solution(&system_area, &certificate_area, layout)
         }
         Form::Absence => {
-            load(&mut witness, CERTIFICATE_WIDTH, certificate, rows);
-            check_absence(&equations, &witness, layout)
+            load(&mut certificate_area, CERTIFICATE_WIDTH, certificate, rows);
+            check_absence(&system_area, &certificate_area, layout)
         }
     }
 }
 
-// Gives the verdict on the words of a system and of a certificate.
+// Returns the verdict on the words of a system and of a certificate.
 pub fn check(system: &[u32], certificate: &[u32]) -> Verdict
     ensures { λ r. ⌜ verdictOutcome r ≡ verdict office (now (system .entry)) (now (certificate .entry)) ⌝ }
 {

@@ -2,9 +2,9 @@
 pub mod Values
 pub mod Framing
 pub mod Overwriting
--- laws
+-- interface: laws of these
 pub mod ValuesLaws
 -- interface: what trying polynomials gives
 pub mod Trial
--- laws
+-- interface: laws of it
 pub mod TrialLaws

@@ -1,6 +1,6 @@
 // What differs between a system and a certificate as words.
 
-// A head, so many polynomials, an end; how the polynomials lie in arrays, and what they must keep.
+// The head, the number of polynomials, how they lie in arrays, and the limits that they keep.
 pub struct Format {
     // The head word.
     pub head: u32,
@@ -9,7 +9,7 @@ pub struct Format {
     pub limit: usize,
     // Polynomial k has its coefficients from the place `stride` * k on.
     pub stride: usize,
-    // Refusals 6 to 8 have numbers greater by so much.
+    // What is added to the refusals 6 to 8.
     pub by: u8,
     // The words of the longest form, which must be lent.
     pub longest: usize,

@@ -33,7 +33,7 @@ fn write_polynomial(words: &mut [u32], f: &[u64])
     write_coefficients(&mut words[1..], f);
 }
 
-// Writes all polynomials, in written order. Gives the number of their words.
+// Writes all polynomials, in written order. Returns the number of their words.
 fn write_polynomials(
     words: &mut [u32],
     sizes: &[usize],
@@ -61,7 +61,7 @@ fn write_polynomials(
     at
 }
 
-// Writes the head, the polynomials and the end. Gives the number of all words.
+// Writes the head, the polynomials and the end. Returns the number of all words.
 pub fn write_framed(
     words: &mut [u32],
     sizes: &[usize],

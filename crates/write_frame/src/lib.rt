@@ -1,5 +1,5 @@
-// Polynomials in arrays, written between a head and an end over the first of lent words: `frame::write_framed`, for values that are
-// known to keep the limits. What differs between a system and a certificate is a `format::Format`.
+// Polynomials in arrays: tried one after another (trial), and written between a head and an end over lent words (frame). What
+// differs between a system and a certificate is a `format::Format`.
 pub mod format;
 pub mod frame;
 pub mod trial;

@@ -5,13 +5,11 @@ use Prim.Native.Nat.{ℕ, _*_, _≤_, _<_}
 use native.Mathlib.Nat.{le-trans, mul-le-mul-left}
 use native.Mathlib.Omega.{arith}
 use lib.ListN.{length}
-use Rattle.words.specs.Limits.{Limits, solutionCount, wordsFor}
+use Rattle.words.specs.Limits.{Limits, wordsFor}
 use Rattle.words.specs.LimitsLaws.{LimitsFit, systemCount-most, wordsFor-most}
 use Rattle.words.specs.System.{Shape, ShapeWithin}
 use Rattle.words.specs.SystemLaws.{system-expressible}
-use Rattle.words.specs.Certificate.{Form, entryCount}
-use Rattle.words.specs.Certificate.Form.{solving, absent}
-use Rattle.words.specs.CertificateLaws.{certificate-expressible}
+use Rattle.words.specs.CertificateLaws.{entryCount-most, certificate-expressible}
 use Rattle.answers.specs.Answer.{formOf}
 use Rattle.write_frame.specs.declared.format.Format.{Format}
 use Rattle.write_frame.specs.Framing.{Covers}
@@ -43,11 +41,6 @@ pub ready-as : {computed format : Format} {p : ℕ} {sizes coefficients : List �
 ready-as {computed} {format} {p} {sizes} {coefficients} e r = subst (λ (g : Format). Ready g p sizes coefficients) (sym e) r
 
 module _ (limits : Limits) (fit : LimitsFit limits) (h : Shape) (within : ShapeWithin limits h) where
-  entryCount-most : (form : Form) → entryCount h form ≤ solutionCount (limits .rows) (limits .columns)
-  unfolding entryCount
-  entryCount-most solving = let r = within .rows in let c = within .columns in omega arith
-  entryCount-most absent = let r = within .rows in omega arith
-
   pub kind-ready : (k : Kind) (sizes coefficients : List ℕ) → limits .certificateCoefficients ≤ certificateStride
       → mostOf limits k ≤ length sizes
       → strideOf limits k * mostOf limits k ≤ length coefficients → Ready (formatOf limits h k) (h .modulus) sizes coefficients
@@ -60,7 +53,7 @@ module _ (limits : Limits) (fit : LimitsFit limits) (h : Shape) (within : ShapeW
       )
   kind-ready (kind.Certificate form) sizes coefficients apart s c =
       let x = certificate-expressible limits h fit within (formOf form) tt in
-      let few = entryCount-most (formOf form) in (
+      let few = entryCount-most limits h fit within (formOf form) in (
         covers (certificateFormat limits h (formOf form)) _ sizes coefficients few s c apart (x .words) (omega arith),
         x .modulus,
         wordsFor-most (limits .certificateCoefficients) few,

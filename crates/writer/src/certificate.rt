@@ -12,7 +12,7 @@ ghost use Rattle.writer.specs.Writing.{writeCertificate, Writes};
 ghost use Rattle.writer.specs.Values.{shapeWith, certificateIn};
 
 // Writes a certificate for a system of p, rows and columns over the first of the lent words. Polynomial k, of d, N, w and Z or else
-// of q, has `sizes[k]` coefficients, lowest power first, from `coefficients[128 * k]` on.
+// of q, has `sizes[k]` coefficients, lowest power first, from `coefficients[STRIDE * k]` on.
 pub fn write_certificate(
     words: &mut [u32],
     sizes: &[usize; CERTIFICATE_POLYNOMIALS],

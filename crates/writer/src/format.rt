@@ -32,7 +32,7 @@ pub const STRIDE: usize = 128;
 
 pub const CERTIFICATE_VALUES: usize = STRIDE * CERTIFICATE_POLYNOMIALS;
 
-// Gives the format of certificates for systems of so many rows and columns; p does not matter.
+// Returns the format of certificates for systems of `rows` rows and `columns` columns; p does not matter.
 pub fn certificate_format(form: Form, rows: u32, columns: u32) -> Format
     requires { ⌜ (rows ≤ office .rows) × (columns ≤ office .columns) ⌝ }
     ensures { λ r. ⌜ ((p : ℕ) → r ≡ certificateFormat office (shapeWith p rows columns) (formOf form)) ⌝ }
@@ -57,7 +57,7 @@ pub fn certificate_format(form: Form, rows: u32, columns: u32) -> Format
     }
 }
 
-// Gives the format of what is written for a shape within the limits.
+// Returns the format of what is written for a shape within the limits.
 pub fn format_for(kind: Kind, rows: u32, columns: u32, modulus: u32) -> Format
     requires { ⌜ ShapeWithin office (shapeWith modulus rows columns) ⌝ }
     ensures { λ r. ⌜ r ≡ formatOf office (shapeWith modulus rows columns) kind ⌝ }

@@ -19,7 +19,7 @@ ghost use Rattle.answers.specs.Answer.{shapeOf, formOf};
 ghost use Rattle.write_frame.specs.Framing.{Wrote};
 ghost use Rattle.writer.specs.Output.{sizeIn, Sized, polynomialsOf};
 
-// Gives the number of the coefficients of polynomial k: zeros at the end do not count.
+// Returns the number of the coefficients of polynomial k: zeros at the end do not count.
 pub fn size_of(output: &[u64; CERTIFICATE_VALUES], k: usize) -> usize
     requires { ⌜ k < 18 ⌝ }
     ensures { λ r. ⌜ r ≡ sizeIn (now (output .entry)) k ⌝ }
@@ -50,7 +50,7 @@ fn store_sizes(
     }
 }
 
-// Writes the certificate in `output` for a system of that shape over the first of the lent words. Gives the number of its words.
+// Writes the certificate in `output` for a system of that shape over the first of the lent words. Returns the number of its words.
 pub fn write_output(
     words: &mut [u32],
     output: &[u64; CERTIFICATE_VALUES],

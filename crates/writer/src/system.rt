@@ -10,7 +10,7 @@ ghost use Rattle.writer.specs.Writing.{writeSystem, Writes};
 ghost use Rattle.writer.specs.Values.{shapeWith, systemIn};
 
 // Writes a system over the first of the lent words. Polynomial k, of A row by row and then of b, has `sizes[k]` coefficients,
-// lowest power first, from `coefficients[16 * k]` on.
+// lowest power first, from `coefficients[Office::COEFFICIENTS * k]` on.
 pub fn write_system(
     words: &mut [u32],
     sizes: &[usize; SYSTEM_POLYNOMIALS],

@@ -16,7 +16,8 @@ ghost use Rattle.writer.specs.Values.{shapeWith};
 ghost use Rattle.writer.specs.Formats.{writeFramed, formatOf, mostOf, strideOf};
 ghost use Rattle.writer.specs.Writing.{refuseShape, Writes};
 
-// Tries polynomials, 6 to 8, or greater by so much as the format says, then the room, 11; where nothing is refused, writes the words.
+// Tries polynomials, 6 to 8, or greater by so much as the format says, then the room, 11; where nothing is refused, writes the
+// words.
 fn write_values(
     words: &mut [u32],
     sizes: &[usize],
@@ -46,7 +47,7 @@ fn write_values(
     Counted::Count(write_framed(words, sizes, coefficients, format))
 }
 
-// Tries a shape, 2, then 3; where nothing is refused, writes what it and the polynomials of that kind give.
+// Tries a shape, 2, then 3; where nothing is refused, writes the words of that kind that the shape and the polynomials make.
 pub fn write_shaped(
     words: &mut [u32],
     sizes: &[usize],

@@ -6,7 +6,7 @@ use native.Mathlib.Nat.{le-of-lt, le-trans, le-add-right, pos-of-ne-zero}
 use native.Mathlib.Omega.{arith}
 use borrow.Author.Needs.{needs}
 use Rattle.residue.specs.Modulus.{ValidModulus}
-use Rattle.solve_lattice.specs.Room.{productWords, rowsWords}
+use Rattle.solve_lattice.specs.Room.{productWords, slotPlaces}
 use Rattle.solve_lattice.specs.Found.{found-ends, found-leading, found-within}
 use Rattle.solve_lattice.specs.Sums.{sums-room, sums-fewer}
 use Rattle.solve_lattice.specs.Quotients.{Divided}
@@ -64,7 +64,7 @@ take-multiple-requires c κs =
     let some = on .before .before .before .if1 .taken in
     let filled = pos-of-ne-zero (on .before .if2 .left) in
     let step = dividing-step (S .pre .0 .0 .prime) I (S .pre .0 .1) some filled (on .if3 .left) in
-    (S .pre .0 .0, (step, sums-fewer _ (L .loop .block) (rowsWords + L .loop .found .size) 1 (omega arith) (I .sums)))
+    (S .pre .0 .0, (step, sums-fewer _ (L .loop .block) (slotPlaces + L .loop .found .size) 1 (omega arith) (I .sums)))
 
 slice-read-add : tie.Need-slice-read-add Inv-loop μ-loop
 slice-read-add c =

@@ -3,7 +3,7 @@ use Prim.Native.Nat.{_+_, _<_}
 use native.Mathlib.Omega.{arith}
 use Rattle.residue.specs.Modulus.{ValidModulus}
 use Rattle.solve_lattice.specs.Sums.{sums-room}
-use Rattle.solve_lattice.specs.Room.{rowsWords}
+use Rattle.solve_lattice.specs.Room.{slotPlaces}
 use Rattle.solve_levels.specs.Started.{started}
 use Rattle.solve_levels.proofs.next.start_column.Statement.{statement}
 use Rattle.solve_levels.proofs.next.start_column.Tie as tie
@@ -15,7 +15,7 @@ lay-hand-requires c κs =
     let column = S .pre .1 .0 in
     let positive : 0 < S .args .modulus .p = omega (arith, m .prime .large) in (
       (m, column .ends .within),
-      λ j lt. omega (arith, sums-room _ (S .args .column .now) (rowsWords + S .args .size) positive (column .sums) j),
+      λ j lt. omega (arith, sums-room _ (S .args .column .now) (slotPlaces + S .args .size) positive (column .sums) j),
     )
 
 returns : tie.Need-returns
