@@ -12,8 +12,8 @@ use Rattle.words.specs.Certificate.{readCertificate}
 use Rattle.words.specs.FirstFault.{SystemBegins, SystemWhole, FirstFault}
 use Rattle.words.specs.RefusedLaws.{system-first-fault}
 
-sheets : List (List ℕ)
-sheets =
+systems : List (List ℕ)
+systems =
     (0x00110002 ∷ [])
     ∷ (0x10110004 ∷ [])
     ∷ (0x10010002 ∷ [])
@@ -25,13 +25,13 @@ sheets =
     ∷ (0x10110002 ∷ 0x20000000 ∷ 0x20000000 ∷ 0x40000005 ∷ [])
     ∷ []
 
-sheets-refused : map (readSystem office) sheets
+systems-refused : map (readSystem office) systems
     ≡ refused 1 0 ∷ refused 2 0 ∷ refused 3 0 ∷ refused 4 1 ∷ refused 5 1 ∷ refused 6 1 ∷ refused 7 2 ∷ refused 8 2 ∷ refused 9 3 ∷ []
-unfolding readSystem sheets
-sheets-refused = refl
+unfolding readSystem systems
+systems-refused = refl
 
-cards : List (List ℕ)
-cards =
+certificates : List (List ℕ)
+certificates =
     (0x50000003 ∷ [])
     ∷ (0x50000002 ∷ [])
     ∷ (0x50000002 ∷ 0x30000001 ∷ [])
@@ -44,10 +44,10 @@ cards =
 one : Shape
 one = record { modulus = 2; rows = 1; columns = 1 }
 
-cards-refused : map (readCertificate office one) cards
+certificates-refused : map (readCertificate office one) certificates
     ≡ refused 21 0 ∷ refused 24 1 ∷ refused 25 1 ∷ refused 26 1 ∷ refused 27 2 ∷ refused 28 2 ∷ refused 29 2 ∷ []
-unfolding readCertificate cards one
-cards-refused = refl
+unfolding readCertificate certificates one
+certificates-refused = refl
 
 -- the limits of the office and of the panel meet what the law of the first fault asks
 office-first-fault : (ws : List ℕ) {n k : ℕ} → readSystem office ws ≡ refused n k
