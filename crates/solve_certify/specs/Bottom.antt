@@ -33,6 +33,7 @@ module _ {p n m : ℕ} (few : n ≤ 8) {input : List ℕ} {L : Level} (quotients
           (omega (arith, rank-le n (D .level m .size))) (D .unfinished .small (D .N) (λ j h. D .descent .small j (omega arith) h));
       reduced = descent-reduced (systemOf p prime n m X) (D .level) (D .kernel) (D .levels)
           (λ k. polynomials (residues p prime) .mul (D .d) (X .right k)) (D .vector) (D .N) (D .descent);
+      certifying = D .unfinished .certifying;
       holds-d = D .holds-d;
       holds-N = λ j h. D .holds-N j (omega arith) h;
       holds-w = D .holds-w;

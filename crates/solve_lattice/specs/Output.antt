@@ -14,6 +14,7 @@ use Rattle.reduction.specs.Holds.{Holds}
 use Rattle.reduction.specs.Polynomials.{euclidean}
 use Rattle.reduction.specs.Certificate.{RightSolution, SmallSolution, RightAbsence, SmallAbsence}
 use Rattle.reduction.specs.Numerators.{ReducedNumerators}
+use Rattle.reduction.specs.Certifying.{Certifying}
 use Rattle.reduction.specs.Killing.{Killing}
 use Rattle.solve_lattice.specs.Room.{outputWords, blockWords}
 use Rattle.solve_lattice.specs.Word.{words}
@@ -42,6 +43,7 @@ module _ (p : ℕ) (prime : Prime p) where
       pub right : RightSolution (euclidean (residues p prime)) T d N w Z
       pub small : SmallSolution (euclidean (residues p prime)) T 121 d N w Z
       pub reduced : ReducedNumerators (sized (residues p prime)) (T .rows) (T .columns) (T .matrix) N
+      pub certifying : Certifying (sized (residues p prime)) (T .rows) (T .columns) (T .matrix) (T .right) d w Z
       pub holds-d : HoldsAt output 0 d
       pub holds-N : (j : ℕ) → j < T .columns → HoldsAt output (1 + j) (N j)
       pub holds-w : HoldsAt output (1 + T .columns) w
