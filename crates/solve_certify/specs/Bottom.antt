@@ -18,8 +18,9 @@ use Rattle.solve_lattice.specs.Output.{HoldsSolution, HoldsCertificate}
 use Rattle.solve_certify.specs.Ascended.{HoldsLevels, HoldsDescended, HoldsAscended, Ascended}
 use Rattle.solve_certify.specs.Certifies.{Certifies}
 use Rattle.solve_certify.specs.Empty.{empty-levels}
+use Rattle.solve_lattice.specs.Room.{lanes}
 
-module _ {p n m : ℕ} (few : n ≤ 8) {input : List ℕ} {L : Level} (quotients output : List ℕ) where
+module _ {p n m : ℕ} (few : n ≤ lanes) {input : List ℕ} {L : Level} (quotients output : List ℕ) where
   module _ (prime : Prime p) {X : Equations p prime n m} (H : HoldsLevels p prime n m X 0 input L) where
     solution : HoldsDescended p prime n m H quotients output → HoldsSolution p prime (systemOf p prime n m X) output
     solution D = record {
