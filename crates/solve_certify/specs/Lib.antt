@@ -2,6 +2,11 @@
 pub mod Witnessed
 -- inside: laws on words
 pub mod Words
+-- inside: rows that are too long
+pub mod Long
+pub mod Shortens
+pub mod Short
+pub mod ShortRounds
 -- inside: the right side inserted
 pub mod Inserted
 -- inside: its two ends

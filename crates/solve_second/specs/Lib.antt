@@ -1,6 +1,7 @@
 -- interface, what contracts, other crates and PROVED.md cite: Monic, Product, ProductLaws, Greatest, Words, Laid,
---   TransposeFilling, RightFilling, WithRow, Side, Solved, Denominator, QuotientRows
--- inside: Negated, Reduced, MonicLaws, Cells, Transposed, ValidTransposed, Spread, Filling, Same, RowLaid,
+--   TransposeFilling, RightFilling, Same, OtherTails, WithRow, Side, Solved, Denominator,
+--   QuotientRows
+-- inside: Negated, Reduced, MonicLaws, Cells, Transposed, ValidTransposed, Spread, Filling, RowLaid,
 --   RightInserted, SecondDual, Scaled, DividedSecond, SecondEnds
 -- what the products ensure
 pub mod Monic
@@ -25,6 +26,7 @@ pub mod TransposeFilling
 pub mod RightFilling
 -- the level with a row of its blocks for tails
 pub mod Same
+pub mod OtherTails
 pub mod WithRow
 pub mod RowLaid
 pub mod Side
