@@ -136,7 +136,7 @@ module _ {K : Type 0} (F : Field K) {n B D : ℕ} {G : Slots (Polynomial F)} (O 
   multiple-size : suc (size (factorOf * d)) ≡ size factorOf +ₙ size d
   multiple-size = size-mul-nonzero (sized F) factorOf d factor-nonzero (positive-nonzero (sized F) d some)
 
-  pub factor-room : size (factorOf * d) +ₙ degrees n (G .size) ≤ B +ₙ G .size i
+  factor-room : size (factorOf * d) +ₙ degrees n (G .size) ≤ B +ₙ G .size i
   factor-room = omega (arith, multiple-size, factor-size, product, pivot .reached, longer, dual .row-room i h row-some)
 
   pub factor-tops : Tops (sized F) n B D (lessTail (polynomials F) n G i (factorOf * d))

@@ -4,6 +4,7 @@ pub mod Witnessed
 pub mod Words
 -- inside: rows that are too long
 pub mod Long
+pub mod LongSoFar
 pub mod Shortens
 pub mod Short
 pub mod ShortRounds

@@ -1,21 +1,24 @@
 -- The rows of the second system's solution in memory: their sizes, and which of them is too long beside w.
-use Prim.Native.Nat.{ℕ, suc, _+_, _-_, _*_, _<_, _≤_}
-use mathlib.Core.Path.{_≡_, sym, _∙_, ap, subst}
+use Prim.Native.Nat.{ℕ, suc, _+_, _-_, _*_, _%_, _<_, _≤_}
+use mathlib.Core.Path.{_≡_, sym, _∙_, ap}
 use mathlib.Core.List.{List}
+use native.Mathlib.Nat.{zero-add}
 use native.Mathlib.Omega.{arith}
 use native.Mathlib.Decide.{ℕ-discrete}
-use lib.ListN.{length, getD, take, drop, length-take}
+use lib.ListN.{length, getD, take, drop, length-take, length-drop}
 use Rattle.algebra.specs.Coefficients as coefficients
 use Rattle.algebra.specs.Polynomial.{Polynomial}
 use Rattle.algebra.specs.Size.{size, leading, coefficients-last}
 use Rattle.modular.specs.Prime.{Prime}
 use Rattle.modular.specs.Modulo.{modulo}
 use Rattle.modular.specs.Residue.{residues}
-use Rattle.vector.specs.Reduced.{polynomial}
+use Rattle.residue.specs.Sum.{residue-small}
+use Rattle.vector.specs.Bound.{Reducible}
+use Rattle.vector.specs.Reduced.{polynomial, polynomial-same, word-inside}
 use Rattle.vector.specs.Size.{word-past, word-last, word-last-positive, size-reduced}
 use Rattle.reduction.specs.Holds.{Holds, holds-size, holds-size-exact}
 use Rattle.solve_lattice.specs.Room.{blockWords}
-use Rattle.solve_lattice.specs.Word.{residue, residue-same, residue-zero, zero-residue, residue-mod, words}
+use Rattle.solve_lattice.specs.Word.{residue, residue-zero, zero-residue, residue-mod, words}
 use Rattle.solve_lattice.specs.Memory.{height, Level, slotSize}
 
 -- the number of coefficients of row i, and the last of them
@@ -31,6 +34,30 @@ row-most p rows i = omega (
   size-reduced p (take blockWords (drop (blockWords * i) rows)),
   length-take blockWords (drop (blockWords * i) rows),
 )
+
+-- the words from a row's place on, as they are lent
+abbrev pub rowPart : List ℕ → ℕ → List ℕ
+rowPart rows i = take (length rows - blockWords * i) (drop (blockWords * i) rows)
+
+module _ (p : ℕ) (rows : List ℕ) (i : ℕ) (room : blockWords * i + blockWords ≤ length rows) where
+  pub part-room : blockWords ≤ length (rowPart rows i)
+  part-room = omega (
+    arith,
+    length-take (length rows - blockWords * i) (drop (blockWords * i) rows),
+    length-drop (blockWords * i) rows,
+  )
+
+  part-word : (j : ℕ) → j < blockWords → getD (rowPart rows i) j 0 ≡ getD rows (blockWords * i + j) 0
+  part-word j lt = word-inside rows (blockWords * i) (length rows - blockWords * i) j (omega arith)
+
+  pub part-reducible : ((j : ℕ) → getD rows j 0 < p) → Reducible p (rowPart rows i) blockWords
+  part-reducible below j lt =
+      let word = part-word j lt in
+      residue-small p _ (omega (arith, below (blockWords * i + j))) (omega (arith, below (blockWords * i + j)))
+
+  pub part-row : 0 < p → polynomial p (rowPart rows i) 0 blockWords ≡ polynomial p rows (blockWords * i) blockWords
+  part-row positive = polynomial-same p positive (rowPart rows i) rows 0 (blockWords * i) blockWords
+      (λ j lt. ap (λ k. getD (rowPart rows i) k 0 % p) (zero-add j) ∙ ap (λ w. w % p) (part-word j lt))
 
 -- row i is not zero, and with the height of its slot it has more than so many coefficients
 abbrev pub Long : (p : ℕ) → List ℕ → Level → (most i : ℕ) → Type 0

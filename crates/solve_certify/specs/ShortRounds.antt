@@ -184,19 +184,34 @@ module _ {p n length : ℕ} {L : Level} {d w rows : List ℕ} {r : Longest} (few
     pub long-before : {w₁ rows₁ : List ℕ} {r₁ : Longest} → RowsSolved p n length L′ w₁ rows₁ r₁ → r₁ .row < n
         → (rowSize p rows₁ (r₁ .row) + r .most < rowSize p rows (r .row) + r₁ .most)
         ⊎ ((rowSize p rows₁ (r₁ .row) + r .most ≡ rowSize p rows (r .row) + r₁ .most) × (r₁ .row < r .row))
-    long-before {w₁} {rows₁} {r₁} found₁ inside₁ =
-        let S₁ = second found₁ prime small after-holds after-tops in
-        let most₁ = most-is found₁ prime small after-holds after-tops ends x monic D in
-        let row₁ = row-is found₁ prime small after-holds after-tops (r₁ .row) inside₁ in
-        let was = size-row i inside in
-        ⊎-elim (λ lt. inl (omega (arith, size-w, most₁, row₁, was)))
-        (λ le. inr (omega (arith, size-w, most₁, row₁, was, le .0), le .1))
-        (factor-before (residues p prime) tops x (S .dual) monic (S .monic) (monic-some prime x monic) i inside row-some long
+    long-before {w₁} {rows₁} {r₁} found₁ inside₁ = go (factor-before (residues p prime) tops x (S .dual) monic (S .monic)
+        (monic-some prime x monic) i inside row-some long
         (λ j h lt. greatest j h lt (decLt 0 (size (residues p prime) (S .Y j))))
         (λ j h l lt. latest j h l lt (decLt 0 (size (residues p prime) (S .Y j))))
         (S₁ .dual) (r₁ .row) inside₁ (omega (arith, row₁, found₁ .long .long inside₁ .0))
         (omega (arith, row₁, most₁, found₁ .long .long inside₁ .1, after-holds .size (r₁ .row) inside₁)))
       where
+        S₁ : HoldsSecond p prime n B after w₁ rows₁
+        S₁ = second found₁ prime small after-holds after-tops
+
+        row₁ : rowSize p rows₁ (r₁ .row) ≡ size (residues p prime) (S₁ .Y (r₁ .row))
+        row₁ = row-is found₁ prime small after-holds after-tops (r₁ .row) inside₁
+
+        most₁ : r₁ .most ≡ size (residues p prime) (polynomials (residues p prime) .mul x (S₁ .polynomial))
+        most₁ = most-is found₁ prime small after-holds after-tops ends x monic D
+
+        new : ℕ
+        new = size (residues p prime) (S₁ .Y (r₁ .row)) + size (residues p prime) (polynomials (residues p prime) .mul x (S .polynomial))
+
+        old : ℕ
+        old = size (residues p prime) (S .Y i) + size (residues p prime) (polynomials (residues p prime) .mul x (S₁ .polynomial))
+
+        go : (new < old) ⊎ ((new ≡ old) × (r₁ .row < i))
+            → (rowSize p rows₁ (r₁ .row) + r .most < rowSize p rows i + r₁ .most)
+            ⊎ ((rowSize p rows₁ (r₁ .row) + r .most ≡ rowSize p rows i + r₁ .most) × (r₁ .row < i))
+        go (inl lt) = inl (omega (arith, size-w, most₁, row₁, size-row i inside))
+        go (inr le) = inr (omega (arith, size-w, most₁, row₁, size-row i inside, le .0), le .1)
+
         greatest : (j : ℕ) → j < n
             → size (residues p prime) (polynomials (residues p prime) .mul x (S .polynomial)) < size (residues p prime) (S .Y j) + G .size j
             → Dec (0 < size (residues p prime) (S .Y j)) → size (residues p prime) (S .Y j) ≤ size (residues p prime) (S .Y i)

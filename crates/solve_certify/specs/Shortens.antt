@@ -68,14 +68,14 @@ module _ {p : ℕ} (prime₀ : Prime p) {L : Level} (valid : ValidLevel p L) (i 
 
   same : SameBlocks L L′
   same = record {
-    words = λ q j l lt. kept (slotWords * q + j) (apart q j (decLt i q)) (λ e. omega arith);
+    words = λ q j l lt. kept (slotWords * q + j) (apart q j lt (decLt i q)) (λ e. omega arith);
     sizes = λ q l. kept (sizesFrom + q) (inr (omega arith)) (λ e. omega arith);
     inverses = λ q l. kept (inversesFrom + q) (inr (omega arith)) (λ e. omega arith);
   }
     where
-      apart : (q j : ℕ) → Dec (i < q) → (slotWords * q + j < b) ⊎ (b + blockWords ≤ slotWords * q + j)
-      apart q j (yes h) = inr (omega arith)
-      apart q j (no h) = inl (omega arith)
+      apart : (q j : ℕ) → j < blockWords → Dec (i < q) → (slotWords * q + j < b) ⊎ (b + blockWords ≤ slotWords * q + j)
+      apart q j lt (yes h) = inr (omega arith)
+      apart q j lt (no h) = inl (omega arith)
 
   tail-size : (q : ℕ) → q < lanes → ¬ (q ≡ i) → tailSize L′ q ≡ tailSize L q
   tail-size q l ne = kept (tailSizesFrom + q) (inr (omega arith)) (λ e. ne (omega arith))
@@ -85,11 +85,11 @@ module _ {p : ℕ} (prime₀ : Prime p) {L : Level} (valid : ValidLevel p L) (i 
     tail-kept : (q : ℕ) → q < lanes → ¬ (q ≡ i)
         → (x : ℕ) → words p prime L (slotWords * q + blockWords) blockWords x ≡ words p prime L′ (slotWords * q + blockWords) blockWords x
     tail-kept q l ne x = words-same p prime L L′ (slotWords * q + blockWords) (slotWords * q + blockWords) blockWords x
-        (λ lt. ap (λ w. w % p) (sym (kept (slotWords * q + blockWords + x) (apart (decLt i q)) (λ e. omega arith))))
+        (λ lt. ap (λ w. w % p) (sym (kept (slotWords * q + blockWords + x) (apart lt (decLt i q)) (λ e. omega arith))))
       where
-        apart : Dec (i < q) → (slotWords * q + blockWords + x < b) ⊎ (b + blockWords ≤ slotWords * q + blockWords + x)
-        apart (yes h) = inr (omega arith)
-        apart (no h) = inl (omega arith)
+        apart : x < blockWords → Dec (i < q) → (slotWords * q + blockWords + x < b) ⊎ (b + blockWords ≤ slotWords * q + blockWords + x)
+        apart lt (yes h) = inr (omega arith)
+        apart lt (no h) = inl (omega arith)
 
     -- that of slot i before, and after
     tail-before : (x : ℕ) → words p prime L b blockWords x ≡ words p prime t₀ 0 blockWords x
