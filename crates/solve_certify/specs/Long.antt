@@ -2,7 +2,7 @@
 use Prim.Native.Nat.{ℕ, suc, _+_, _-_, _*_, _%_, _<_, _≤_}
 use mathlib.Core.Path.{_≡_, sym, _∙_, ap}
 use mathlib.Core.List.{List}
-use native.Mathlib.Nat.{zero-add}
+use native.Mathlib.Nat.{mod-lt, zero-add}
 use native.Mathlib.Omega.{arith}
 use native.Mathlib.Decide.{ℕ-discrete}
 use lib.ListN.{length, getD, take, drop, length-take, length-drop}
@@ -34,6 +34,12 @@ row-most p rows i = omega (
   size-reduced p (take blockWords (drop (blockWords * i) rows)),
   length-take blockWords (drop (blockWords * i) rows),
 )
+
+pub row-below : (p : ℕ) (rows : List ℕ) (i : ℕ) → 0 < p → 0 < rowSize p rows i → rowLeading p rows i < p
+row-below p rows i positive some =
+    let range : List ℕ = take blockWords (drop (blockWords * i) rows) in
+    let last : length (polynomial p rows (blockWords * i) blockWords) ≡ suc (rowSize p rows i - 1) = omega arith in
+    omega (arith, word-last p positive range (rowSize p rows i - 1) last, mod-lt (getD range (rowSize p rows i - 1) 0) positive)
 
 -- the words from a row's place on, as they are lent
 abbrev pub rowPart : List ℕ → ℕ → List ℕ

@@ -76,7 +76,7 @@ module _ {p n length : ℕ} {L : Level} {w rows : List ℕ} {r : Longest} (found
     )
 
     -- no row is too long
-    short : ¬ (r .row < n) → (i : ℕ) → i < n → 0 < size (residues p prime) (second .Y i)
+    short : n ≤ r .row → (i : ℕ) → i < n → 0 < size (residues p prime) (second .Y i)
         → size (residues p prime) (second .Y i) + G .size i
         ≤ size (residues p prime) (polynomials (residues p prime) .mul x (second .polynomial))
     short none i h row-some = go (decLe (size (residues p prime) (second .Y i) + G .size i)
@@ -87,7 +87,7 @@ module _ {p n length : ℕ} {L : Level} {w rows : List ℕ} {r : Longest} (found
             → size (residues p prime) (second .Y i) + G .size i
             ≤ size (residues p prime) (polynomials (residues p prime) .mul x (second .polynomial))
         go (yes e) = e
-        go (no e) = absurd (none (found .long .greatest i h
+        go (no e) = absurd (omega (arith, found .long .greatest i h
             (omega (arith, row-is i h), omega (arith, row-is i h, most-is, holds .size i h)) .0))
 
 -- row i is too long
@@ -236,6 +236,13 @@ module _ {p n length : ℕ} {L : Level} {d w rows : List ℕ} {r : Longest} (few
 
 -- the rounds: before the first, one more, and the end
 module _ {p n length : ℕ} {L : Level} {d : List ℕ} (few : n ≤ lanes) (ends : Ends p d 0 blockWords length) where
+  pub has-some : HasMonicTops p n L d → 0 < length
+  has-some has = omega (
+    arith,
+    d-size (has .prime) (has .polynomial) ends (has .holds-d),
+    monic-some (has .prime) (has .polynomial) (has .monic),
+  )
+
   pub less-first : ValidLevel p L → Lessened p n L d L
   less-first valid = record {
     valid = valid;
@@ -303,7 +310,7 @@ module _ {p n length : ℕ} {L : Level} {d : List ℕ} (few : n ≤ lanes) (ends
             less-again few (less .valid) ends found inside prime small (H .holds) (H .tops) x monic D shortens (H .less);
       }
 
-      pub short-solved : ¬ (r .row < n) → ShortSolved p n L d w rows
+      pub short-solved : n ≤ r .row → ShortSolved p n L d w rows
       short-solved none = record {
         w-room = found .solved .w-room;
         w-below = found .solved .w-below;

@@ -3,7 +3,7 @@ use Prim.Native.Nat.{ℕ, _+_, _-_, _*_, _%_, _<_, _≤_}
 use mathlib.Core.Path.{_≡_, refl, sym, _∙_, ap, subst}
 use mathlib.Core.Logic.{_⊎_, inl, inr, ⊎-elim}
 use mathlib.Core.List.{List}
-use native.Mathlib.Nat.{mod-lt}
+use native.Mathlib.Nat.{mod-lt, mul-le-mul, mul-le-mul-right}
 use native.Mathlib.Omega.{arith}
 use native.Mathlib.Decide.{ℕ-discrete, decLt}
 use lib.ListN.{length, getD, set, length-set}
@@ -11,6 +11,8 @@ use lib.Seq.{getD-set-same, getD-set-other}
 use Rattle.algebra.specs.Polynomial.{Polynomial, polynomials}
 use Rattle.modular.specs.Prime.{Prime}
 use Rattle.modular.specs.Residue.{residues}
+use Rattle.residue.specs.Sum.{sum-fits}
+use Rattle.vector.specs.Bound.{AtMost, Reducible, at-most-stored, at-most-sum, at-most-reducible}
 use Rattle.vector.specs.Stored.{stored, length-stored, stored-outside, stored-all}
 use Rattle.vector.specs.Multiple.{sumAt}
 use Rattle.reduction.specs.Replace.{replace-elim}
@@ -34,9 +36,35 @@ pub record Shortens (p : ℕ) (L : Level) (i : ℕ) (d : List ℕ) (a k : ℕ) (
       → HoldsSlots p prime n unweighted L′ (lessTail (polynomials (residues p prime)) n U i
       (polynomials (residues p prime) .mul (monomial (residues p prime) (residue p prime a) k) x))
 
+-- the sums that are stored have room
+module _ {p : ℕ} {L : Level} (valid : ValidLevel p L) (i : ℕ) (inside : i < lanes) (d : List ℕ) (below : (j : ℕ) → getD d j 0 < p)
+    (a k : ℕ) (zeros : List ℕ) (none : AtMost 0 zeros) (t₀ : List ℕ)
+    (copied : t₀ ≡ stored (λ j. getD L (slotWords * i + blockWords + j) 0) zeros 0 blockWords) where
+  copied-most : AtMost p t₀
+  copied-most = subst (AtMost p) (sym copied) (at-most-stored p _ zeros 0 blockWords
+      (λ j lt. omega (arith, valid .below (slotWords * i + blockWords + j) (omega arith))) (λ j. omega (arith, none j)))
+
+  products : (j : ℕ) → (p - a) * getD d (0 + j) 0 ≤ p * p
+  products j =
+      let small : p - a ≤ p = omega arith in
+      let few : getD d (0 + j) 0 ≤ p = omega (arith, below (0 + j)) in
+      mul-le-mul small few
+
+  square : p ≤ p * p
+  square =
+      let positive : 1 ≤ p = omega (arith, below 0) in
+      omega (arith, mul-le-mul-right p positive)
+
+  pub taking-fits : p ≤ 65521 → (j : ℕ) → sumAt t₀ k d 0 (p - a) j < 18446744073709551616
+  taking-fits limit j = sum-fits p _ limit (omega (arith, copied-most (k + j), products j, square))
+
+  pub taken-reducible : (size : ℕ) (t : List ℕ) → t ≡ stored (sumAt t₀ k d 0 (p - a)) t₀ k size → (n : ℕ) → Reducible p t n
+  taken-reducible size t taken n = at-most-reducible (p + p * p) p t n (omega (arith, square))
+      (subst (AtMost (p + p * p)) (sym taken) (at-most-sum p (p * p) t₀ k d 0 size (p - a) copied-most (λ j lt. products j)))
+
 -- the tail of slot i copied over zeros, less the multiple, put back, and its size noted
 module _ {p : ℕ} (prime₀ : Prime p) {L : Level} (valid : ValidLevel p L) (i : ℕ) (inside : i < lanes) (d : List ℕ) (size a k : ℕ)
-    (small : a < p) (few : size ≤ blockWords) (behind : ZeroFrom p d 0 blockWords size) (room : k + size ≤ mostCoefficients)
+    (small : a < p) (behind : ZeroFrom p d 0 blockWords size) (room : k + size ≤ mostCoefficients)
     (zeros : List ℕ) (empty : length zeros ≡ blockWords) (t₀ t L₁ : List ℕ)
     (copied : t₀ ≡ stored (λ j. getD L (slotWords * i + blockWords + j) 0) zeros 0 blockWords)
     (taken : t ≡ stored (sumAt t₀ k d 0 (p - a)) t₀ k size)
@@ -109,14 +137,14 @@ module _ {p : ℕ} (prime₀ : Prime p) {L : Level} (valid : ValidLevel p L) (i 
         (polynomials (residues p prime) .mul (monomial (residues p prime) (residue p prime a) k) x)))
     shortened-tail {g} {x} A D = record {
       at = λ j. holds-step (residues p prime) (residue p prime a) k (record { at = λ e. A .at e ∙ tail-before e }) D
-          (words-upper p prime t₀ t d k 0 size blockWords blockWords a taken small (omega arith) (omega (arith, length₀)) behind few)
-          (words-lower p prime t₀ t d k 0 size blockWords blockWords a taken small (omega arith) (omega (arith, length₀)) behind few) .at j
+          (words-upper p prime t₀ t d k 0 size blockWords blockWords a taken small (omega arith) (omega (arith, length₀)) behind (omega arith))
+          (words-lower p prime t₀ t d k 0 size blockWords blockWords a taken small (omega arith) (omega (arith, length₀)) behind (omega arith)) .at j
           ∙ sym (tail-after j);
     }
 
   tail-zero : ZeroFrom p L′ b blockWords mostCoefficients
   tail-zero = zero-from-same p prime₀ t L′ 0 b blockWords blockWords (λ x. sym (tail-after prime₀ x)) mostCoefficients
-      (zero-kept p prime₀ t₀ t d k 0 size blockWords blockWords a taken small (omega arith) (omega (arith, length₀)) behind few
+      (zero-kept p prime₀ t₀ t d k 0 size blockWords blockWords a taken small (omega arith) (omega (arith, length₀)) behind (omega arith)
       size mostCoefficients behind room
       (zero-from-same p prime₀ L t₀ b 0 blockWords blockWords (tail-before prime₀) mostCoefficients
       (λ j ge lt. valid .slot i inside .tail j (omega (arith, valid .slot i inside .tail-within)) lt)))

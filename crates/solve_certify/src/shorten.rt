@@ -24,7 +24,7 @@ ghost use Rattle.solve_lattice.specs.Room.{lanes, blockWords, rowsWords, mostCo
 ghost use Rattle.solve_lattice.specs.Memory.{height, ZeroFrom, Ends, slotSize, ValidLevel};
 ghost use Rattle.solve_second.specs.Greatest.{Low};
 ghost use Rattle.solve_second.specs.Solved.{HasTops};
-ghost use Rattle.solve_certify.specs.Long.{rowSize, rowLeading, LongFound};
+ghost use Rattle.solve_certify.specs.Long.{rowSize, rowLeading, Long, LongFound};
 ghost use Rattle.solve_certify.specs.Shortens.{Shortens};
 ghost use Rattle.solve_certify.specs.Short.{HasMonicTops, RowsSolved, ShortSolved};
 ghost use Rattle.solve_certify.specs.ShortRounds.{shortFactor, shortShift};
@@ -91,8 +91,30 @@ fn solve_rows(
     }
 }
 
-// Takes the multiple of d, of `size` coefficients, off the tail of slot i of `level` that makes row i shorter: a x^k d, where a is
-// the product of the leading coefficients of row i and of the slot's block.
+// Takes factor x^k d, where d has `size` coefficients, off the tail of slot i of `level`.
+fn take_from_tail(
+    level: &mut Level,
+    i: usize,
+    d: &Block,
+    size: usize,
+    factor: u64,
+    k: usize,
+    modulus: Modulus,
+)
+    requires { ⌜ ValidModulus modulus × (i < lanes) × ValidLevel (modulus .p) (now level) ⌝ }
+    requires multiple { ⌜ ((j : ℕ) → getD (now d) j 0 < modulus .p) × ZeroFrom (modulus .p) (now d) 0 blockWords size ⌝ }
+    requires room { ⌜ (factor < modulus .p) × (k + size ≤ mostCoefficients) ⌝ }
+    ensures { λ _. ⌜ Shortens (modulus .p) (now (level .entry)) i (now (d .entry)) factor k (now (level .exit)) ⌝ }
+{
+    let mut tail = [0u64; BLOCK];
+    copy(&mut tail, 0, level, SLOT * i + BLOCK, BLOCK);
+    add_scaled(&mut tail, k, d, 0, size, modulus.p - factor);
+    exchange(&mut tail, level, SLOT * i + BLOCK, BLOCK, modulus);
+    level[TAIL_SIZES + i] = COEFFICIENTS as u64;
+}
+
+// Takes the multiple of d, of `size` coefficients, off the tail of slot i of `level` that makes row i shorter, which is too long
+// for `most` coefficients: that with the product of the leading coefficients of row i and of the slot's block.
 fn shorten(
     level: &mut Level,
     i: usize,
@@ -103,24 +125,19 @@ fn shorten(
     modulus: Modulus,
 )
     requires { ⌜ ValidModulus modulus × (i < lanes) × ValidLevel (modulus .p) (now level) × (0 < slotSize (now level) i) ⌝ }
-    requires multiple { ⌜ (size ≤ blockWords) × ((j : ℕ) → getD (now d) j 0 < modulus .p)
-        × ZeroFrom (modulus .p) (now d) 0 blockWords size ⌝ }
+    requires multiple { ⌜ ((j : ℕ) → getD (now d) j 0 < modulus .p) × ZeroFrom (modulus .p) (now d) 0 blockWords size ⌝ }
     requires rows { ⌜ ((j : ℕ) → getD (now rows) j 0 < modulus .p) ⌝ }
-    requires long { ⌜ (most < rowSize (modulus .p) (now rows) i + height (slotSize (now level) i))
+    requires long { ⌜ Long (modulus .p) (now rows) (now level) most i
         × (rowSize (modulus .p) (now rows) i + height (slotSize (now level) i) + size ≤ most + suc mostCoefficients) ⌝ }
     ensures { λ _. ⌜ Shortens (modulus .p) (now (level .entry)) i (now (d .entry))
         (shortFactor (modulus .p) (now (rows .entry)) (now (level .entry)) i)
         (shortShift (modulus .p) (now (rows .entry)) (now (level .entry)) most i) (now (level .exit)) ⌝ }
 {
-    let found = find_row(rows, i, modulus);
-    let height = slot_height(level, i);
+    let row = find_row(rows, i, modulus);
+    let k = row.size + slot_height(level, i) - most - 1;
     let words = level[SIZES + i] as usize;
-    let factor = modulus.mul(found.value, level[SLOT * i + (words - 1)]);
-    let mut tail = [0u64; BLOCK];
-    copy(&mut tail, 0, level, SLOT * i + BLOCK, BLOCK);
-    add_scaled(&mut tail, found.size + height - most - 1, d, 0, size, modulus.p - factor);
-    exchange(&mut tail, level, SLOT * i + BLOCK, BLOCK, modulus);
-    level[TAIL_SIZES + i] = COEFFICIENTS as u64;
+    let factor = modulus.mul(row.value, level[SLOT * i + (words - 1)]);
+    take_from_tail(level, i, d, size, factor, k, modulus);
 }
 
 // Solves the second system of `level`, of n rows, whose tails less multiples of d: stores w and its rows, which with d w are
