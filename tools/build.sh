@@ -16,12 +16,14 @@ build_folder() {
     printf '%s\n' "${YEZSDOLAK_BUILD:-$root/target}/$1"
 }
 
-# The C compiler: CC, or what is there
+# The C compiler: the one that CC names, or what is there
 c_compiler() {
-    for name in ${CC:+"$CC"} clang gcc cc; do
-        command -v "$name" && return
-    done
-    stop "no C compiler is here: install clang or gcc, which builds this program, or name one in CC"
+    if [ -n "${CC:-}" ]; then
+        command -v "$CC" || stop "the C compiler that CC names is not here: $CC"
+        return
+    fi
+    command -v clang || command -v gcc || command -v cc ||
+        stop "no C compiler is here: install clang or gcc, which builds this program, or name one in CC"
 }
 
 # Ends the script where there is no compiler of Rust
