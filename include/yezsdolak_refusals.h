@@ -31,7 +31,7 @@ enum {
     YEZSDOLAK_COLUMN_NOT_DIVISIBLE = 33, // place: the first such column
     YEZSDOLAK_DENOMINATORS_DIFFER = 34, // place: 0
     YEZSDOLAK_NOT_A_KERNEL = 35, // place: the first such column
-    YEZSDOLAK_NO_CONTRADICTION = 36, // place: 0
+    YEZSDOLAK_NO_CONTRADICTION = 36 // place: 0
 };
 
 // The sentence for a number, without a dot at its end; never NULL. The number is that of a refusal, without its place.
