@@ -18,16 +18,18 @@ use show::Notation;
 use std::ffi::{OsStr, OsString};
 use std::fs::{canonicalize, write, File};
 use std::io::{copy, sink, stdin, stdout, ErrorKind, IsTerminal, Read, Result as IoResult, Write};
+use std::path::Path;
 use std::process::ExitCode;
 use values::{System, LONGEST_CERTIFICATE, LONGEST_SYSTEM};
 
+/// The commands; NAME stands for the name that the tool is called by.
 const HELP: &str = "\
-sheet write TEXT SHEET            write the system in the file TEXT to the file SHEET
-sheet write TEXT > SHEET          the same
-sheet show [--signed] SHEET       show a system as text that `sheet write` reads
-sheet show [--signed] SHEET CARD  show a certificate for that system, and what is wrong with it
-sheet explain NUMBER              say what a refusal means and what to do
-sheet --help                      show this
+NAME write TEXT SHEET            write the system in the file TEXT to the file SHEET
+NAME write TEXT > SHEET          the same
+NAME show [--signed] SHEET       show a system as text that `write` reads
+NAME show [--signed] SHEET CARD  show a certificate for that system, and what is wrong with it
+NAME explain NUMBER              say what a refusal means and what to do
+NAME --help                      show this
 
 --signed shows p - 1 as -1 and so on; - is standard input. A text, in which # begins a comment:
 
@@ -54,7 +56,7 @@ struct Answer {
 fn main() -> ExitCode {
     let arguments: Vec<OsString> = std::env::args_os().skip(1).collect();
     let Some(result) = command(&arguments) else {
-        eprint!("this is not a command of sheet; these are:\n\n{HELP}");
+        eprint!("this is no command; these are:\n\n{}", help());
         return ExitCode::from(2);
     };
     let answer = result.unwrap_or_else(|error| Answer { error, ..Answer::default() });
@@ -67,12 +69,18 @@ fn main() -> ExitCode {
     }
 }
 
+fn help() -> String {
+    let called = std::env::args_os().next().unwrap_or_default();
+    let name = Path::new(&called).file_name().unwrap_or_default();
+    HELP.replace("NAME", &shown(name))
+}
+
 /// The answer to a command, or why there is none; nothing where it is no command.
 fn command(arguments: &[OsString]) -> Option<Result<Answer, String>> {
     let (name, rest) = arguments.split_first()?;
     let rest: Vec<&OsStr> = rest.iter().map(OsString::as_os_str).collect();
     let output = match (name.to_str()?, &rest[..]) {
-        ("--help" | "-h" | "help", []) => Ok(HELP.into()),
+        ("--help" | "-h" | "help", []) => Ok(help().into()),
         ("write", [text]) => write_to_output(text),
         ("write", [text, sheet]) => write_to_file(text, sheet),
         ("explain", [number]) => explanation(number),

@@ -107,12 +107,10 @@ impl Refusal {
 
     fn head(&self, found: u32) -> &'static str {
         match self.side {
-            Side::System if has_kind(found, Kind::CertificateHead) => {
-                "begins a card, not a sheet: `sheet show SHEET CARD` shows a card"
-            }
+            Side::System if has_kind(found, Kind::CertificateHead) => "begins a card, not a sheet: `show SHEET CARD` shows a card",
             Side::System => "the head of a sheet has 1 as its first digit and 0 as its second",
             Side::Certificate if has_kind(found, Kind::SystemHead) => {
-                "begins a sheet, not a card: `sheet show SHEET CARD` has the sheet first"
+                "begins a sheet, not a card: `show SHEET CARD` has the sheet first"
             }
             Side::Certificate => "the head of a card is 50000001 for a solution, 50000002 for an absence",
         }

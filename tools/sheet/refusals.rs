@@ -13,7 +13,7 @@ pub const TABLE: [Entry; 25] = [
         number: 1,
         meaning: "the first word is not the head of a sheet: its kind is not 1, or bits 24 to 27 are not zero",
         place: "0",
-        remedy: "See whether the file is a sheet. A card begins with kind 5; a text must be made a sheet first, by sheet write; else the bytes of a word may stand in the wrong order.",
+        remedy: "See whether the file is a sheet. A card begins with kind 5; write of tools/sheet makes a sheet of a text; else the bytes of a word may stand in the wrong order.",
     },
     Entry {
         number: 2,

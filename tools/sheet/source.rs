@@ -50,7 +50,7 @@ fn marked(line: &str, index: usize) -> String {
 pub fn decode(bytes: &[u8]) -> Result<&str, Fault> {
     let control = |b: &u8| b.is_ascii_control() && !b"\t\r\n".contains(b);
     if let Some(first) = bytes.iter().position(control) {
-        let found = format!("the byte {:02X}; a sheet is shown by `sheet show`", bytes[first]);
+        let found = format!("the byte {:02X}; a sheet is shown by `show`", bytes[first]);
         return Err(not_text(&bytes[..first], found));
     }
     let text = std::str::from_utf8(bytes).map_err(|error| {
