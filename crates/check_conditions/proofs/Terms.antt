@@ -9,7 +9,7 @@ use Rattle.algebra.specs.Coefficients.{add, mul}
 use Rattle.modular.specs.Modulo.{modulo}
 use Rattle.modular.specs.Lists.{mul-comm}
 use Rattle.residue.specs.Modulus.{ValidModulus}
-use Rattle.words.specs.System.{entry, rightSide}
+use Rattle.words.specs.System.{entry, sideEntry}
 use Rattle.truth.specs.Solution.{total, rowOf, columnOf, sideOf}
 use Rattle.truth.specs.Listed.{listed-at, total-ext}
 use Rattle.loader.specs.Slot.{slot, Filled}
@@ -30,7 +30,7 @@ module _ (l : Layout) (S C : List ℕ) where
   unfolding systemIn
   entry-in i j hi hj = listed-at (l .rows * l .columns) (slot systemWidth S) [] (i * l .columns + j) (place-inside hi hj)
 
-  side-in : (i : ℕ) → i < l .rows → rightSide (systemIn l S) i ≡ slot systemWidth S (l .rows * l .columns + i)
+  side-in : (i : ℕ) → i < l .rows → sideEntry (systemIn l S) i ≡ slot systemWidth S (l .rows * l .columns + i)
   unfolding systemIn
   side-in i hi = listed-at (l .rows) (λ k. slot systemWidth S (l .rows * l .columns + k)) [] i hi
 
@@ -94,7 +94,7 @@ module _ (l : Layout) (S C : List ℕ) where
       )
 
       pub target-sum : 0 < count → total p 1 (product p S (l .rows * l .columns + i) 1 C 0)
-          ≡ mul (modulo p) (slot certificateWidth C 0) (rightSide (systemIn l S) i)
+          ≡ mul (modulo p) (slot certificateWidth C 0) (sideEntry (systemIn l S) i)
       unfolding total product add
       target-sum some =
           swapped (l .rows * l .columns + i + 0 * 1) (0 + 0) (l .rows * l .columns + i) 0 (omega arith) (omega arith) (omega arith)

@@ -25,20 +25,20 @@ module _ (l : Layout) (area : List ℕ) (s : System) (stands : Stands systemWidt
   matrix-is : length (s .matrix) ≡ l .rows * l .columns → listed (l .rows * l .columns) (slot systemWidth area) ≡ s .matrix
   matrix-is e =
       listed-is (l .rows * l .columns) (slot systemWidth area) (s .matrix) [] e (λ k lt.
-      stands .slots k (omega (arith, length-append (s .matrix) (s .right)))
-      ∙ List·getD-append (s .matrix) (s .right) [] k (omega arith))
+      stands .slots k (omega (arith, length-append (s .matrix) (s .side)))
+      ∙ List·getD-append (s .matrix) (s .side) [] k (omega arith))
 
-  side-is : length (s .matrix) ≡ l .rows * l .columns → length (s .right) ≡ l .rows
-      → listed (l .rows) (λ i. slot systemWidth area (l .rows * l .columns + i)) ≡ s .right
+  side-is : length (s .matrix) ≡ l .rows * l .columns → length (s .side) ≡ l .rows
+      → listed (l .rows) (λ i. slot systemWidth area (l .rows * l .columns + i)) ≡ s .side
   side-is e f =
-      listed-is (l .rows) (λ i. slot systemWidth area (l .rows * l .columns + i)) (s .right) [] f (λ k lt.
-      stands .slots (l .rows * l .columns + k) (omega (arith, length-append (s .matrix) (s .right)))
-      ∙ ap (λ (n : ℕ). getD (s .matrix ++ s .right) (n + k) []) (sym e)
-      ∙ getD-append-add (s .matrix) (s .right) k [])
+      listed-is (l .rows) (λ i. slot systemWidth area (l .rows * l .columns + i)) (s .side) [] f (λ k lt.
+      stands .slots (l .rows * l .columns + k) (omega (arith, length-append (s .matrix) (s .side)))
+      ∙ ap (λ (n : ℕ). getD (s .matrix ++ s .side) (n + k) []) (sym e)
+      ∙ getD-append-add (s .matrix) (s .side) k [])
 
   pub system-is : l .modulus .p ≡ s .modulus → l .rows ≡ s .rows → l .columns ≡ s .columns
       → length (s .matrix) ≡ s .rows * s .columns
-      → length (s .right) ≡ s .rows → systemIn l area ≡ s
+      → length (s .side) ≡ s .rows → systemIn l area ≡ s
   unfolding systemIn
   system-is ep en em eA eb =
       let places : length (s .matrix) ≡ l .rows * l .columns = eA ∙ ap₂ _*_ (sym en) (sym em) in

@@ -19,7 +19,7 @@ systemIn l area = record {
   rows = l .rows;
   columns = l .columns;
   matrix = listed (l .rows * l .columns) (slot systemWidth area);
-  right = listed (l .rows) (λ i. slot systemWidth area (l .rows * l .columns + i));
+  side = listed (l .rows) (λ i. slot systemWidth area (l .rows * l .columns + i));
 }
 
 -- so many polynomials of a certificate, from one on

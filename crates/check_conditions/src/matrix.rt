@@ -6,7 +6,7 @@ ghost use Prim.Native.Nat.{_+_, _<_};
 ghost use Rattle.algebra.specs.Coefficients.{mul};
 ghost use Rattle.modular.specs.Modulo.{modulo};
 ghost use Rattle.polynomial.specs.Value.{Represents};
-ghost use Rattle.words.specs.System.{rightSide};
+ghost use Rattle.words.specs.System.{sideEntry};
 ghost use Rattle.truth.specs.Solution.{rowOf, columnOf, sideOf};
 ghost use Rattle.loader.specs.Slot.{slot};
 ghost use Rattle.check_conditions.specs.Widths.{certificateWidth};
@@ -28,7 +28,7 @@ pub fn target(system: &[u64], certificate: &[u64], layout: Layout, i: usize) -> 
     requires { ⌜ Loaded layout (layout .columns + 2 + layout .rows) (now system) (now certificate) × (i < layout .rows) ⌝ }
     ensures { λ r. ⌜ Represents (layout .modulus .p) r
         (mul (modulo (layout .modulus .p)) (slot certificateWidth (now (certificate .entry)) 0)
-        (rightSide (systemIn layout (now (system .entry))) i)) ⌝ }
+        (sideEntry (systemIn layout (now (system .entry))) i)) ⌝ }
 {
     let rows = layout.rows;
     let columns = layout.columns;

@@ -35,7 +35,7 @@ abbrev pub absence : {A : Type 0} → Ring A → ℕ → A → (ℕ → A) → �
 absence R h w Y = replace (λ k. R .neg (Y k)) h w
 
 module _ {A : Type 0} {R : Ring A} {S : Sized R} (E : Euclidean S) (T : System S) where
-  open System T using (rows as n, columns as m, degree as δ, matrix as M, right as b)
+  open System T using (rows as n, columns as m, degree as δ, matrix as M, side as b)
   open Ring R using (add as _+_, mul as _*_, neg as -_, zero as 𝟘, one as 𝟙)
   open Sized S using (size, size-neg)
 

@@ -12,7 +12,7 @@ use Rattle.reduction.specs.Euclidean.{Euclidean}
 use Rattle.reduction.specs.System.{System}
 
 module _ {A : Type 0} {R : Ring A} {S : Sized R} (E : Euclidean S) (T : System S) where
-  open System T using (rows as n, columns as m, matrix as M, right as b)
+  open System T using (rows as n, columns as m, matrix as M, side as b)
   open Ring R using (mul as _*_, zero as 𝟘)
 
   infixl 70 _*_

@@ -14,7 +14,7 @@ use Rattle.reduction.specs.System.{System}
 use Rattle.reduction.specs.Certificate.{RightSolution}
 
 module _ {A : Type 0} {R : Ring A} {S : Sized R} (E : Euclidean S) (T : System S) {d w : A} {N Z : ℕ → A} (C : RightSolution E T d N w Z) where
-  open System T using (rows as n, columns as m, matrix as M, right as b)
+  open System T using (rows as n, columns as m, matrix as M, side as b)
   open Ring R using (add as _+_, mul as _*_, zero as 𝟘)
 
   infixl 65 _+_

@@ -27,7 +27,7 @@ use Rattle.reduction.specs.RunLevels.{level, kernel, levels}
 use Rattle.reduction.specs.RunDescent.{Numerators, numerators}
 
 module _ {A : Type 0} {R : Ring A} {S : Sized R} (E : Euclidean S) (T : System S) where
-  open System T using (rows as n, columns as m, degree as δ, right as b)
+  open System T using (rows as n, columns as m, degree as δ, side as b)
 
   -- a solution certificate whose sizes are at most B
   pub record Solved (B : ℕ) : Type 0 where

@@ -110,9 +110,9 @@ module _ {K : Type 0} (F : Field K) (n m : ℕ) (B : ℕ → ℕ → Polynomial 
 
 -- closed: a solution whose denominator has been reached from below
 pub gathered-right : {K : Type 0} (F : Field K) (T : System (sized F)) {d w : Polynomial F} {N Z : ℕ → Polynomial F}
-    → Gathered F (T .rows) (T .columns) (T .matrix) (T .right) w Z d
+    → Gathered F (T .rows) (T .columns) (T .matrix) (T .side) w Z d
     → ((i : ℕ) → i < T .rows
-    → sum (polynomials F) (T .columns) (λ j. polynomials F .mul (T .matrix i j) (N j)) ≡ polynomials F .mul d (T .right i))
+    → sum (polynomials F) (T .columns) (λ j. polynomials F .mul (T .matrix i j) (N j)) ≡ polynomials F .mul d (T .side i))
     → RightSolution (euclidean F) T d N w Z
 gathered-right F T {d} G solves = bound-right (euclidean F) T (G .bound) (G .monic) (G .certifying-monic)
     (monic-cofactor F d (G .bound .k) (G .monic) (ap (leading F) (sym (G .bound .product)) ∙ G .certifying-monic)) solves

@@ -28,9 +28,9 @@ line T b short = record {
   columns = T .columns;
   degree = T .degree;
   matrix = T .matrix;
-  right = b;
+  side = b;
   matrix-small = T .matrix-small;
-  right-small = short;
+  side-small = short;
 }
 
 module _ {A : Type 0} {R : Ring A} {S : Sized R} (E : Euclidean S) (T : System S) (a : ℕ → ℕ → A) (c : ℕ)

@@ -191,9 +191,9 @@ module _ {A : Type 0} {R : Ring A} (S : Sized R) where
 
 module _ {A : Type 0} {R : Ring A} {S : Sized R} (E : Euclidean S) (T : System S) where
   -- a solution with denominator d and a lower bound d: the certificate is right
-  pub bound-right : {d w : A} {N Z : ℕ → A} (P : LowerBound R (T .rows) (T .columns) (T .matrix) (T .right) w Z d)
+  pub bound-right : {d w : A} {N Z : ℕ → A} (P : LowerBound R (T .rows) (T .columns) (T .matrix) (T .side) w Z d)
       → E .Monic d → E .Monic w → E .Monic (P .k)
-      → ((i : ℕ) → i < T .rows → sum R (T .columns) (λ j. R .mul (T .matrix i j) (N j)) ≡ R .mul d (T .right i))
+      → ((i : ℕ) → i < T .rows → sum R (T .columns) (λ j. R .mul (T .matrix i j) (N j)) ≡ R .mul d (T .side i))
       → RightSolution E T d N w Z
   bound-right P hd hw hk solves = record {
     monic = hd;
@@ -202,6 +202,6 @@ module _ {A : Type 0} {R : Ring A} {S : Sized R} (E : Euclidean S) (T : System S
     divides = P .congruent .columns;
     divisor = P .k;
     divisor-monic = hk;
-    divisor-greatest = bound-greatest R (T .rows) (T .columns) (T .matrix) (T .right) P;
+    divisor-greatest = bound-greatest R (T .rows) (T .columns) (T .matrix) (T .side) P;
     quotient = P .product;
   }

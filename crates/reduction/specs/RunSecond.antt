@@ -12,7 +12,7 @@ use Rattle.reduction.specs.Euclidean.{Euclidean, Associate}
 use Rattle.reduction.specs.Insert.{Stop}
 use Rattle.reduction.specs.Division.{Divided, quotient, quotient-empty, division-quotients, divide}
 use Rattle.reduction.specs.Dual.{Dual}
-use Rattle.reduction.specs.Transpose.{Tops, back, transposed, rightSide, weights, transposed-filled}
+use Rattle.reduction.specs.Transpose.{Tops, back, transposed, secondSide, weights, transposed-filled}
 use Rattle.reduction.specs.Second.{not-stuck, second-positive, second-span, second-dual}
 use Rattle.reduction.specs.Run.{Run, run}
 
@@ -30,8 +30,8 @@ module _ {A : Type 0} {R : Ring A} {S : Sized R} (E : Euclidean S) where
     abbrev C : Slots A
     C = transposed R n D U
 
-    X : Run S n (weights R n D U) C (rightSide R n D U)
-    X = run E n (weights R n D U) C (transposed-filled O) (rightSide R n D U)
+    X : Run S n (weights R n D U) C (secondSide R n D U)
+    X = run E n (weights R n D U) C (transposed-filled O) (secondSide R n D U)
 
     -- w times the right side divided by the slots
     module _ (z : Vanishes R n (X .inserting .now .hand)) where
@@ -42,7 +42,7 @@ module _ {A : Type 0} {R : Ring A} {S : Sized R} (E : Euclidean S) where
       w = R .mul (μ .unit) (X .inserting .now .hand n)
 
       abbrev product : ℕ → A
-      product i = R .mul w (rightSide R n D U i)
+      product i = R .mul w (secondSide R n D U i)
 
       divided : Divided R n C product
       divided = divide R n C (transposed-filled O) E product (second-span O (X .inserting) z μ)

@@ -29,7 +29,7 @@ use Rattle.reduction.specs.Certificate.{RightSolution, SmallSolution}
 use Rattle.reduction.specs.Certifying.{Short, Certifying}
 
 module _ {A : Type 0} {R : Ring A} {S : Sized R} (E : Euclidean S) (T : System S) where
-  open System T using (rows as n, columns as m, degree as δ, matrix as M, right as b, right-small)
+  open System T using (rows as n, columns as m, degree as δ, matrix as M, side as b, side-small)
   open Ring R using (add as _+_, mul as _*_, neg as -_, zero as 𝟘, one as 𝟙)
   open Sized S using (size)
 
@@ -80,7 +80,7 @@ module _ {A : Type 0} {R : Ring A} {S : Sized R} (E : Euclidean S) (T : System S
 
       pub solution-small : (i : ℕ) → i < n → size (d * b i) ≤ suc (δ +ₙ degrees n (U .size))
       solution-small i h =
-          omega (arith, size-mul-le S d (b i) (size e) (suc δ) (omega (arith, d-size)) (right-small i h), e-small)
+          omega (arith, size-mul-le S d (b i) (size e) (suc δ) (omega (arith, d-size)) (side-small i h), e-small)
 
       -- with w′ and Y of the second system, of slots G that span the same with the hand
       module _ {G : Slots A} (sizes : (q : ℕ) → q < n → X .now .slots .size q ≡ G .size q)
@@ -205,7 +205,7 @@ module _ {A : Type 0} {R : Ring A} {S : Sized R} (E : Euclidean S) (T : System S
           columns = column;
           cofactor = w′;
           quotient = refl;
-          right = record {
+          side = record {
             cofactor = - k₁;
             product = combination R (sum R n (λ i. Y i * b i) - w′) ((- k₁) * (d * w′)) (given 𝟙 Yb ∷ [])
                 (identity R (sum R n (λ i. Y i * b i) ∷ w′ ∷ k₁ ∷ d ∷ []) (λ ρ q1 q2 q3 q4. search quotes depth 16) refl);

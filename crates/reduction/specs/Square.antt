@@ -113,7 +113,7 @@ module _ {A : Type 0} {R : Ring A} {S : Sized R} (T : System S) (level : ℕ →
           X = L .within (U .at p) (span-slot R U p l (full p l))
 
 module _ {A : Type 0} {R : Ring A} {S : Sized R} (E : Euclidean S) (T : System S) where
-  open System T using (rows as n, columns as m, degree as δ, matrix as M, right as b)
+  open System T using (rows as n, columns as m, degree as δ, matrix as M, side as b)
   open Ring R using (mul as _*_, zero as 𝟘)
 
   infixl 70 _*_
@@ -124,9 +124,9 @@ module _ {A : Type 0} {R : Ring A} {S : Sized R} (E : Euclidean S) (T : System S
     columns = n;
     degree = δ;
     matrix = λ j i. M i j;
-    right = λ j. 𝟘;
+    side = λ j. 𝟘;
     matrix-small = λ j i l h. T .matrix-small i j h l;
-    right-small = λ j l. omega (arith, S .size-zero);
+    side-small = λ j l. omega (arith, S .size-zero);
   }
 
   -- rows and columns independent: there are as many of both

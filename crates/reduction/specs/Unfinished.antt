@@ -20,7 +20,7 @@ use Rattle.reduction.specs.Certificate.{RightSolution, SmallSolution}
 use Rattle.reduction.specs.Solution.{solution-span, solution-small, solution-right, solution-sizes}
 
 module _ {A : Type 0} {R : Ring A} {S : Sized R} (E : Euclidean S) (T : System S) where
-  open System T using (rows as n, columns as m, degree as δ, matrix as M, right as b)
+  open System T using (rows as n, columns as m, degree as δ, matrix as M, side as b)
   open Ring R using (mul as _*_)
   open Sized S using (size)
 

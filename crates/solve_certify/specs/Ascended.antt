@@ -46,7 +46,7 @@ module _ (p : ℕ) (prime : Prime p) (n m : ℕ) where
     pub unfinished : Unfinished (euclidean (residues p prime)) (systemOf p prime n m X) (level m) d w Z
     pub vector : ℕ → Polynomial (residues p prime)
     pub N : ℕ → Polynomial (residues p prime)
-    pub descent : Descent (systemOf p prime n m X) level kernel (λ k. polynomials (residues p prime) .mul d (X .right k)) j vector N
+    pub descent : Descent (systemOf p prime n m X) level kernel (λ k. polynomials (residues p prime) .mul d (X .side k)) j vector N
     pub holds-d : HoldsAt p prime output 0 d
     pub holds-N : (k : ℕ) → j ≤ k → k < m → HoldsAt p prime output (1 + k) (N k)
     pub holds-w : HoldsAt p prime output (1 + m) w

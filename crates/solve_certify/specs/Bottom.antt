@@ -29,11 +29,11 @@ module _ {p n m : ℕ} (few : n ≤ lanes) {input : List ℕ} {L : Level} (quoti
       w = D .w;
       Z = D .Z;
       right = D .unfinished .right (D .N) (descent-end (systemOf p prime n m X) (D .level) (D .kernel) (D .levels)
-          (λ k. polynomials (residues p prime) .mul (D .d) (X .right k)) (D .vector) (D .N) (D .descent));
+          (λ k. polynomials (residues p prime) .mul (D .d) (X .side k)) (D .vector) (D .N) (D .descent));
       small = small-solution-le (euclidean (residues p prime)) (systemOf p prime n m X)
           (omega (arith, rank-le n (D .level m .size))) (D .unfinished .small (D .N) (λ j h. D .descent .small j (omega arith) h));
       reduced = descent-reduced (systemOf p prime n m X) (D .level) (D .kernel) (D .levels)
-          (λ k. polynomials (residues p prime) .mul (D .d) (X .right k)) (D .vector) (D .N) (D .descent);
+          (λ k. polynomials (residues p prime) .mul (D .d) (X .side k)) (D .vector) (D .N) (D .descent);
       holds-d = D .holds-d;
       holds-N = λ j h. D .holds-N j (omega arith) h;
       holds-w = D .holds-w;

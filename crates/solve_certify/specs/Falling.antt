@@ -72,7 +72,7 @@ module _ {p : ℕ} {n m j : ℕ} (few : n ≤ lanes) {input : List ℕ} {L L′ 
     low = omega arith;
     column = j;
     inside = inside;
-    whole = λ k. polynomials (residues p prime) .mul (D .d) (X .right k);
+    whole = λ k. polynomials (residues p prime) .mul (D .d) (X .side k);
     vector = D .vector;
     coordinates = D .N;
     descent = above inside (rising inside C some next prime H) D;

@@ -132,8 +132,8 @@ module _ {p : ℕ} {n m j : ℕ} {input : List ℕ} {L : Level} (inside : j < m)
       short : size (residues p prime) x ≤ mostCoefficients
       short =
           let below : Descent (systemOf p prime n m X) (D .level) (D .kernel)
-          (λ k. R .mul (D .d) (X .right k)) j vector (replace (D .N) j x) =
-          descent-turn (systemOf p prime n m X) (D .level) (D .kernel) (D .levels) (λ k. R .mul (D .d) (X .right k)) j inside turn
+          (λ k. R .mul (D .d) (X .side k)) j vector (replace (D .N) j x) =
+          descent-turn (systemOf p prime n m X) (D .level) (D .kernel) (D .levels) (λ k. R .mul (D .d) (X .side k)) j inside turn
           (above inside filling D) in
           omega (
             arith,

@@ -41,9 +41,9 @@ module _ (p : ℕ) (prime : Prime p) (n m : ℕ) where
   -- the slots after the insertion into U, and the tail that is left
   pub record HoldsVanished (X : Equations p prime n m) (U : Slots (Polynomial (residues p prime))) (input : List ℕ) (L : Level)
       (tail : List ℕ) : Type 0 where
-    pub side : Flat (residues p prime) n lanes unweighted (words p prime input (blockWords * m) blockWords) (X .right)
+    pub side : Flat (residues p prime) n lanes unweighted (words p prime input (blockWords * m) blockWords) (X .side)
     pub last : reduction.Level (systemOf p prime n m X) m U
-    pub inserting : Inserting (sized (residues p prime)) n unweighted U (X .right)
+    pub inserting : Inserting (sized (residues p prime)) n unweighted U (X .side)
     pub vanishes : Vanishes (polynomials (residues p prime)) n (inserting .now .hand)
     pub slots : HoldsSlots p prime n unweighted L (inserting .now .slots)
     pub held : Holds (residues p prime) (words p prime tail 0 tailWords) (inserting .now .hand n)
@@ -51,7 +51,7 @@ module _ (p : ℕ) (prime : Prime p) (n m : ℕ) where
   -- stuck at h; L still holds U
   pub record HoldsStuck (X : Equations p prime n m) (U : Slots (Polynomial (residues p prime))) (L : Level) (h : ℕ) : Type 0 where
     pub last : reduction.Level (systemOf p prime n m X) m U
-    pub inserting : Inserting (sized (residues p prime)) n unweighted U (X .right)
+    pub inserting : Inserting (sized (residues p prime)) n unweighted U (X .side)
     pub stuck : Stuck (sized (residues p prime)) n unweighted (inserting .now)
     pub at : stuck .at ≡ h
     pub slots : HoldsSlots p prime n unweighted L U
@@ -137,16 +137,16 @@ module _ {p m : ℕ} {input : List ℕ} {L : Level} {M M′ : Memory} (started :
         ∙ ap (λ w. words p prime w 0 blockWords x) (sym copied)
 
     abbrev R : Reached p prime n unweighted
-        (begin (polynomials (residues p prime)) n (H .slots) (X .right) (height (M .hand .size))) M′
-    R = done .leads prime n unweighted (begin (polynomials (residues p prime)) n (H .slots) (X .right) (height (M .hand .size)))
-        (started .holds prime n (H .slots) (X .right) (H .holds) (flat-same same (H .system .right)))
+        (begin (polynomials (residues p prime)) n (H .slots) (X .side) (height (M .hand .size))) M′
+    R = done .leads prime n unweighted (begin (polynomials (residues p prime)) n (H .slots) (X .side) (height (M .hand .size)))
+        (started .holds prime n (H .slots) (X .side) (H .holds) (flat-same same (H .system .side)))
 
-    abbrev made : Inserting (sized (residues p prime)) n unweighted (H .slots) (X .right)
+    abbrev made : Inserting (sized (residues p prime)) n unweighted (H .slots) (X .side)
     made = record { size = height (M .hand .size); now = R .now; trace = R .trace }
 
     inserted-vanished : M′ .hand .size ≡ 0 → HoldsVanished p prime n m X (H .slots) input (M′ .level) (M′ .tail)
     inserted-vanished none = record {
-      side = H .system .right;
+      side = H .system .side;
       last = H .last;
       inserting = made;
       vanishes = holds-zero p prime (done .valid .hand) (R .holds) none;

@@ -114,8 +114,8 @@ module _ {p n m : ℕ} {input : List ℕ} {L L′ : Level} {tail d t : List ℕ}
     abbrev x : Polynomial (residues p prime)
     x = polynomials (residues p prime) .mul (associate (residues p prime) e (vanished-some prime few-rows Q) .unit) e
 
-    D : HoldsDenominator p prime n d t x (X .right)
-    D = has .holds prime n e (vanished-some prime few-rows Q) (X .right) (Q .held) (Q .side)
+    D : HoldsDenominator p prime n d t x (X .side)
+    D = has .holds prime n e (vanished-some prime few-rows Q) (X .side) (Q .held) (Q .side)
 
     S : HoldsSecond p prime n (degrees n (U .size)) (Q .inserting .now .slots) w rows
     S = solved .solved prime (degrees n (U .size)) (Q .inserting .now .slots) (last-degrees prime few-rows (Q .last) .1) (Q .slots)
@@ -176,7 +176,7 @@ module _ {p n m : ℕ} {input : List ℕ} {L L′ : Level} {tail d t : List ℕ}
       };
       coefficients = divided-coefficients prime divided (record {
         slots = U;
-        vector = λ k. polynomials (residues p prime) .mul (x prime X U Q) (X .right k);
+        vector = λ k. polynomials (residues p prime) .mul (x prime X U Q) (X .side k);
         holds-slots = slots;
         holds = D prime X U Q .vector;
       }) (made prime X U Q .span);

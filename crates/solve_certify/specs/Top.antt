@@ -33,7 +33,7 @@ module _ {p n m j : ℕ} (top : j ≡ m) {input : List ℕ} {L : Level} where
 
     module _ {quotients output : List ℕ} (W : HoldsUnfinished p prime n m X (H .slots) quotients output) where
       abbrev vector : ℕ → Polynomial (residues p prime)
-      vector k = polynomials (residues p prime) .mul (W .d) (X .right k)
+      vector k = polynomials (residues p prime) .mul (W .d) (X .side k)
 
       none : ℕ → Polynomial (residues p prime)
       none k = polynomials (residues p prime) .zero

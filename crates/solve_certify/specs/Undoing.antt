@@ -26,9 +26,9 @@ module _ {p : ℕ} {prime : Prime p} {n m j : ℕ} {X : Equations p prime n m} {
     {H : HoldsLevels p prime n m X j input L} (E : Extension p prime H L′) {quotients output : List ℕ}
     (D : HoldsDescended p prime n m (extended E) quotients output) where
   abbrev whole : ℕ → Polynomial (residues p prime)
-  whole k = polynomials (residues p prime) .mul (D .d) (X .right k)
+  whole k = polynomials (residues p prime) .mul (D .d) (X .side k)
 
-  pub above : Descent (systemOf p prime n m X) (D .level) (D .kernel) (λ k. polynomials (residues p prime) .mul (D .d) (X .right k))
+  pub above : Descent (systemOf p prime n m X) (D .level) (D .kernel) (λ k. polynomials (residues p prime) .mul (D .d) (X .side k))
       (suc j) (D .vector) (D .N)
   above = subst (λ k. Descent (systemOf p prime n m X) (D .level) (D .kernel) whole k (D .vector) (D .N)) (add-one j) (D .descent)
 

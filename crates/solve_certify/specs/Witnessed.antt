@@ -35,7 +35,7 @@ module _ (p : ℕ) (prime : Prime p) (n m : ℕ) where
     pub holds-d : HoldsAt p prime output 0 d
     pub holds-w : HoldsAt p prime output (1 + m) w
     pub holds-Z : (i : ℕ) → i < n → HoldsAt p prime output (2 + m + i) (Z i)
-    pub coefficients : HoldsCoefficients p prime n U (λ k. polynomials (residues p prime) .mul d (X .right k)) quotients
+    pub coefficients : HoldsCoefficients p prime n U (λ k. polynomials (residues p prime) .mul d (X .side k)) quotients
 
   -- whether there is a solution
   unfoldable pub HoldsWitness : Bool → Equations p prime n m → Slots (Polynomial (residues p prime)) → List ℕ → List ℕ → Type 0

@@ -23,9 +23,9 @@ module _ (p : ℕ) (prime : Prime p) (n m : ℕ) where
   -- n rows and m columns modulo p, of degree at most 15
   pub record Equations : Type 0 where
     pub matrix : ℕ → ℕ → Polynomial (residues p prime)
-    pub right : ℕ → Polynomial (residues p prime)
+    pub side : ℕ → Polynomial (residues p prime)
     pub matrix-small : (i j : ℕ) → i < n → j < m → size (residues p prime) (matrix i j) ≤ blockDegrees
-    pub right-small : (i : ℕ) → i < n → size (residues p prime) (right i) ≤ blockDegrees
+    pub side-small : (i : ℕ) → i < n → size (residues p prime) (side i) ≤ blockDegrees
 
   -- as `reduction` takes them
   abbrev pub systemOf : Equations → System (sized (residues p prime))
@@ -34,12 +34,12 @@ module _ (p : ℕ) (prime : Prime p) (n m : ℕ) where
     columns = m;
     degree = 15;
     matrix = X .matrix;
-    right = X .right;
+    side = X .side;
     matrix-small = X .matrix-small;
-    right-small = X .right-small;
+    side-small = X .side-small;
   }
 
   pub record HoldsSystem (X : Equations) (input : List ℕ) : Type 0 where
     pub column : (j : ℕ) → j < m
         → Flat (residues p prime) n lanes unweighted (words p prime input (blockWords * j) blockWords) (λ i. X .matrix i j)
-    pub right : Flat (residues p prime) n lanes unweighted (words p prime input (blockWords * m) blockWords) (X .right)
+    pub side : Flat (residues p prime) n lanes unweighted (words p prime input (blockWords * m) blockWords) (X .side)

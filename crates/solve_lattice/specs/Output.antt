@@ -52,7 +52,7 @@ module _ (p : ℕ) (prime : Prime p) where
       pub q : ℕ → Polynomial (residues p prime)
       pub right : RightAbsence (euclidean (residues p prime)) T q
       pub small : SmallAbsence (euclidean (residues p prime)) T mostCoefficients q
-      pub killing : Killing (sized (residues p prime)) (T .rows) (T .columns) (T .matrix) (T .right) q
+      pub killing : Killing (sized (residues p prime)) (T .rows) (T .columns) (T .matrix) (T .side) q
       pub monic : Monic (residues p prime) (q (killing .at))
       pub holds-q : (i : ℕ) → i < T .rows → HoldsAt output i (q i)
 

@@ -10,8 +10,8 @@ use lib.ListN.{length, getD, length-append, List·getD-append}
 use lib.Seq.{getD-append-add}
 use Rattle.words.specs.Limits.{office}
 use Rattle.words.specs.LimitsLaws.{office-fits}
-use Rattle.words.specs.System.{System, entry, rightSide, systemEntries}
-use Rattle.words.specs.SystemLaws.{entry-within, rightSide-within}
+use Rattle.words.specs.System.{System, entry, sideEntry, systemEntries}
+use Rattle.words.specs.SystemLaws.{entry-within, sideEntry-within}
 use Rattle.vector.specs.Bound.{AtMost}
 use Rattle.loader.specs.Slot.{Holds, Stands}
 use Rattle.loader.specs.SlotLaws.{slot-before, canonical-word}
@@ -63,20 +63,20 @@ module _ {s : System} {ws : List ℕ} {rows columns : ℕ} (H : HasWords s ws ro
           omega (arith, count, matrix-slot (s .rows) (s .columns) i j row column) in
           laid-out .matrix i j e row column small
           ∙ ap (λ f. getD f e 0)
-          (stands .slots (j + s .columns * i) (omega (arith, length-append (s .matrix) (s .right)))
-          ∙ List·getD-append (s .matrix) (s .right) [] (j + s .columns * i) inside
+          (stands .slots (j + s .columns * i) (omega (arith, length-append (s .matrix) (s .side)))
+          ∙ List·getD-append (s .matrix) (s .side) [] (j + s .columns * i) inside
           ∙ ap (λ n. getD (s .matrix) n []) k)
 
-      right-is : (i e : ℕ) → i < s .rows → e < 16 → getD input′ (place (s .columns) i e) 0 ≡ getD (rightSide s i) e 0
-      right-is i e row small =
+      side-is : (i e : ℕ) → i < s .rows → e < 16 → getD input′ (place (s .columns) i e) 0 ≡ getD (sideEntry s i) e 0
+      side-is i e row small =
           let k : s .rows * s .columns + 1 * i ≡ length (s .matrix) + i = omega (arith, count) in
           let inside : s .rows * s .columns + 1 * i < length (systemEntries s) =
-          omega (arith, count, length-append (s .matrix) (s .right), H .within .right .count) in
-          laid-out .right i e row small
+          omega (arith, count, length-append (s .matrix) (s .side), H .within .side .count) in
+          laid-out .side i e row small
           ∙ ap (λ f. getD f e 0)
           (stands .slots (s .rows * s .columns + 1 * i) inside
           ∙ ap (λ n. getD (systemEntries s) n []) k
-          ∙ getD-append-add (s .matrix) (s .right) i [])
+          ∙ getD-append-add (s .matrix) (s .side) i [])
 
       other-is : (j i e : ℕ) → getD input′ (place j i e) 0 ≡ getD input (place j i e) 0 → getD input′ (place j i e) 0 ≡ 0
       other-is j i e same = omega (arith, clear (place j i e))
@@ -89,8 +89,8 @@ module _ {s : System} {ws : List ℕ} {rows columns : ℕ} (H : HasWords s ws ro
       below-at j i e row small (yes r) (yes c) d = subst (λ w. w < s .modulus) (sym (matrix-is i j e r c small))
           (canonical-word (s .modulus) positive (entry s i j) (entry-within office s (H .within) i j .canonical) e)
       below-at j i e row small (yes r) (no c) (yes d) = subst (λ w. w < s .modulus)
-          (sym (ap (λ k. getD input′ (place k i e) 0) d ∙ right-is i e r small))
-          (canonical-word (s .modulus) positive (rightSide s i) (rightSide-within office s (H .within) i .canonical) e)
+          (sym (ap (λ k. getD input′ (place k i e) 0) d ∙ side-is i e r small))
+          (canonical-word (s .modulus) positive (sideEntry s i) (sideEntry-within office s (H .within) i .canonical) e)
       below-at j i e row small (yes r) (no c) (no d) = subst (λ w. w < s .modulus)
           (sym (other-is j i e (laid-out .others j i e row small (inl (omega arith))))) positive
       below-at j i e row small (no r) c d = subst (λ w. w < s .modulus)
@@ -114,5 +114,5 @@ module _ {s : System} {ws : List ℕ} {rows columns : ℕ} (H : HasWords s ws ro
           beside = λ i j e ge row column small. other-is j i e (laid-out .others j i e row small (inr ge));
         };
         matrix = matrix-is;
-        right = right-is;
+        side = side-is;
       }

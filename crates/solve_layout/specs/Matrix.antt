@@ -25,7 +25,7 @@ pub record LaidOut (area : List ℕ) (rows columns : ℕ) (input input′ : List
   pub same-length : length input′ ≡ length input
   pub matrix : (i j e : ℕ) → i < rows → j < columns → e < 16
       → getD input′ (place j i e) 0 ≡ getD (slot 17 area (j + columns * i)) e 0
-  pub right : (i e : ℕ) → i < rows → e < 16
+  pub side : (i e : ℕ) → i < rows → e < 16
       → getD input′ (place columns i e) 0 ≡ getD (slot 17 area (rows * columns + 1 * i)) e 0
   pub others : (j i e : ℕ) → i < 8 → e < 16 → (columns < j) ⊎ (rows ≤ i)
       → getD input′ (place j i e) 0 ≡ getD input (place j i e) 0
@@ -63,7 +63,7 @@ module _ {area : List ℕ} {rows columns : ℕ} {input : List ℕ} where
       same-length = last .same-length ∙ so-far .same-length;
       matrix = λ i j e row lt small.
           last .others j i e (omega arith) small (inl (λ q. omega arith)) ∙ so-far .matrix i j e row (omega arith) small;
-      right = last .lanes;
+      side = last .lanes;
       others = λ j i e row small apart. last .others j i e row small (⊎-elim (λ gt. inl (λ q. omega arith)) inr apart)
           ∙ so-far .others j i e row small (⊎-elim (λ gt. inl (omega arith)) inr apart);
     }

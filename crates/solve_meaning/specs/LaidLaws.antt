@@ -18,12 +18,12 @@ use Rattle.reduction.specs.Holds.{Holds}
 use Rattle.reduction.specs.Flat.{Flat, flat}
 use Rattle.solve_lattice.specs.Word.{residue-zero, words, words-inside, words-behind}
 use Rattle.words.specs.Limits.{office}
-use Rattle.words.specs.System.{System, SystemWithin, entry, rightSide}
+use Rattle.words.specs.System.{System, SystemWithin, entry, sideEntry}
 use Rattle.solve_lattice.specs.Input.{ValidInput, HoldsSystem}
 use Rattle.solve_lattice.specs.Room.{blockWords}
 use Rattle.solve_meaning.specs.Laid.{Laid}
 use Rattle.solve_meaning.specs.Lists.{listOf, list-coefficient}
-use Rattle.solve_meaning.specs.Equations.{equations, matrix-list, right-list}
+use Rattle.solve_meaning.specs.Equations.{equations, matrix-list, side-list}
 
 -- one block: 16 degrees in 8 lanes from the word b on
 module _ (p : ℕ) (prime : Prime p) (input : List ℕ) (n b : ℕ) (v : ℕ → Polynomial (residues p prime)) (f : ℕ → List ℕ) where
@@ -92,12 +92,12 @@ module _ (s : System) (h : SystemWithin office s) {input : List ℕ} (L : Laid s
           lane = λ i e hi he. L .matrix i j e hi hj he;
           beside = λ i e hn hi he. L .area .beside i j e hn hi (omega arith) he;
         });
-    right = block-flat (s .modulus) prime input (s .rows) (blockWords * s .columns) (equations s h .right) (rightSide s)
+    side = block-flat (s .modulus) prime input (s .rows) (blockWords * s .columns) (equations s h .side) (sideEntry s)
         (record {
           rows = h .shape .rows .1;
-          list = λ i hi. right-list office s h i;
-          small = λ i hi. equations s h .right-small i hi;
-          lane = λ i e hi he. L .right i e hi he;
+          list = λ i hi. side-list office s h i;
+          small = λ i hi. equations s h .side-small i hi;
+          lane = λ i e hi he. L .side i e hi he;
           beside = λ i e hn hi he. L .area .beside i (s .columns) e hn hi (omega arith) he;
         });
   }

@@ -22,7 +22,7 @@ systemIn h input = record {
   rows = h .rows;
   columns = h .columns;
   matrix = listed (h .rows * h .columns) (λ k. lanePolynomial (h .modulus) input (blockWords * (k % h .columns)) (k / h .columns));
-  right = listed (h .rows) (lanePolynomial (h .modulus) input (blockWords * h .columns));
+  side = listed (h .rows) (lanePolynomial (h .modulus) input (blockWords * h .columns));
 }
 
 -- what is asked of the words: they are below p, and there is nothing in the lanes beside the rows

@@ -16,8 +16,8 @@ use Rattle.vector.specs.Reduced.{reduced, residue-same, reduced-is, canonical-r
 use Rattle.reduction.specs.Flat.{flat}
 use Rattle.words.specs.Limits.{office}
 use Rattle.words.specs.Polynomial.{Within}
-use Rattle.words.specs.System.{System, Shape, ShapeWithin, SystemWithin, shape, entry, rightSide}
-use Rattle.words.specs.SystemLaws.{entry-within, rightSide-within}
+use Rattle.words.specs.System.{System, Shape, ShapeWithin, SystemWithin, shape, entry, sideEntry}
+use Rattle.words.specs.SystemLaws.{entry-within, sideEntry-within}
 use Rattle.solve_lattice.specs.Room.{blockWords}
 use Rattle.truth.specs.Listed.{listed, length-listed, listed-at, listed-is}
 use Rattle.solve_meaning.specs.Listed.{vector-listed}
@@ -98,12 +98,12 @@ module _ (s : System) (h : SystemWithin office s) {input : List ℕ} (L : Laid s
   -- what is laid out is read
   pub laid-read : systemIn (shape s) input ≡ s
   laid-read =
-      ap₂ (λ A b. record { modulus = s .modulus; rows = s .rows; columns = s .columns; matrix = A; right = b })
+      ap₂ (λ A b. record { modulus = s .modulus; rows = s .rows; columns = s .columns; matrix = A; side = b })
       (listed-is (s .rows * s .columns) (λ k. lanePolynomial (s .modulus) input (blockWords * (k % s .columns)) (k / s .columns)) (s .matrix)
       [] (h .matrix .count) entry-is)
-      (listed-is (s .rows) (lanePolynomial (s .modulus) input (blockWords * s .columns)) (s .right) [] (h .right .count)
-      (λ i row. lane-is (s .modulus) positive input (blockWords * s .columns) i (rightSide s i) (rightSide-within office s h i)
-      (λ e. L .right i e row) (L .area .below)))
+      (listed-is (s .rows) (lanePolynomial (s .modulus) input (blockWords * s .columns)) (s .side) [] (h .side .count)
+      (λ i row. lane-is (s .modulus) positive input (blockWords * s .columns) i (sideEntry s i) (sideEntry-within office s h i)
+      (λ e. L .side i e row) (L .area .below)))
 
 module _ (h : Shape) (within : ShapeWithin office h) (input : List ℕ) where
   pub read-within : SystemWithin office (systemIn h input)
@@ -111,7 +111,7 @@ module _ (h : Shape) (within : ShapeWithin office h) (input : List ℕ) where
     shape = within;
     matrix = vector-listed (h .modulus) 16 (h .rows * h .columns) _ (λ k lt. lane-within (h .modulus)
         (prime-positive (h .modulus) (within .prime)) input (blockWords * (k % h .columns)) (k / h .columns));
-    right = vector-listed (h .modulus) 16 (h .rows) _ (λ i row. lane-within (h .modulus)
+    side = vector-listed (h .modulus) 16 (h .rows) _ (λ i row. lane-within (h .modulus)
         (prime-positive (h .modulus) (within .prime)) input (blockWords * h .columns) i);
   }
 
@@ -135,7 +135,7 @@ module _ (h : Shape) (within : ShapeWithin office h) (input : List ℕ) where
       area = area;
       matrix = λ i j e row column small.
           word (blockWords * j) i e small ∙ sym (ap (λ f. getD f e 0) (entry-read i j row column));
-      right = λ i e row small.
+      side = λ i e row small.
           word (blockWords * h .columns) i e small
           ∙ sym (ap (λ f. getD f e 0) (listed-at (h .rows) (lanePolynomial (h .modulus) input (blockWords * h .columns)) [] i row));
     }

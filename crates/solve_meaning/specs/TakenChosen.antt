@@ -28,7 +28,7 @@ module _ (limits : Limits) (s : System) (h : SystemWithin limits s) (output : Li
 
   -- with what route A2 adds to the area
   pub solution-chosen : (H : HoldsSolution (s .modulus) (h .shape .prime) T output)
-      → Certifying (sized (residues (s .modulus) (h .shape .prime))) (s .rows) (s .columns) (T .matrix) (T .right) (H .d) (H .w) (H .Z)
+      → Certifying (sized (residues (s .modulus) (h .shape .prime))) (s .rows) (s .columns) (T .matrix) (T .side) (H .d) (H .w) (H .Z)
       → ChosenSolution limits s h (takenPolynomial (s .modulus) output 0) (takenPolynomials (s .modulus) output 1 (s .columns))
       (takenPolynomial (s .modulus) output (1 + s .columns)) (takenPolynomials (s .modulus) output (2 + s .columns) (s .rows))
   solution-chosen H certifying = record {

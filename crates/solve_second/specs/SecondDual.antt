@@ -16,7 +16,7 @@ use Rattle.reduction.specs.Span.{combined, InSpan}
 use Rattle.reduction.specs.Euclidean.{Associate}
 use Rattle.reduction.specs.Division.{quotient, quotient-empty, division-quotients}
 use Rattle.reduction.specs.Inserting.{cleared}
-use Rattle.reduction.specs.Transpose.{Tops, back, transposed, rightSide, weights}
+use Rattle.reduction.specs.Transpose.{Tops, back, transposed, secondSide, weights}
 use Rattle.reduction.specs.Second.{second-span, second-dual}
 use Rattle.reduction.specs.Dual.{Dual}
 use Rattle.reduction.specs.Flat.{Flat}
@@ -26,7 +26,7 @@ use Rattle.solve_lattice.specs.Holding.{HoldsSlots}
 use Rattle.solve_lattice.specs.Reading.{ends-zero}
 use Rattle.solve_lattice.specs.Quotients.{HoldsQuotient, Dividend, Divides, Divided}
 use Rattle.solve_lattice.specs.Room.{productWords, lanes}
-use Rattle.solve_second.specs.RightInserted.{InsertedRight}
+use Rattle.solve_second.specs.SideInserted.{InsertedSide}
 
 -- tails do not matter for the span of blocks
 module _ {A : Type 0} (R : Ring A) (n : ℕ) (U : Slots A) where
@@ -57,7 +57,7 @@ pub record HoldsDual (p : ℕ) (prime : Prime p) (n B D : ℕ) (U : Slots (Polyn
 
 module _ (p : ℕ) (prime : Prime p) {n B D : ℕ} {U : Slots (Polynomial (residues p prime))}
     (O : Tops (sized (residues p prime)) n B D U)
-    {M : Memory} (I : InsertedRight p prime n D U M) {Monic : Polynomial (residues p prime) → Type 0}
+    {M : Memory} (I : InsertedSide p prime n D U M) {Monic : Polynomial (residues p prime) → Type 0}
     (m : Associate (sized (residues p prime)) Monic (I .run .now .hand n)) where
   abbrev R : Ring (Polynomial (residues p prime))
   R = polynomials (residues p prime)
@@ -70,7 +70,7 @@ module _ (p : ℕ) (prime : Prime p) {n B D : ℕ} {U : Slots (Polynomial (resid
 
   abbrev pub product : ℕ → Polynomial (residues p prime)
   product i = polynomials (residues p prime) .mul (polynomials (residues p prime) .mul (m .unit) (I .run .now .hand n))
-      (rightSide (polynomials (residues p prime)) n D U i)
+      (secondSide (polynomials (residues p prime)) n D U i)
 
   pub divided-dual : {L : Level} {block block′ quotients : List ℕ} {left : ℕ}
       → HoldsSlots p prime n (weights (polynomials (residues p prime)) n D U) L (cleared (polynomials (residues p prime)) n

@@ -4,8 +4,8 @@ use mathlib.Core.Path.{refl}
 use Rattle.solve_lattice.specs.Memory.{Level, ValidLevel}
 use Rattle.solve_second.specs.Same.{SameBlocks}
 use Rattle.solve_second.specs.WithRow.{withRow, row-blocks, row-valid}
-use Rattle.solve_second.specs.declared.right.Side.{Side}
-use Rattle.solve_second.specs.declared.right.Side.the-variants.{Tails, Row}
+use Rattle.solve_second.specs.declared.second_side.Side.{Side}
+use Rattle.solve_second.specs.declared.second_side.Side.the-variants.{Tails, Row}
 use Rattle.solve_lattice.specs.Room.{lanes}
 
 abbrev pub sided : Side → Level → Level

@@ -15,7 +15,7 @@ use Rattle.modular.specs.DivisionLaws.{divisionLaws}
 use Rattle.words.specs.Limits.{Limits}
 use Rattle.words.specs.LimitsLaws.{LimitsFit}
 use Rattle.words.specs.Polynomial.{AllWithin}
-use Rattle.words.specs.System.{System, shape, rightSide, SystemWithin, systemWords, readSystem}
+use Rattle.words.specs.System.{System, shape, sideEntry, SystemWithin, systemWords, readSystem}
 use Rattle.words.specs.SystemLaws.{system-read-of-written, system-written-of-read}
 use Rattle.words.specs.Certificate.{Certificate, CertificateWithin, SolutionWithin, certificateWords, readCertificate}
 use Rattle.words.specs.Certificate.Certificate.{solution, absence}
@@ -41,7 +41,7 @@ pub proper : (limits : Limits) (s : System) → SystemWithin limits s → Proper
 proper limits s h = record {
   prime = h .shape .prime;
   matrix = all-canonical (s .modulus) (limits .systemCoefficients) (s .matrix) (h .matrix .entries);
-  right = all-canonical (s .modulus) (limits .systemCoefficients) (s .right) (h .right .entries);
+  side = all-canonical (s .modulus) (limits .systemCoefficients) (s .side) (h .side .entries);
 }
 
 pub proper-solution : (limits : Limits) (s : System) (d : List ℕ) (N : List (List ℕ)) (w : List ℕ) (Z : List (List ℕ))
@@ -82,7 +82,7 @@ module _ (s : System) (h : Proper s) where
   -- the rows 31 to 34 and the four conditions
   module _ {d : List ℕ} {N : List (List ℕ)} {w : List ℕ} {Z : List (List ℕ)} (P : ProperSolution s d N w Z) where
     wrong-row : ℕ → Bool
-    wrong-row i = not (same? (rowOf s N i) (mul (modulo p) d (rightSide s i)))
+    wrong-row i = not (same? (rowOf s N i) (mul (modulo p) d (sideEntry s i)))
 
     wrong-column : ℕ → Bool
     wrong-column j = not (zero? (remainder (modulo p) (columnOf s Z j) w))

@@ -42,7 +42,7 @@ abbrev 𝟚 : List ℕ
 
 -- a system modulo p with n rows and m columns, its matrix row by row
 abbrev over : ℕ → ℕ → ℕ → List (List ℕ) → List (List ℕ) → System
-over p n m A b = record { modulus = p; rows = n; columns = m; matrix = A; right = b }
+over p n m A b = record { modulus = p; rows = n; columns = m; matrix = A; side = b }
 
 abbrev row : System → Certificate → Outcome (Unit {0}) → Case
 row s c o = record { system = s; certificate = c; expected = o }

@@ -21,7 +21,7 @@ use Rattle.modular.specs.Carried.{numberArithmetic}
 use Rattle.modular.specs.SizeLaws.{sized}
 use Rattle.modular.specs.MonicLaws.{monicLaws}
 use Rattle.modular.specs.Numbers.{numbers}
-use Rattle.words.specs.System.{System, rightSide}
+use Rattle.words.specs.System.{System, sideEntry}
 use Rattle.truth.specs.Solution.{AllCanonical, Divides, Clears, Monic, Denominator, rowOf, columnOf, sideOf}
 use Rattle.truth.specs.Listed.{listed, length-listed, listed-at}
 use Rattle.truth.specs.Right.{RightSolution, RightAbsence, certified}
@@ -293,7 +293,7 @@ module _ (s : System) (h : Proper s) where
 
     -- what 34 asks, where 31 to 33 turn nothing back: "zb and y have the same denominator" and N/d is in lowest terms. (In case 9 they
     -- have, and N/d is not.)
-    pub denominators-iff : Monic p d → Monic p w → ((i : ℕ) → i < s .rows → rowOf s N i ≡ mul (modulo p) d (rightSide s i))
+    pub denominators-iff : Monic p d → Monic p w → ((i : ℕ) → i < s .rows → rowOf s N i ≡ mul (modulo p) d (sideEntry s i))
         → ((j : ℕ) → j < s .columns → Divides p w (columnOf s Z j))
         → Denominator p (sideOf s Z ∷ []) w d
         ↔ (LowestTerms p N d × ((c : List ℕ) × Denominator p N d c × Denominator p (sideOf s Z ∷ []) w c))

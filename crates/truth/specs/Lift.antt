@@ -14,7 +14,7 @@ use Rattle.modular.specs.Canonical.{Canonical}
 use Rattle.modular.specs.Closed.{canonical-nil}
 use Rattle.modular.specs.Values.{NumberPolynomial, equal-numbers}
 use Rattle.modular.specs.Numbers.{numbers}
-use Rattle.words.specs.System.{System, entry, rightSide}
+use Rattle.words.specs.System.{System, entry, sideEntry}
 use Rattle.truth.specs.Solution.{AllCanonical, total, rowOf, columnOf, sideOf, Divides}
 use Rattle.truth.specs.Witness.{Equations}
 use Rattle.truth.specs.Witness
@@ -23,7 +23,7 @@ use Rattle.truth.specs.Witness
 pub record Proper (s : System) : Type 0 where
   pub prime : Prime (s .modulus)
   pub matrix : AllCanonical (s .modulus) (s .matrix)
-  pub right : AllCanonical (s .modulus) (s .right)
+  pub side : AllCanonical (s .modulus) (s .side)
 
 pub canonical-at : (p : ℕ) (fs : List (List ℕ)) → AllCanonical p fs → (i : ℕ) → Canonical p (getD fs i [])
 unfolding AllCanonical
@@ -61,7 +61,7 @@ module _ (s : System) (h : Proper s) where
     rows = s .rows;
     columns = s .columns;
     entry = λ i j. (entry s i j, canonical-at (s .modulus) (s .matrix) (h .matrix) _);
-    side = λ i. (rightSide s i, canonical-at (s .modulus) (s .right) (h .right) i);
+    side = λ i. (sideEntry s i, canonical-at (s .modulus) (s .side) (h .side) i);
   }
 
   module _ (fs : List (List ℕ)) (hf : AllCanonical (s .modulus) fs) where

@@ -6,7 +6,7 @@ use lib.ListN.{length, getD}
 use Rattle.algebra.specs.Coefficients.{add, mul, leading}
 use Rattle.modular.specs.Modulo.{modulo}
 use Rattle.modular.specs.Canonical.{Canonical}
-use Rattle.words.specs.System.{System, entry, rightSide}
+use Rattle.words.specs.System.{System, entry, sideEntry}
 
 -- a list of polynomials modulo p
 unfoldable pub AllCanonical : ℕ → List (List ℕ) → Type 0
@@ -34,7 +34,7 @@ columnOf s Z j = total (s .modulus) (s .rows) (λ i. mul (modulo (s .modulus)) (
 -- Z·b
 unfoldable pub sideOf : System → List (List ℕ) → List ℕ
 unfolding total mul modulo
-sideOf s Z = total (s .modulus) (s .rows) (λ i. mul (modulo (s .modulus)) (getD Z i []) (rightSide s i))
+sideOf s Z = total (s .modulus) (s .rows) (λ i. mul (modulo (s .modulus)) (getD Z i []) (sideEntry s i))
 
 -- ---- solutions
 
@@ -44,7 +44,7 @@ pub record RationalSolution (s : System) (M : List (List ℕ)) (e : List ℕ) : 
   pub count : length M ≡ s .columns
   pub divisor : Canonical (s .modulus) e
   pub nonzero : ¬ (e ≡ [])
-  pub rows : (i : ℕ) → i < s .rows → rowOf s M i ≡ mul (modulo (s .modulus)) e (rightSide s i)
+  pub rows : (i : ℕ) → i < s .rows → rowOf s M i ≡ mul (modulo (s .modulus)) e (sideEntry s i)
 
 -- d divides f
 pub record Divides (p : ℕ) (d f : List ℕ) : Type 0 where

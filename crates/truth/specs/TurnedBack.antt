@@ -5,7 +5,7 @@ use mathlib.Core.Path.{_≡_}
 use mathlib.Core.List.{List, [], _∷_}
 use Rattle.algebra.specs.Coefficients.{mul}
 use Rattle.modular.specs.Modulo.{modulo}
-use Rattle.words.specs.System.{System, rightSide}
+use Rattle.words.specs.System.{System, sideEntry}
 use Rattle.words.specs.Certificate.{Certificate}
 use Rattle.words.specs.Certificate.Certificate.{solution, absence}
 use Rattle.truth.specs.Solution.{rowOf, columnOf, sideOf, Divides, Monic, Denominator}
@@ -21,7 +21,7 @@ All n Holds = (i : ℕ) → i < n → Holds i
 
 -- row i of A·N = d·b
 abbrev pub RowSolved : System → List ℕ → List (List ℕ) → ℕ → Type 0
-RowSolved s d N i = rowOf s N i ≡ mul (modulo (s .modulus)) d (rightSide s i)
+RowSolved s d N i = rowOf s N i ≡ mul (modulo (s .modulus)) d (sideEntry s i)
 
 -- w divides column j of Z·A
 abbrev pub ColumnDivided : System → List ℕ → List (List ℕ) → ℕ → Type 0

@@ -146,7 +146,7 @@ module _ {h : Shape} {form : Form} {ws cs : List ℕ} (b : BothRead h form ws cs
       system-in =
           system-is l A s in-A same-modulus (ap (λ (g : Shape). g .rows) (b .same-shape))
           (ap (λ (g : Shape). g .columns) (b .same-shape))
-          (system-part .1 .matrix .count) (system-part .1 .right .count)
+          (system-part .1 .matrix .count) (system-part .1 .side .count)
 
       -- by the form of the certificate
       solution-by : (x : Certificate) → solving ≡ certificateForm x → CertificateWithin office (shape s) x

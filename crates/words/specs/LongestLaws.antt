@@ -83,7 +83,7 @@ module _ (limits : Limits) where
     rows = limits .rows;
     columns = limits .columns;
     matrix = full (limits .systemCoefficients) (limits .rows * limits .columns);
-    right = full (limits .systemCoefficients) (limits .rows);
+    side = full (limits .systemCoefficients) (limits .rows);
   }
 
   pub longCertificate : Certificate
@@ -134,7 +134,7 @@ module _ (limits : Limits) where
         columns = (some-columns, le-refl (limits .columns));
       };
       matrix = full-within 2 (omega arith) (limits .systemCoefficients) (limits .rows * limits .columns);
-      right = full-within 2 (omega arith) (limits .systemCoefficients) (limits .rows);
+      side = full-within 2 (omega arith) (limits .systemCoefficients) (limits .rows);
     }
 
   pub longCertificate-within : CertificateWithin limits (shape longSystem) longCertificate

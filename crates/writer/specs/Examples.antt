@@ -17,7 +17,7 @@ use Rattle.writer.specs.Values.{shapeWith, systemIn, certificateIn}
 -- ---- case 1: p = 2, A = (x), b = 1
 
 system1 : System
-system1 = record { modulus = 2; rows = 1; columns = 1; matrix = (0 ∷ 1 ∷ []) ∷ []; right = (1 ∷ []) ∷ [] }
+system1 = record { modulus = 2; rows = 1; columns = 1; matrix = (0 ∷ 1 ∷ []) ∷ []; side = (1 ∷ []) ∷ [] }
 
 certificate1 : Certificate
 certificate1 = solution (0 ∷ 1 ∷ []) ((1 ∷ []) ∷ []) (0 ∷ 1 ∷ []) ((1 ∷ []) ∷ [])
@@ -63,7 +63,7 @@ lent-refused = refl
 -- ---- refusals of a system of n rows and one column, with one polynomial of A and one of b
 
 refusedOf : ℕ → ℕ → ℕ → List ℕ → List ℕ → Outcome (List ℕ)
-refusedOf lent p n f g = writeSystem office lent (record { modulus = p; rows = n; columns = 1; matrix = f ∷ []; right = g ∷ [] })
+refusedOf lent p n f g = writeSystem office lent (record { modulus = p; rows = n; columns = 1; matrix = f ∷ []; side = g ∷ [] })
 
 -- 2 before 3; 3; 6; 7; 8; 7 in b; the first of two faults; 11; a fault before 11
 systems-refused : refusedOf 1226 4 9 [] []

@@ -20,7 +20,7 @@ systemIn limits h sizes coefficients = record {
   rows = h .rows;
   columns = h .columns;
   matrix = polynomialsIn (limits .systemCoefficients) sizes coefficients 0 (h .rows * h .columns);
-  right = polynomialsIn (limits .systemCoefficients) sizes coefficients (h .rows * h .columns) (h .rows);
+  side = polynomialsIn (limits .systemCoefficients) sizes coefficients (h .rows * h .columns) (h .rows);
 }
 
 -- how far apart the polynomials of a certificate lie: as the solver leaves them

@@ -81,11 +81,11 @@ module _ (limits : Limits) (lent : ℕ) where
     system-accepted ws e =
         let limit = limits .systemCoefficients in
         let w = write-accepted limits h limit 0 (longestSystem limits) lent (systemEntries system) (systemWords system) ws e in
-        let each = all-split (h .modulus) limit (system .matrix) (system .right) (w .entries) in (
+        let each = all-split (h .modulus) limit (system .matrix) (system .side) (w .entries) in (
           record {
             shape = w .shape;
             matrix = record { entries = each .0; count = length-polynomialsIn limit sizes coefficients _ _ };
-            right = record { entries = each .1; count = length-polynomialsIn limit sizes coefficients _ _ };
+            side = record { entries = each .1; count = length-polynomialsIn limit sizes coefficients _ _ };
           },
           w .form,
         )

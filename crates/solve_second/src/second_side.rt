@@ -17,9 +17,9 @@ ghost use lib.ListN.{length, getD};
 ghost use Rattle.vector.specs.Bound.{AtMost};
 ghost use Rattle.solve_lattice.specs.Room.{productWords, lanes};
 ghost use Rattle.solve_second.specs.Greatest.{Low, greatest};
-ghost use Rattle.solve_second.specs.RightFilling.{TailsEnd, Righting};
+ghost use Rattle.solve_second.specs.SideFilling.{TailsEnd, SideFilling};
 ghost use Rattle.solve_second.specs.Side.{sided, sideRow};
-ghost use Rattle.solve_second.specs.Words.{rightWord};
+ghost use Rattle.solve_second.specs.Words.{sideWord};
 
 // The right side of a second system.
 pub enum Side {
@@ -30,11 +30,11 @@ pub enum Side {
 }
 
 // Stores the tail of slot n - 1 - i of the level into lane i, where the slot is filled.
-fn tail_lane(right: &mut Product, level: &Level, n: usize, top: usize, i: usize)
+fn tail_lane(block: &mut Product, level: &Level, n: usize, top: usize, i: usize)
     requires { ⌜ Low (now level) × TailsEnd (now level) × (n ≤ lanes) × (i < n) ⌝ }
     requires height { ⌜ top ≡ greatest (now level) n ⌝ }
-    requires before { ⌜ Righting (now level) n (now right) (now right) i ⌝ }
-    ensures { λ _. ⌜ Righting (now (level .entry)) n (now (right .entry)) (now (right .exit)) (i + 1) ⌝ }
+    requires before { ⌜ SideFilling (now level) n (now block) (now block) i ⌝ }
+    ensures { λ _. ⌜ SideFilling (now (level .entry)) n (now (block .entry)) (now (block .exit)) (i + 1) ⌝ }
 {
     let q = n - 1 - i;
     if level[SIZES + q] == 0 {
@@ -43,7 +43,7 @@ fn tail_lane(right: &mut Product, level: &Level, n: usize, top: usize, i: usize)
     let lift = top - slot_height(level, q);
     let size = level[TAIL_SIZES + q] as usize;
     copy_lane(
-        right,
+        block,
         LAST_LANE - i + LANES * lift,
         level,
         SLOT * q + BLOCK,
@@ -53,29 +53,29 @@ fn tail_lane(right: &mut Product, level: &Level, n: usize, top: usize, i: usize)
 }
 
 // Stores lane i of the right side.
-fn side_lane(right: &mut Product, level: &Level, n: usize, side: Side, top: usize, i: usize)
+fn side_lane(block: &mut Product, level: &Level, n: usize, side: Side, top: usize, i: usize)
     requires { ⌜ Low (now level) × TailsEnd (sided side (now level)) × (sideRow side < lanes) × (n ≤ lanes) × (i < n) ⌝ }
     requires height { ⌜ top ≡ greatest (now level) n ⌝ }
-    requires before { ⌜ Righting (sided side (now level)) n (now right) (now right) i ⌝ }
-    ensures { λ _. ⌜ Righting (sided side (now (level .entry))) n (now (right .entry)) (now (right .exit)) (i + 1) ⌝ }
+    requires before { ⌜ SideFilling (sided side (now level)) n (now block) (now block) i ⌝ }
+    ensures { λ _. ⌜ SideFilling (sided side (now (level .entry))) n (now (block .entry)) (now (block .exit)) (i + 1) ⌝ }
 {
     match side {
-        Side::Tails => tail_lane(right, level, n, top, i),
-        Side::Row(h) => transpose_lane(right, LAST_LANE - i, level, n - 1 - i, h, top),
+        Side::Tails => tail_lane(block, level, n, top, i),
+        Side::Row(h) => transpose_lane(block, LAST_LANE - i, level, n - 1 - i, h, top),
     }
 }
 
-// Stores the right side in `right`, which is 0; `top` is the height of the transposed slots.
-pub fn lay_side(right: &mut Product, level: &Level, n: usize, side: Side, top: usize)
+// Stores the right side in `block`, which is 0; `top` is the height of the transposed slots.
+pub fn lay_side(block: &mut Product, level: &Level, n: usize, side: Side, top: usize)
     requires { ⌜ Low (now level) × TailsEnd (sided side (now level)) × (sideRow side < lanes) × (n ≤ lanes) ⌝ }
     requires height { ⌜ top ≡ greatest (now level) n ⌝ }
-    requires zeros { ⌜ (length (now right) ≡ productWords) × AtMost 0 (now right) ⌝ }
-    ensures { λ _. ⌜ (length (now (right .exit)) ≡ productWords)
-        × ((x : ℕ) → x < productWords → getD (now (right .exit)) x 0 ≡ rightWord (sided side (now (level .entry))) n x) ⌝ }
+    requires zeros { ⌜ (length (now block) ≡ productWords) × AtMost 0 (now block) ⌝ }
+    ensures { λ _. ⌜ (length (now (block .exit)) ≡ productWords)
+        × ((x : ℕ) → x < productWords → getD (now (block .exit)) x 0 ≡ sideWord (sided side (now (level .entry))) n x) ⌝ }
 {
     let mut i = 0;
     while i < n {
-        side_lane(right, level, n, side, top, i);
+        side_lane(block, level, n, side, top, i);
         i += 1;
     }
 }
