@@ -3,7 +3,7 @@ use Prim.Native.Nat.{ℕ, suc, _<_, _≤_}
 use Rattle.ring.specs.Ring.{Ring}
 use Rattle.algebra.specs.Sized.{Sized}
 
-pub record System {A : Type 0} {R : Ring A} (S : Sized R) : Type 0 where
+pub record LinearSystem {A : Type 0} {R : Ring A} (S : Sized R) : Type 0 where
   pub rows : ℕ
   pub columns : ℕ
   pub degree : ℕ

@@ -9,7 +9,7 @@ use Rattle.algebra.specs.Size.{size, sized}
 use Rattle.modular.specs.Prime.{Prime}
 use Rattle.modular.specs.Residue.{residues}
 use Rattle.reduction.specs.Slots.{unweighted}
-use Rattle.reduction.specs.System.{System}
+use Rattle.reduction.specs.System.{LinearSystem}
 use Rattle.reduction.specs.Flat.{Flat}
 use Rattle.solve_lattice.specs.Room.{inputWords, blockWords, blockDegrees, lanes}
 use Rattle.solve_lattice.specs.Word.{words}
@@ -28,8 +28,8 @@ module _ (p : ℕ) (prime : Prime p) (n m : ℕ) where
     pub side-small : (i : ℕ) → i < n → size (residues p prime) (side i) ≤ blockDegrees
 
   -- as `reduction` takes them
-  abbrev pub systemOf : Equations → System (sized (residues p prime))
-  systemOf X = record {
+  abbrev pub inputSystem : Equations → LinearSystem (sized (residues p prime))
+  inputSystem X = record {
     rows = n;
     columns = m;
     degree = 15;

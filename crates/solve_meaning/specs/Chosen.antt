@@ -13,9 +13,9 @@ use Rattle.algebra.specs.Monic.{Monic, monic-associates}
 use Rattle.modular.specs.Prime.{Prime}
 use Rattle.modular.specs.Residue.{Residue, residues}
 use Rattle.modular.specs.Values.{toNumbers, toResidues-is, toResidues-toNumbers}
-use Rattle.reduction.specs.System.{System as Equated}
+use Rattle.reduction.specs.System.{LinearSystem}
 use Rattle.reduction.specs.Polynomials.{euclidean}
-use Rattle.reduction.specs.Certificate.{RightSolution as RightSolutionIn}
+use Rattle.reduction.specs.Certificate.{RightSolutionIn}
 use Rattle.reduction.specs.Numerators.{ReducedNumerators, numerators-unique}
 use Rattle.reduction.specs.Certifying.{Certifying, certifying-unique}
 use Rattle.reduction.specs.Killing.{Killing, killing-at, killing-unique}
@@ -56,7 +56,7 @@ module _ (limits : Limits) (s : System) (h : SystemWithin limits s) where
   abbrev Q : Type 0
   Q = Polynomial (residues (s .modulus) (h .shape .prime))
 
-  abbrev T : Equated (sized (residues (s .modulus) (h .shape .prime)))
+  abbrev T : LinearSystem (sized (residues (s .modulus) (h .shape .prime)))
   T = equated limits s h
 
   abbrev list : Q → List ℕ

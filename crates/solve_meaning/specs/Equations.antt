@@ -9,7 +9,7 @@ use Rattle.algebra.specs.Size.{size, sized}
 use Rattle.modular.specs.Prime.{Prime}
 use Rattle.modular.specs.Residue.{residues}
 use Rattle.modular.specs.Values.{toResidues, toResidues-list}
-use Rattle.reduction.specs.System.{System as Equated}
+use Rattle.reduction.specs.System.{LinearSystem}
 use Rattle.words.specs.Limits.{Limits, office}
 use Rattle.words.specs.System.{System, SystemWithin, entry, sideEntry}
 use Rattle.words.specs.SystemLaws.{entry-within, sideEntry-within}
@@ -52,7 +52,7 @@ module _ (limits : Limits) (s : System) (h : SystemWithin limits s) where
   side-small i k = omega (arith, list-length p prime (side i), ap length (side-list i), sideEntry-within limits s h i .size)
 
   -- as `reduction` takes them
-  abbrev pub equated : Equated (sized (residues (s .modulus) (h .shape .prime)))
+  abbrev pub equated : LinearSystem (sized (residues (s .modulus) (h .shape .prime)))
   equated = record {
     rows = s .rows;
     columns = s .columns;
@@ -63,10 +63,10 @@ module _ (limits : Limits) (s : System) (h : SystemWithin limits s) where
     side-small = side-small;
   }
 
--- as the solver's contracts take them: there `equated` is `systemOf` by definition
+-- as the solver's contracts take them: there `equated` is `inputSystem` by definition
 module _ (s : System) (h : SystemWithin office s) where
-  abbrev pub equations : Equations (s .modulus) (h .shape .prime) (s .rows) (s .columns)
-  equations = record {
+  abbrev pub officeEquations : Equations (s .modulus) (h .shape .prime) (s .rows) (s .columns)
+  officeEquations = record {
     matrix = matrix office s h;
     side = side office s h;
     matrix-small = matrix-small office s h;

@@ -18,12 +18,12 @@ use Rattle.algebra.specs.Gcd.{gcd, gcd-unique}
 use Rattle.modular.specs.Prime.{Prime}
 use Rattle.modular.specs.Modulo.{modulo}
 use Rattle.modular.specs.Residue.{Residue, residues}
-use Rattle.reduction.specs.System.{System as Equated}
+use Rattle.reduction.specs.System.{LinearSystem}
 use Rattle.reduction.specs.Polynomials.{euclidean}
-use Rattle.reduction.specs.Certificate.{RightSolution as RightSolutionIn, RightAbsence as RightAbsenceIn}
+use Rattle.reduction.specs.Certificate.{RightSolutionIn, RightAbsenceIn}
 use Rattle.words.specs.Limits.{Limits}
 use Rattle.words.specs.System.{System, SystemWithin, entry, sideEntry}
-use Rattle.truth.specs.Solution.{Divides, Monic, rowOf, columnOf, sideOf}
+use Rattle.truth.specs.Solution.{DividesModulo, Monic, rowOf, columnOf, sideOf}
 use Rattle.truth.specs.Right.{RightSolution, RightAbsence, certified}
 use Rattle.solve_meaning.specs.Lists
 use Rattle.solve_meaning.specs.Lists.{listOf}
@@ -57,7 +57,7 @@ module _ (limits : Limits) (s : System) (h : SystemWithin limits s) where
   abbrev R : Ring (Polynomial (residues (s .modulus) (h .shape .prime)))
   R = polynomials (residues (s .modulus) (h .shape .prime))
 
-  abbrev T : Equated (sized (residues (s .modulus) (h .shape .prime)))
+  abbrev T : LinearSystem (sized (residues (s .modulus) (h .shape .prime)))
   T = equated limits s h
 
   abbrev list : Polynomial (residues (s .modulus) (h .shape .prime)) → List ℕ
@@ -96,9 +96,9 @@ module _ (limits : Limits) (s : System) (h : SystemWithin limits s) where
         ∙ Lists.list-mul p prime D (T .side i)
         ∙ ap₂ (Coefficients.mul (modulo p)) (sym ed) (side-list limits s h i)
 
-    column-divided : (j : ℕ) → j < s .columns → Divides p w (columnOf s Z j)
-    column-divided j k = subst (λ f. Divides p f (columnOf s Z j)) (sym ew)
-        (subst (Divides p (list W)) (sym (column-is ζ Z eZ j)) (Lists.list-divides p prime (C .divides j k)))
+    column-divided : (j : ℕ) → j < s .columns → DividesModulo p w (columnOf s Z j)
+    column-divided j k = subst (λ f. DividesModulo p f (columnOf s Z j)) (sym ew)
+        (subst (DividesModulo p (list W)) (sym (column-is ζ Z eZ j)) (Lists.list-divides p prime (C .divides j k)))
 
     denominator-is : certified s w Z ≡ d
     unfolding certified

@@ -6,7 +6,7 @@ use native.Mathlib.Nat.{zero-add}
 use Rattle.algebra.specs.Size.{sized}
 use Rattle.modular.specs.Prime.{Prime}
 use Rattle.modular.specs.Residue.{residues}
-use Rattle.reduction.specs.System.{System as Equated}
+use Rattle.reduction.specs.System.{LinearSystem}
 use Rattle.reduction.specs.Certifying.{Certifying}
 use Rattle.words.specs.Limits.{Limits}
 use Rattle.words.specs.System.{System, SystemWithin}
@@ -23,7 +23,7 @@ module _ (limits : Limits) (s : System) (h : SystemWithin limits s) (output : Li
   abbrev prime : Prime (s .modulus)
   prime = h .shape .prime
 
-  abbrev T : Equated (sized (residues (s .modulus) (h .shape .prime)))
+  abbrev T : LinearSystem (sized (residues (s .modulus) (h .shape .prime)))
   T = equated limits s h
 
   -- with what route A2 adds to the area

@@ -13,7 +13,7 @@ use Rattle.solve_second.specs.Greatest.{greatest}
 use Rattle.solve_second.specs.Words.{reversed, lift, transposedSize, blockWord, tailWord}
 use Rattle.solve_second.specs.Words.{transposedWord, transposed-beyond, transposed-beside}
 use Rattle.solve_second.specs.Words.{transposed-tail, transposed-low, transposed-value}
-use Rattle.solve_second.specs.Laid.{SlotsLaid, Laid}
+use Rattle.solve_second.specs.Laid.{SlotsLaid, SecondLaid}
 use Rattle.solve_second.specs.Words.{sideWord, side-beside, side-empty, side-low, side-far, side-value}
 
 -- the weight of coordinate i, by the size of the slot that it comes from
@@ -110,7 +110,7 @@ module _ (L : Level) (n : ℕ) where
       ∙ cell-behind laid k (blockWords + j) h (omega arith) (omega arith)
 
   -- coordinate i, degree e of the right side
-  module _ {T : Level} {b : List ℕ} (laid : Laid n L T b) (i e : ℕ) (lane : i < lanes) (degree : e < productDegrees) where
+  module _ {T : Level} {b : List ℕ} (laid : SecondLaid n L T b) (i e : ℕ) (lane : i < lanes) (degree : e < productDegrees) where
     abbrev y : ℕ
     y = flat lanes i e
 

@@ -25,8 +25,8 @@ use Rattle.solve_lattice.specs.Insertion.{Inserts}
 use Rattle.solve_lattice.specs.Room.{productWords, blockWords, lanes}
 use Rattle.solve_second.specs.Monic.{MadeMonic}
 use Rattle.solve_second.specs.Greatest.{greatest}
-use Rattle.solve_second.specs.SideInserted.{InsertedSide, SideInserted, side-inserted}
-use Rattle.solve_second.specs.Laid.{Laid, startingMemory}
+use Rattle.solve_second.specs.SideInserted.{InsertedSide, SideInserted, second-side-inserted}
+use Rattle.solve_second.specs.Laid.{SecondLaid, startingMemory}
 
 -- w, of so many coefficients, is the tail with which an insertion that begins with memory M ends, made monic
 pub record TailFound (p : ℕ) (M : Memory) (w : List ℕ) (count : ℕ) : Type 0 where
@@ -69,8 +69,9 @@ denominator-found {p} {n} {L} {M} {w} {count} done made = record {
 }
 
 -- w, where the second system is laid out and its right side inserted
-pub laid-denominator : (p : ℕ) → Prime p → {n : ℕ} → n ≤ lanes → {L : Level} → ValidLevel p L → {T : Level} {b : List ℕ} → Laid n L T b
+pub laid-denominator : (p : ℕ) → Prime p → {n : ℕ} → n ≤ lanes → {L : Level} → ValidLevel p L → {T : Level} {b : List ℕ}
+    → SecondLaid n L T b
     → (found : Leading) → found .size ≡ length (polynomial p b 0 productWords) → found .value ≡ leading (modulo p) (polynomial p b 0 productWords)
     → {w : List ℕ} {count : ℕ} → TailFound p (startingMemory T b found) w count → DenominatorFound p n L w count
 laid-denominator p prime small valid laid found size last tail =
-    denominator-found (side-inserted p prime small valid laid found size last (tail .inserts)) (tail .monic)
+    denominator-found (second-side-inserted p prime small valid laid found size last (tail .inserts)) (tail .monic)

@@ -5,7 +5,7 @@ use mathlib.Core.List.{List}
 use native.Mathlib.Omega.{arith}
 use native.Mathlib.Decide.{decLt}
 use Rattle.solve_lattice.specs.Memory.{height, Level, slotSize}
-use Rattle.solve_second.specs.Greatest.{Low, greatest, greatest-small}
+use Rattle.solve_second.specs.Greatest.{LowBlocks, greatest, greatest-small}
 use Rattle.solve_second.specs.Words.{when-yes, reversed, blockWord, tailWord}
 use Rattle.solve_second.specs.Spread.{Spread, spread-same}
 use Rattle.solve_second.specs.SideFilling.{TailsEnd, SideFilling, side-filling-lane, side-filling-none}
@@ -13,7 +13,7 @@ use Rattle.solve_second.specs.Same.{same-greatest, same-at}
 use Rattle.solve_second.specs.WithRow.{withRow, row-blocks, row-tail, row-tail-size}
 use Rattle.solve_lattice.specs.Room.{blockDegrees, lanes, lastLane}
 
-module _ (h : ℕ) (L : Level) (low-blocks : Low L) {n : ℕ} (small : n ≤ lanes) where
+module _ (h : ℕ) (L : Level) (low-blocks : LowBlocks L) {n : ℕ} (small : n ≤ lanes) where
   -- lane i of the right side
   pub side-filling-row : TailsEnd (withRow h L) → (i : ℕ) → i < n → {o w w′ : List ℕ}
       → SideFilling (withRow h L) n o w i → {t : ℕ} → t ≡ greatest L n

@@ -28,7 +28,7 @@ use Rattle.solve_second.specs.Product.{BlockMultiplied}
 use Rattle.solve_second.specs.Greatest.{greatest, greatest-small}
 use Rattle.solve_second.specs.Transposed.{side-held}
 use Rattle.solve_second.specs.SideInserted.{tops-lower}
-use Rattle.solve_second.specs.Laid.{Laid}
+use Rattle.solve_second.specs.Laid.{SecondLaid}
 use Rattle.solve_second.specs.Solved.{HasTops}
 use Rattle.solve_second.specs.Denominator.{FoundDenominator, DenominatorFound}
 
@@ -49,7 +49,7 @@ ends-size p prime {l} {N} {k} {x} ends some holds =
     nonzero e = omega (arith, ends .last some, zero-word p prime l 0 N (k - 1) (omega (arith, ends .within)) e)
 
 -- the right side as it is laid out, of m words
-module _ {p n : ℕ} (small : n ≤ lanes) {L T : Level} {b : List ℕ} (laid : Laid n L T b) (valid : ValidLevel p L) {w : List ℕ}
+module _ {p n : ℕ} (small : n ≤ lanes) {L T : Level} {b : List ℕ} (laid : SecondLaid n L T b) (valid : ValidLevel p L) {w : List ℕ}
     {count : ℕ}
     (found : DenominatorFound p n L w count) (m : ℕ) (m-is : m ≡ length (polynomial p b 0 productWords)) where
   positive : 0 < p

@@ -91,7 +91,8 @@ module _ (L : Level) (n : ℕ) {o w : List ℕ} where
         filling-lane so-far (spread-same spread (λ e. tailWord L (reversed n i) e) (λ e lt. refl)
         (ap (λ t. lastLane - i + lanes * (t - height (slotSize L (reversed n i)))) et) refl) places word
       where
-        places : (e : ℕ) → e < count → (lastLane - i + lanes * lift L n i + lanes * e < productWords) × (sideRank (lastLane - i + lanes * lift L n i + lanes * e) ≡ i)
+        places : (e : ℕ) → e < count
+            → (lastLane - i + lanes * lift L n i + lanes * e < productWords) × (sideRank (lastLane - i + lanes * lift L n i + lanes * e) ≡ i)
         places e lt = (omega arith, omega arith)
 
         word : (x : ℕ) → x < productWords → sideRank x ≡ i

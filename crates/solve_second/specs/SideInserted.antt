@@ -38,9 +38,9 @@ use Rattle.solve_lattice.specs.Found.{found-ends, found-leading}
 use Rattle.solve_lattice.specs.Insertion.{Starts, Inserts, inserts-inserted}
 use Rattle.solve_lattice.specs.Room.{productWords, blockWords, slotWords, tailWords, blockDegrees, lanes, mostCoefficients}
 use Rattle.solve_second.specs.Greatest.{greatest, greatest-high}
-use Rattle.solve_second.specs.Laid.{Laid, startingMemory}
+use Rattle.solve_second.specs.Laid.{SecondLaid, startingMemory}
 use Rattle.solve_second.specs.Transposed.{transposed-slots, side-held}
-use Rattle.solve_second.specs.ValidTransposed.{transposed-valid, side-below}
+use Rattle.solve_second.specs.ValidTransposed.{transposed-valid, second-side-below}
 
 -- of slots U of n rows, D high: memory holds the last state of the insertion, with block zero
 pub record InsertedSide (p : ℕ) (prime : Prime p) (n D : ℕ) (U : Slots (Polynomial (residues p prime))) (M : Memory) : Type 0 where
@@ -82,19 +82,19 @@ tail-small prime zero = omega (arith, one, prime .large)
 tail-small prime (suc j) = omega (arith, rest (suc j) (omega arith))
 
 module _ (p : ℕ) (prime : Prime p) {n : ℕ} (small : n ≤ lanes) {L : Level} (valid : ValidLevel p L) {T : Level} {b : List ℕ}
-    (laid : Laid n L T b) where
+    (laid : SecondLaid n L T b) where
   positive : 0 < p
   positive = omega (arith, prime .large)
 
   block-small : AtMost p b
-  block-small i = omega (arith, side-below p small valid laid i)
+  block-small i = omega (arith, second-side-below p small valid laid i)
 
   -- so the size of the block can be found
   pub block-reducible : Reducible p b productWords
   block-reducible = at-most-reducible p p b productWords (residue-small p p positive (omega arith)) block-small
 
 module _ (p : ℕ) (prime : Prime p) {n : ℕ} (small : n ≤ lanes) {L : Level} (valid : ValidLevel p L) {T : Level} {b : List ℕ}
-    (laid : Laid n L T b) (found : Leading) (found-size : found .size ≡ length (polynomial p b 0 productWords))
+    (laid : SecondLaid n L T b) (found : Leading) (found-size : found .size ≡ length (polynomial p b 0 productWords))
     (found-value : found .value ≡ leading (modulo p) (polynomial p b 0 productWords)) where
   behind-none : ZeroFrom p b 0 productWords productWords
   behind-none j h lt = absurd (omega arith)
@@ -197,10 +197,10 @@ module _ (p : ℕ) (prime : Prime p) {n : ℕ} (small : n ≤ lanes) {L : Level}
     pub side-ends : {M′ : Memory} → Inserts p (startingMemory T b found) M′ → InsertedSide p prime n (greatest L n) U M′
     side-ends done = ended (inserts-inserted p prime done first-holds)
 
-pub side-inserted : (p : ℕ) → Prime p → {n : ℕ} → n ≤ lanes → {L : Level} → ValidLevel p L → {T : Level} {b : List ℕ} → Laid n L T b
+pub second-side-inserted : (p : ℕ) → Prime p → {n : ℕ} → n ≤ lanes → {L : Level} → ValidLevel p L → {T : Level} {b : List ℕ} → SecondLaid n L T b
     → (found : Leading) → found .size ≡ length (polynomial p b 0 productWords) → found .value ≡ leading (modulo p) (polynomial p b 0 productWords)
     → {M′ : Memory} → Inserts p (startingMemory T b found) M′ → SideInserted p n L M′
-side-inserted p prime small valid laid found found-size found-value done = record {
+second-side-inserted p prime small valid laid found found-size found-value done = record {
   valid = done .valid;
   tail = done .tail;
   inserted = λ prime′ U holds. side-ends p prime′ small valid laid found found-size found-value holds done;

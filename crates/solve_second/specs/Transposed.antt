@@ -27,7 +27,7 @@ use Rattle.solve_lattice.specs.Room.{productWords, blockWords, slotWords, block
 use Rattle.solve_descent.specs.Held.{none-held}
 use Rattle.solve_second.specs.Greatest.{greatest, greatest-high, greatest-small, greatest-positive}
 use Rattle.solve_second.specs.Words.{reversed, transposedSize, size-empty, size-filled}
-use Rattle.solve_second.specs.Laid.{SlotsLaid, Laid}
+use Rattle.solve_second.specs.Laid.{SlotsLaid, SecondLaid}
 use Rattle.solve_second.specs.Cells.{weight, cell-beside, cell-low, cell-value, cell-behind, cell-tail}
 use Rattle.solve_second.specs.Cells.{side-cell-beside, side-cell-empty, side-cell-low, side-cell-far, side-cell-value}
 
@@ -168,8 +168,9 @@ module _ (p : ℕ) (prime : Prime p) where
               omega (arith, laid .sizes k (omega arith))
 
     -- the right side
-    module _ {T : Level} {b : List ℕ} (laid : Laid n L T b) where
-      side-zero : (i e : ℕ) → i < lanes → (e < productDegrees → getD b (flat lanes i e) 0 ≡ 0) → words p prime b 0 productWords (flat lanes i e) ≡ residues p
+    module _ {T : Level} {b : List ℕ} (laid : SecondLaid n L T b) where
+      side-zero : (i e : ℕ) → i < lanes → (e < productDegrees → getD b (flat lanes i e) 0 ≡ 0)
+          → words p prime b 0 productWords (flat lanes i e) ≡ residues p
           prime .ring .zero
       side-zero i e l g = zero-inside b 0 productWords (flat lanes i e)
           (λ lt. ap (λ x. getD b x 0) (zero-add (flat lanes i e)) ∙ g (omega arith))
@@ -213,8 +214,8 @@ module _ (p : ℕ) (prime : Prime p) where
             subst (Holds F _) (sym (masked-filled (U .size (back n i)) _ (U .at (back n i) n) (omega arith)))
             (record { at = λ j. holds .vector (back n i) (omega arith) (omega arith) .tail .at j ∙ lifted-tail (omega arith) j })
 
-        side-below : (e : ℕ) → e < ω i → words p prime b 0 productWords (flat lanes i e) ≡ residues p prime .ring .zero
-        side-below e low = side-zero i e (omega arith) (λ lt. go (ℕ-discrete (slotSize L (back n i)) 0) lt)
+        second-side-below : (e : ℕ) → e < ω i → words p prime b 0 productWords (flat lanes i e) ≡ residues p prime .ring .zero
+        second-side-below e low = side-zero i e (omega arith) (λ lt. go (ℕ-discrete (slotSize L (back n i)) 0) lt)
           where
             go : Dec (slotSize L (back n i) ≡ 0) → e < productDegrees → getD b (flat lanes i e) 0 ≡ 0
             go (yes none) lt = side-cell-empty L n laid i e (omega arith) lt l none
@@ -224,6 +225,6 @@ module _ (p : ℕ) (prime : Prime p) where
           (words p prime b 0 productWords) (secondSide (polynomials (residues p prime)) n (greatest L n) U)
       side-held = record {
         lanes = small;
-        lane = λ i l. holds-shift F (ω i) (side-coordinate i l (ℕ-discrete (U .size (back n i)) 0)) (side-below i l);
+        lane = λ i l. holds-shift F (ω i) (side-coordinate i l (ℕ-discrete (U .size (back n i)) 0)) (second-side-below i l);
         beside = λ i e out l. side-zero i e l (λ lt. side-cell-beside L n laid i e l lt out);
       }

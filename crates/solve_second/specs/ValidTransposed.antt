@@ -16,7 +16,7 @@ use Rattle.solve_lattice.specs.Room.{sizesFrom, productWords, blockWords, slotW
 use Rattle.solve_second.specs.Greatest.{greatest, greatest-high, greatest-small, greatest-positive}
 use Rattle.solve_second.specs.Words.{when, when-yes, when-no, reversed, transposedWord, transposedSize, sideWord}
 use Rattle.solve_second.specs.Words.{size-beyond, size-empty, size-filled}
-use Rattle.solve_second.specs.Laid.{SlotsLaid, Laid}
+use Rattle.solve_second.specs.Laid.{SlotsLaid, SecondLaid}
 use Rattle.solve_second.specs.Cells.{weight, cell-empty, cell-low, cell-value, cell-behind, cell-tail}
 
 -- the last word of a block, and the words of its highest degree in the lanes of coordinates before its pivot
@@ -183,7 +183,7 @@ module _ (p : ℕ) (positive : 0 < p) {n : ℕ} (small : n ≤ lanes) {L : Level
   }
 
 -- and the words of the right side are residues
-module _ (p : ℕ) {n : ℕ} (small : n ≤ lanes) {L : Level} (valid : ValidLevel p L) {T : Level} {b : List ℕ} (laid : Laid n L T b) where
+module _ (p : ℕ) {n : ℕ} (small : n ≤ lanes) {L : Level} (valid : ValidLevel p L) {T : Level} {b : List ℕ} (laid : SecondLaid n L T b) where
   positive : 0 < p
   positive = omega (arith, valid .below 0 (omega arith))
 
@@ -191,8 +191,8 @@ module _ (p : ℕ) {n : ℕ} (small : n ≤ lanes) {L : Level} (valid : ValidLev
   side-word x = when-below p positive _ _ (λ _. when-below p positive _ _ (λ _. when-below p positive _ _
       (λ _. when-below p positive _ _ (λ near. valid .below _ (omega arith)))))
 
-  pub side-below : (i : ℕ) → getD b i 0 < p
-  side-below i = ⊎-elim
+  pub second-side-below : (i : ℕ) → getD b i 0 < p
+  second-side-below i = ⊎-elim
       (λ lt. subst (λ w. w < p) (sym (laid .side i lt)) (side-word i))
       (λ ge. subst (λ w. w < p) (sym (List·getD-eq-default b 0 (omega (arith, laid .room)))) positive)
       (below-or-not i productWords)

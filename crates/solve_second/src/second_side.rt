@@ -16,7 +16,7 @@ ghost use Prim.Native.Nat.{ℕ, _+_, _<_, _≤_};
 ghost use lib.ListN.{length, getD};
 ghost use Rattle.vector.specs.Bound.{AtMost};
 ghost use Rattle.solve_lattice.specs.Room.{productWords, lanes};
-ghost use Rattle.solve_second.specs.Greatest.{Low, greatest};
+ghost use Rattle.solve_second.specs.Greatest.{LowBlocks, greatest};
 ghost use Rattle.solve_second.specs.SideFilling.{TailsEnd, SideFilling};
 ghost use Rattle.solve_second.specs.Side.{sided, sideRow};
 ghost use Rattle.solve_second.specs.Words.{sideWord};
@@ -31,7 +31,7 @@ pub enum Side {
 
 // Stores the tail of slot n - 1 - i of the level into lane i, where the slot is filled.
 fn tail_lane(block: &mut Product, level: &Level, n: usize, top: usize, i: usize)
-    requires { ⌜ Low (now level) × TailsEnd (now level) × (n ≤ lanes) × (i < n) ⌝ }
+    requires { ⌜ LowBlocks (now level) × TailsEnd (now level) × (n ≤ lanes) × (i < n) ⌝ }
     requires height { ⌜ top ≡ greatest (now level) n ⌝ }
     requires before { ⌜ SideFilling (now level) n (now block) (now block) i ⌝ }
     ensures { λ _. ⌜ SideFilling (now (level .entry)) n (now (block .entry)) (now (block .exit)) (i + 1) ⌝ }
@@ -54,7 +54,7 @@ fn tail_lane(block: &mut Product, level: &Level, n: usize, top: usize, i: usize)
 
 // Stores lane i of the right side.
 fn side_lane(block: &mut Product, level: &Level, n: usize, side: Side, top: usize, i: usize)
-    requires { ⌜ Low (now level) × TailsEnd (sided side (now level)) × (sideRow side < lanes) × (n ≤ lanes) × (i < n) ⌝ }
+    requires { ⌜ LowBlocks (now level) × TailsEnd (sided side (now level)) × (sideRow side < lanes) × (n ≤ lanes) × (i < n) ⌝ }
     requires height { ⌜ top ≡ greatest (now level) n ⌝ }
     requires before { ⌜ SideFilling (sided side (now level)) n (now block) (now block) i ⌝ }
     ensures { λ _. ⌜ SideFilling (sided side (now (level .entry))) n (now (block .entry)) (now (block .exit)) (i + 1) ⌝ }
@@ -67,7 +67,7 @@ fn side_lane(block: &mut Product, level: &Level, n: usize, side: Side, top: usiz
 
 // Stores the right side in `block`, which is 0; `top` is the height of the transposed slots.
 pub fn lay_side(block: &mut Product, level: &Level, n: usize, side: Side, top: usize)
-    requires { ⌜ Low (now level) × TailsEnd (sided side (now level)) × (sideRow side < lanes) × (n ≤ lanes) ⌝ }
+    requires { ⌜ LowBlocks (now level) × TailsEnd (sided side (now level)) × (sideRow side < lanes) × (n ≤ lanes) ⌝ }
     requires height { ⌜ top ≡ greatest (now level) n ⌝ }
     requires zeros { ⌜ (length (now block) ≡ productWords) × AtMost 0 (now block) ⌝ }
     ensures { λ _. ⌜ (length (now (block .exit)) ≡ productWords)

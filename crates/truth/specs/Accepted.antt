@@ -23,7 +23,7 @@ use Rattle.words.specs.CertificateLaws.{certificate-read-of-written, certificat
 use Rattle.words.specs.Outcome.{Outcome, refuse, followedBy}
 use Rattle.words.specs.Outcome.Outcome.{accepted}
 use Rattle.words.specs.OutcomeLaws.{refuse-passed, passed-refuse, followedBy-accepted}
-use Rattle.truth.specs.Solution.{AllCanonical, Monic, Divides, rowOf, columnOf, sideOf}
+use Rattle.truth.specs.Solution.{AllCanonical, Monic, DividesModulo, rowOf, columnOf, sideOf}
 use Rattle.truth.specs.Right.{RightSolution, RightAbsence, Right, certified}
 use Rattle.truth.specs.Verdict.{monic?, zero?, same?, refuseFirst, solutionVerdict, absenceVerdict, certificateVerdict, verdict}
 use Rattle.truth.specs.Lift.{Proper, ringOf, equations, vector, column-list, divides-list, divides-lift}
@@ -69,15 +69,15 @@ module _ (s : System) (h : Proper s) where
     remainder-list : (j : ℕ) → remainder (modulo p) (column j .0) w ≡ remainder (modulo p) (columnOf s Z j) w
     remainder-list j = ap (λ f. remainder (modulo p) f w) (column-list s h Z hZ j)
 
-    pub column-divides : (j : ℕ) → remainder (modulo p) (columnOf s Z j) w ≡ [] → Divides p w (columnOf s Z j)
+    pub column-divides : (j : ℕ) → remainder (modulo p) (columnOf s Z j) w ≡ [] → DividesModulo p w (columnOf s Z j)
     unfolding numbers
-    column-divides j e = subst (Divides p w) (column-list s h Z hZ j)
+    column-divides j e = subst (DividesModulo p w) (column-list s h Z hZ j)
         (divides-list p (h .prime) {d = W} {f = column j} (divisionLaws p (h .prime) .remainder-divides (column j) W (equal-numbers p _ _ (remainder-list j ∙ e))))
 
-    pub divides-column : (j : ℕ) → Divides p w (columnOf s Z j) → remainder (modulo p) (columnOf s Z j) w ≡ []
+    pub divides-column : (j : ℕ) → DividesModulo p w (columnOf s Z j) → remainder (modulo p) (columnOf s Z j) w ≡ []
     unfolding numbers
     divides-column j d = sym (remainder-list j) ∙ ap (λ x. x .0) (divisionLaws p (h .prime) .divides-remainder (column j) W
-        (divides-lift p (h .prime) W (column j) (subst (Divides p w) (sym (column-list s h Z hZ j)) d)))
+        (divides-lift p (h .prime) W (column j) (subst (DividesModulo p w) (sym (column-list s h Z hZ j)) d)))
 
   -- the rows 31 to 34 and the four conditions
   module _ {d : List ℕ} {N : List (List ℕ)} {w : List ℕ} {Z : List (List ℕ)} (P : ProperSolution s d N w Z) where

@@ -75,15 +75,15 @@ headShape w = record { modulus = w % 65536; rows = w / 65536 % 16; columns = w /
 abbrev pub oneTo : ℕ → ℕ → Bool
 oneTo most n = leb 1 n && leb n most
 
-abbrev pub sized : Limits → Shape → Bool
-sized limits h = oneTo (limits .rows) (h .rows) && oneTo (limits .columns) (h .columns)
+abbrev pub countsWithin : Limits → Shape → Bool
+countsWithin limits h = oneTo (limits .rows) (h .rows) && oneTo (limits .columns) (h .columns)
 
 unfoldable pub systemHeadFrom : Limits → List ℕ → Reading Shape
 systemHeadFrom limits [] = fault 4 []  -- "An empty sheet is 4 at 0"
 systemHeadFrom limits (w ∷ ws) =
     turnBack (not (eqb (kind w) 1 && eqb (w / 16777216 % 16) 0)) 1 (w ∷ ws)  -- 1: kind not 1 or bits 24 to 27 not zero
     (turnBack (not (prime? (headShape w .modulus))) 2 (w ∷ ws)  -- 2: p not prime
-    (turnBack (not (sized limits (headShape w))) 3 (w ∷ ws)  -- 3: n or m outside 1 to 8
+    (turnBack (not (countsWithin limits (headShape w))) 3 (w ∷ ws)  -- 3: n or m outside 1 to 8
     (read (headShape w) ws)))
 
 -- what is due behind a head: A and b

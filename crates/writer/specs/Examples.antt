@@ -12,7 +12,7 @@ use Rattle.words.specs.Certificate.Certificate.{solution, absence}
 use Rattle.words.specs.Certificate.Form.{solving}
 use Rattle.modular.specs.Prime.{prime?}
 use Rattle.writer.specs.Writing.{writeSystem, writeCertificate, lentAfter}
-use Rattle.writer.specs.Values.{shapeWith, systemIn, certificateIn}
+use Rattle.writer.specs.Values.{shapeWith, systemInArrays, certificateIn}
 
 -- ---- case 1: p = 2, A = (x), b = 1
 
@@ -22,8 +22,8 @@ system1 = record { modulus = 2; rows = 1; columns = 1; matrix = (0 ∷ 1 ∷ [])
 certificate1 : Certificate
 certificate1 = solution (0 ∷ 1 ∷ []) ((1 ∷ []) ∷ []) (0 ∷ 1 ∷ []) ((1 ∷ []) ∷ [])
 
-system1-in : systemIn office (shapeWith 2 1 1) (2 ∷ 1 ∷ []) (0 ∷ 1 ∷ replicate 14 0 ++ 1 ∷ []) ≡ system1
-unfolding systemIn system1
+system1-in : systemInArrays office (shapeWith 2 1 1) (2 ∷ 1 ∷ []) (0 ∷ 1 ∷ replicate 14 0 ++ 1 ∷ []) ≡ system1
+unfolding systemInArrays system1
 system1-in = refl
 
 -- beyond an array there is 0: two zero polynomials

@@ -9,7 +9,7 @@ use Rattle.solve_lattice.specs.Room.{levelWords, productWords}
 use Rattle.solve_second.specs.ProductLaws.{product-sums}
 use Rattle.solve_second.specs.SideFilling.{tails-end}
 use Rattle.solve_second.specs.Side.{side-valid}
-use Rattle.solve_second.specs.ValidTransposed.{side-below}
+use Rattle.solve_second.specs.ValidTransposed.{second-side-below}
 use Rattle.solve_second.specs.SideInserted.{block-reducible, first-valid, first-starts}
 use Rattle.solve_second.specs.Denominator.{laid-denominator}
 use Rattle.solve_second.specs.Scaled.{side-within, product-room, side-scaled}
@@ -69,7 +69,7 @@ multiply-block-requires c κs =
         omega (arith, side-within (S .pre .0 .1) laid valid found _ size, laid .room),
         product-room (S .pre .0 .1) laid valid found _ size (S .pre .1 .0),
       ),
-      ((found .below, side-below (S .args .modulus .p) (S .pre .0 .1) valid laid), zeros-none productWords),
+      ((found .below, second-side-below (S .args .modulus .p) (S .pre .0 .1) valid laid), zeros-none productWords),
     )
 
 divide-requires : tie.Need-divide-requires
