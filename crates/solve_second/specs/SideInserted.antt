@@ -24,7 +24,7 @@ use Rattle.reduction.specs.Holds.{Holds, holds-size}
 use Rattle.reduction.specs.Flat.{Flat, flat}
 use Rattle.reduction.specs.Insert.{Stop, Inserted}
 use Rattle.reduction.specs.Inserting.{Inserting, begin}
-use Rattle.reduction.specs.Transpose.{Tops, transposed, rightSide, weights}
+use Rattle.reduction.specs.Transpose.{Tops, transposed, secondSide, weights}
 use Rattle.reduction.specs.Second.{not-stuck}
 use Rattle.vector.specs.Bound.{AtMost, Reducible, at-most-reducible, zeros-none}
 use Rattle.vector.specs.Reduced.{polynomial}
@@ -38,22 +38,22 @@ use Rattle.solve_lattice.specs.Found.{found-ends, found-leading}
 use Rattle.solve_lattice.specs.Insertion.{Starts, Inserts, inserts-inserted}
 use Rattle.solve_lattice.specs.Room.{productWords, blockWords, slotWords, tailWords, blockDegrees, lanes, mostCoefficients}
 use Rattle.solve_second.specs.Greatest.{greatest, greatest-high}
-use Rattle.solve_second.specs.Laid.{Laid, startingMemory}
-use Rattle.solve_second.specs.Transposed.{transposed-slots, right-held}
-use Rattle.solve_second.specs.ValidTransposed.{transposed-valid, right-below}
+use Rattle.solve_second.specs.Laid.{SecondLaid, startingMemory}
+use Rattle.solve_second.specs.Transposed.{transposed-slots, side-held}
+use Rattle.solve_second.specs.ValidTransposed.{transposed-valid, second-side-below}
 
 -- of slots U of n rows, D high: memory holds the last state of the insertion, with block zero
-pub record InsertedRight (p : ℕ) (prime : Prime p) (n D : ℕ) (U : Slots (Polynomial (residues p prime))) (M : Memory) : Type 0 where
+pub record InsertedSide (p : ℕ) (prime : Prime p) (n D : ℕ) (U : Slots (Polynomial (residues p prime))) (M : Memory) : Type 0 where
   pub run : Inserting (sized (residues p prime)) n (weights (polynomials (residues p prime)) n D U)
-      (transposed (polynomials (residues p prime)) n D U) (rightSide (polynomials (residues p prime)) n D U)
+      (transposed (polynomials (residues p prime)) n D U) (secondSide (polynomials (residues p prime)) n D U)
   pub holds : HoldsState p prime n (weights (polynomials (residues p prime)) n D U) M (run .now)
   pub ends : Vanishes (polynomials (residues p prime)) n (run .now .hand)
 
-pub record RightInserted (p n : ℕ) (L : Level) (M : Memory) : Type 0 where
+pub record SideInserted (p n : ℕ) (L : Level) (M : Memory) : Type 0 where
   pub valid : Valid p M
   pub tail : ZeroFrom p (M .tail) 0 tailWords mostCoefficients
   pub inserted : (prime : Prime p) (U : Slots (Polynomial (residues p prime))) → HoldsSlots p prime n unweighted L U
-      → InsertedRight p prime n (greatest L n) U M
+      → InsertedSide p prime n (greatest L n) U M
 
 -- slots are no higher than the greatest height in memory
 module _ {p : ℕ} {prime : Prime p} {n : ℕ} {L : Level} {U : Slots (Polynomial (residues p prime))}
@@ -82,19 +82,19 @@ tail-small prime zero = omega (arith, one, prime .large)
 tail-small prime (suc j) = omega (arith, rest (suc j) (omega arith))
 
 module _ (p : ℕ) (prime : Prime p) {n : ℕ} (small : n ≤ lanes) {L : Level} (valid : ValidLevel p L) {T : Level} {b : List ℕ}
-    (laid : Laid n L T b) where
+    (laid : SecondLaid n L T b) where
   positive : 0 < p
   positive = omega (arith, prime .large)
 
   block-small : AtMost p b
-  block-small i = omega (arith, right-below p small valid laid i)
+  block-small i = omega (arith, second-side-below p small valid laid i)
 
   -- so the size of the block can be found
   pub block-reducible : Reducible p b productWords
   block-reducible = at-most-reducible p p b productWords (residue-small p p positive (omega arith)) block-small
 
 module _ (p : ℕ) (prime : Prime p) {n : ℕ} (small : n ≤ lanes) {L : Level} (valid : ValidLevel p L) {T : Level} {b : List ℕ}
-    (laid : Laid n L T b) (found : Leading) (found-size : found .size ≡ length (polynomial p b 0 productWords))
+    (laid : SecondLaid n L T b) (found : Leading) (found-size : found .size ≡ length (polynomial p b 0 productWords))
     (found-value : found .value ≡ leading (modulo p) (polynomial p b 0 productWords)) where
   behind-none : ZeroFrom p b 0 productWords productWords
   behind-none j h lt = absurd (omega arith)
@@ -127,7 +127,7 @@ module _ (p : ℕ) (prime : Prime p) {n : ℕ} (small : n ≤ lanes) {L : Level}
     C = transposed (polynomials (residues p prime)) n (greatest L n) U
 
     abbrev g : ℕ → Polynomial (residues p prime)
-    g = rightSide (polynomials (residues p prime)) n (greatest L n) U
+    g = secondSide (polynomials (residues p prime)) n (greatest L n) U
 
     tail-one : Holds (residues p prime) (words p prime tailOne 0 tailWords) (polynomials (residues p prime) .one)
     tail-one = record { at = λ k. coefficients-one (residues p prime) k ∙ at k }
@@ -138,7 +138,7 @@ module _ (p : ℕ) (prime : Prime p) {n : ℕ} (small : n ≤ lanes) {L : Level}
 
     first-holds : HoldsState p prime n (weights (polynomials (residues p prime)) n (greatest L n) U) (startingMemory T b found)
         (begin (polynomials (residues p prime)) n (transposed (polynomials (residues p prime)) n (greatest L n) U)
-        (rightSide (polynomials (residues p prime)) n (greatest L n) U) (height (found .size)))
+        (secondSide (polynomials (residues p prime)) n (greatest L n) U) (height (found .size)))
     first-holds = record {
       slots = transposed-slots p prime small valid holds (laid .slots);
       hand = record {
@@ -155,7 +155,7 @@ module _ (p : ℕ) (prime : Prime p) {n : ℕ} (small : n ≤ lanes) {L : Level}
     }
       where
         B : Flat (residues p prime) n lanes (weights (polynomials (residues p prime)) n (greatest L n) U) (words p prime b 0 productWords) g
-        B = right-held p prime small valid holds laid
+        B = side-held p prime small valid holds laid
 
     -- some bound on the tails is always there: they have at most 121 coefficients
     low : (q : ℕ) → q < n → U .size q ≤ blockDegrees
@@ -184,7 +184,7 @@ module _ (p : ℕ) (prime : Prime p) {n : ℕ} (small : n ≤ lanes) {L : Level}
     Last M′ = (i : Inserted (sized (residues p prime)) n ω (begin (polynomials (residues p prime)) n C g (height (found .size))))
         × HoldsState p prime n ω M′ (i .last)
 
-    ended : {M′ : Memory} → Last M′ → InsertedRight p prime n (greatest L n) U M′
+    ended : {M′ : Memory} → Last M′ → InsertedSide p prime n (greatest L n) U M′
     ended {M′} last = record { run = X; holds = last .1; ends = go (last .0 .stop) }
       where
         X : Inserting (sized (residues p prime)) n ω C g
@@ -194,14 +194,14 @@ module _ (p : ℕ) (prime : Prime p) {n : ℕ} (small : n ≤ lanes) {L : Level}
         go (inl z) = z
         go (inr K) = absurd (not-stuck tops X K)
 
-    pub right-ends : {M′ : Memory} → Inserts p (startingMemory T b found) M′ → InsertedRight p prime n (greatest L n) U M′
-    right-ends done = ended (inserts-inserted p prime done first-holds)
+    pub side-ends : {M′ : Memory} → Inserts p (startingMemory T b found) M′ → InsertedSide p prime n (greatest L n) U M′
+    side-ends done = ended (inserts-inserted p prime done first-holds)
 
-pub right-inserted : (p : ℕ) → Prime p → {n : ℕ} → n ≤ lanes → {L : Level} → ValidLevel p L → {T : Level} {b : List ℕ} → Laid n L T b
+pub second-side-inserted : (p : ℕ) → Prime p → {n : ℕ} → n ≤ lanes → {L : Level} → ValidLevel p L → {T : Level} {b : List ℕ} → SecondLaid n L T b
     → (found : Leading) → found .size ≡ length (polynomial p b 0 productWords) → found .value ≡ leading (modulo p) (polynomial p b 0 productWords)
-    → {M′ : Memory} → Inserts p (startingMemory T b found) M′ → RightInserted p n L M′
-right-inserted p prime small valid laid found found-size found-value done = record {
+    → {M′ : Memory} → Inserts p (startingMemory T b found) M′ → SideInserted p n L M′
+second-side-inserted p prime small valid laid found found-size found-value done = record {
   valid = done .valid;
   tail = done .tail;
-  inserted = λ prime′ U holds. right-ends p prime′ small valid laid found found-size found-value holds done;
+  inserted = λ prime′ U holds. side-ends p prime′ small valid laid found found-size found-value holds done;
 }

@@ -1,23 +1,23 @@
--- The loop keeps what `Righting` says of the lanes so far.
+-- The loop keeps what `SideFilling` says of the lanes so far.
 use mathlib.Core.Path.{_∙_}
 use Prim.Native.Nat.{_-_, _≤_}
 use native.Mathlib.Omega.{arith}
 use Rattle.solve_second.specs.Filling.{filling-here, filling-on, filling-same}
-use Rattle.solve_second.specs.RightFilling.{Righting, righting-start, righting-end}
+use Rattle.solve_second.specs.SideFilling.{SideFilling, side-filling-start, side-filling-end}
 use Rattle.solve_second.specs.Side.{sided}
-use Rattle.solve_second.proofs.right.lay_side.Statement.{statement}
-use Rattle.solve_second.proofs.right.lay_side.Tie as tie
+use Rattle.solve_second.proofs.second_side.lay_side.Statement.{statement}
+use Rattle.solve_second.proofs.second_side.lay_side.Tie as tie
 
 abbrev Inv-loop : tie.InvT-loop
-Inv-loop right₀ level n side top i₀ right i = (i ≤ n) × Righting (sided side level) n right₀ right i
+Inv-loop block₀ level n side top i₀ block i = (i ≤ n) × SideFilling (sided side level) n block₀ block i
 
 abbrev μ-loop : tie.MeasureT-loop
-μ-loop right₀ level n side top i₀ right i = n - i
+μ-loop block₀ level n side top i₀ block i = n - i
 
 loop-holds : tie.Need-loop-holds Inv-loop μ-loop
 loop-holds c = (
   omega arith,
-  righting-start (sided (c .args .side) (c .args .level .now)) (c .args .n) (c .args .right .now)
+  side-filling-start (sided (c .args .side) (c .args .level .now)) (c .args .n) (c .args .block .now)
       (c .pre .1 .1 .0) (c .pre .1 .1 .1),
 )
 
@@ -36,7 +36,7 @@ returns c =
     let S = c .before .before in
     let inv = c .before .loop .inv in (
       inv .1 .same-length ∙ S .pre .1 .1 .0,
-      righting-end (sided (S .args .side) (S .args .level .now)) (S .args .n) (filling-same (inv .1) (omega (arith, inv .0)))
+      side-filling-end (sided (S .args .side) (S .args .level .now)) (S .args .n) (filling-same (inv .1) (omega (arith, inv .0)))
           (S .pre .0 .3),
     )
 

@@ -6,8 +6,8 @@ use Rattle.residue.specs.Modulus.{ValidModulus}
 use Rattle.vector.specs.Bound.{below-reducible}
 use Rattle.solve_lattice.specs.Room.{productWords}
 use Rattle.solve_descent.proofs.Negating.{degrees-found, found-most}
-use Rattle.solve_descent.proofs.quotients.count_degrees.Statement.{statement}
-use Rattle.solve_descent.proofs.quotients.count_degrees.Tie as tie
+use Rattle.solve_descent.proofs.degrees.count_degrees.Statement.{statement}
+use Rattle.solve_descent.proofs.degrees.count_degrees.Tie as tie
 
 find-leading-requires : tie.Need-find-leading-requires
 find-leading-requires c κs =

@@ -10,8 +10,8 @@ use Rattle.vector.specs.Bound.{AtMost}
 use Rattle.solve_lattice.specs.Memory.{height, Level, slotSize, tailSize, ValidLevel}
 use Rattle.solve_lattice.specs.Room.{productWords, blockWords, slotWords, blockDegrees, lanes, lastLane, mostCoefficients}
 use Rattle.solve_second.specs.Greatest.{greatest}
-use Rattle.solve_second.specs.Words.{reversed, lift, tailWord, rightWord, right-beside, right-empty}
-use Rattle.solve_second.specs.Words.{right-low, right-far, right-value}
+use Rattle.solve_second.specs.Words.{reversed, lift, tailWord, sideWord, side-beside, side-empty}
+use Rattle.solve_second.specs.Words.{side-low, side-far, side-value}
 use Rattle.solve_second.specs.Spread.{Spread, spread-same}
 use Rattle.solve_second.specs.Filling.{Filling, LaneWord, stored-at, left-out, filling-start}
 use Rattle.solve_second.specs.Filling.{filling-skip, filling-lane, filling-end}
@@ -28,18 +28,18 @@ tails-end {p} {L} valid = record {
 }
 
 -- a lane a turn
-abbrev pub rightRank : ℕ → ℕ
-rightRank x = lastLane - x % lanes
+abbrev pub sideRank : ℕ → ℕ
+sideRank x = lastLane - x % lanes
 
-abbrev pub Righting : (L : Level) (n : ℕ) (o w : List ℕ) (r : ℕ) → Type 0
-Righting L n = Filling rightRank (rightWord L n) productWords
+abbrev pub SideFilling : (L : Level) (n : ℕ) (o w : List ℕ) (r : ℕ) → Type 0
+SideFilling L n = Filling sideRank (sideWord L n) productWords
 
-pub righting-start : (L : Level) (n : ℕ) (o : List ℕ) → length o ≡ productWords → AtMost 0 o → Righting L n o o 0
-righting-start L n o room none = filling-start o (omega arith) (λ x h. omega (arith, none x))
+pub side-filling-start : (L : Level) (n : ℕ) (o : List ℕ) → length o ≡ productWords → AtMost 0 o → SideFilling L n o o 0
+side-filling-start L n o room none = filling-start o (omega arith) (λ x h. omega (arith, none x))
 
 -- of the same level by another name
-pub righting-same : (n : ℕ) {L L′ : Level} → L ≡ L′ → {o w : List ℕ} {r : ℕ} → Righting L n o w r → Righting L′ n o w r
-righting-same n same {o} {w} {r} so-far = subst (λ l. Righting l n o w r) same so-far
+pub side-filling-same : (n : ℕ) {L L′ : Level} → L ≡ L′ → {o w : List ℕ} {r : ℕ} → SideFilling L n o w r → SideFilling L′ n o w r
+side-filling-same n same {o} {w} {r} so-far = subst (λ l. SideFilling l n o w r) same so-far
 
 -- the words of lane i, where its slot is filled
 module _ (L : Level) (n i : ℕ) (lane : i < n) (some : 0 < slotSize L (reversed n i)) where
@@ -54,54 +54,55 @@ module _ (L : Level) (n i : ℕ) (lane : i < n) (some : 0 < slotSize L (reversed
     behind : x / lanes - lift L n (lastLane - x % lanes) ≡ e
     behind = ap (λ j. x / lanes - lift L n j) here ∙ omega (arith, degree)
 
-    word-far : blockWords ≤ e → rightWord L n x ≡ 0
-    word-far far = right-far L n x (omega arith) (filled x here) from
+    word-far : blockWords ≤ e → sideWord L n x ≡ 0
+    word-far far = side-far L n x (omega arith) (filled x here) from
         (λ (g : x / lanes - lift L n (lastLane - x % lanes) < blockWords). omega (arith, behind))
 
-    word-near : e < blockWords → rightWord L n x ≡ tailWord L (reversed n i) e
+    word-near : e < blockWords → sideWord L n x ≡ tailWord L (reversed n i) e
     word-near near =
-        right-value L n x (omega arith) (filled x here) from (omega (arith, behind))
+        side-value L n x (omega arith) (filled x here) from (omega (arith, behind))
         ∙ ap (λ j. tailWord L (reversed n j) (x / lanes - lift L n (lastLane - x % lanes))) here
         ∙ ap (tailWord L (reversed n i)) behind
 
 -- slot n - 1 - i of the level is empty
-none-there : (L : Level) (n i : ℕ) → i < n → ¬ (0 < slotSize L (reversed n i)) → (x : ℕ) → rightRank x ≡ i → rightWord L n x ≡ 0
-none-there L n i lane none x here = right-empty L n x (omega arith)
+none-there : (L : Level) (n i : ℕ) → i < n → ¬ (0 < slotSize L (reversed n i)) → (x : ℕ) → sideRank x ≡ i → sideWord L n x ≡ 0
+none-there L n i lane none x here = side-empty L n x (omega arith)
     (λ (g : 0 < slotSize L (reversed n (lastLane - x % lanes))). none (subst (λ j. 0 < slotSize L (reversed n j)) here g))
 
 module _ (L : Level) (n : ℕ) {o w : List ℕ} where
   -- the lanes from n on are 0
-  pub righting-end : Righting L n o w n → n ≤ lanes → (x : ℕ) → x < productWords → getD w x 0 ≡ rightWord L n x
-  righting-end so-far small = filling-end (filling-skip so-far lanes small rest) (λ x h. omega arith)
+  pub side-filling-end : SideFilling L n o w n → n ≤ lanes → (x : ℕ) → x < productWords → getD w x 0 ≡ sideWord L n x
+  side-filling-end so-far small = filling-end (filling-skip so-far lanes small rest) (λ x h. omega arith)
     where
-      rest : (x : ℕ) → x < productWords → n ≤ rightRank x → rightRank x < lanes → rightWord L n x ≡ 0
-      rest x h low high = right-beside L n x (λ (g : lastLane - x % lanes < n). omega arith)
+      rest : (x : ℕ) → x < productWords → n ≤ sideRank x → sideRank x < lanes → sideWord L n x ≡ 0
+      rest x h low high = side-beside L n x (λ (g : lastLane - x % lanes < n). omega arith)
 
   module _ (i : ℕ) (lane : i < n) where
-    pub righting-empty : ¬ (0 < slotSize L (reversed n i)) → Righting L n o w i → Righting L n o w (i + 1)
-    righting-empty none so-far =
+    pub side-filling-empty : ¬ (0 < slotSize L (reversed n i)) → SideFilling L n o w i → SideFilling L n o w (i + 1)
+    side-filling-empty none so-far =
         filling-skip so-far (i + 1) (omega arith) (λ x h low high. none-there L n i lane none x (omega arith))
 
     -- lane i: below the lift and behind the count it is 0
-    pub righting-lane : 0 < slotSize L (reversed n i) → n ≤ lanes → greatest L n ≤ blockDegrees → {count : ℕ} → count ≤ mostCoefficients
-        → ((j : ℕ) → count ≤ j → j < blockWords → tailWord L (reversed n i) j ≡ 0) → Righting L n o w i → {t : ℕ}
+    pub side-filling-lane : 0 < slotSize L (reversed n i) → n ≤ lanes → greatest L n ≤ blockDegrees → {count : ℕ} → count ≤ mostCoefficients
+        → ((j : ℕ) → count ≤ j → j < blockWords → tailWord L (reversed n i) j ≡ 0) → SideFilling L n o w i → {t : ℕ}
         → t ≡ greatest L n → {w′ : List ℕ} → Spread (λ e. tailWord L (reversed n i) e)
-        (lastLane - i + lanes * (t - height (slotSize L (reversed n i)))) count w w′ → Righting L n o w′ (i + 1)
-    righting-lane some small top {count} short behind so-far et {w′} spread =
+        (lastLane - i + lanes * (t - height (slotSize L (reversed n i)))) count w w′ → SideFilling L n o w′ (i + 1)
+    side-filling-lane some small top {count} short behind so-far et {w′} spread =
         filling-lane so-far (spread-same spread (λ e. tailWord L (reversed n i) e) (λ e lt. refl)
         (ap (λ t. lastLane - i + lanes * (t - height (slotSize L (reversed n i)))) et) refl) places word
       where
-        places : (e : ℕ) → e < count → (lastLane - i + lanes * lift L n i + lanes * e < productWords) × (rightRank (lastLane - i + lanes * lift L n i + lanes * e) ≡ i)
+        places : (e : ℕ) → e < count
+            → (lastLane - i + lanes * lift L n i + lanes * e < productWords) × (sideRank (lastLane - i + lanes * lift L n i + lanes * e) ≡ i)
         places e lt = (omega arith, omega arith)
 
-        word : (x : ℕ) → x < productWords → rightRank x ≡ i
-            → LaneWord (rightWord L n) (λ e. tailWord L (reversed n i) e) (lastLane - i + lanes * lift L n i) count x
+        word : (x : ℕ) → x < productWords → sideRank x ≡ i
+            → LaneWord (sideWord L n) (λ e. tailWord L (reversed n i) e) (lastLane - i + lanes * lift L n i) count x
         word x h here = go (decLt (x / lanes) (lift L n i)) (decLt (x / lanes - lift L n i) count) (decLt (x / lanes - lift L n i) blockWords)
           where
             go : Dec (x / lanes < lift L n i) → Dec (x / lanes - lift L n i < count) → Dec (x / lanes - lift L n i < blockWords)
-                → LaneWord (rightWord L n) (λ e. tailWord L (reversed n i) e) (lastLane - i + lanes * lift L n i) count x
+                → LaneWord (sideWord L n) (λ e. tailWord L (reversed n i) e) (lastLane - i + lanes * lift L n i) count x
             go (yes low) d d′ = left-out (λ e lt same. omega arith)
-                (right-low L n x (omega arith) (filled L n i lane some x here)
+                (side-low L n x (omega arith) (filled L n i lane some x here)
                 (λ (g : lift L n (lastLane - x % lanes) ≤ x / lanes). omega (arith, ap (lift L n) here)))
             go (no from) (yes more) d = stored-at (x / lanes - lift L n i) more (omega arith)
                 (word-near L n i lane some x (x / lanes - lift L n i) here (omega arith) (omega arith))
@@ -112,7 +113,7 @@ module _ (L : Level) (n : ℕ) {o w : List ℕ} where
                 (word-far L n i lane some x (x / lanes - lift L n i) here (omega arith) (omega arith))
 
     -- nothing is put where nothing is
-    pub righting-none : ¬ (0 < slotSize L (reversed n i)) → Righting L n o w i → {g : ℕ → ℕ} {to : ℕ} {w′ : List ℕ}
-        → Spread g to 0 w w′ → Righting L n o w′ (i + 1)
-    righting-none none so-far spread = filling-lane so-far spread (λ e lt. absurd (omega arith))
+    pub side-filling-none : ¬ (0 < slotSize L (reversed n i)) → SideFilling L n o w i → {g : ℕ → ℕ} {to : ℕ} {w′ : List ℕ}
+        → Spread g to 0 w w′ → SideFilling L n o w′ (i + 1)
+    side-filling-none none so-far spread = filling-lane so-far spread (λ e lt. absurd (omega arith))
         (λ x h here. left-out (λ e lt same. omega arith) (none-there L n i lane none x here))

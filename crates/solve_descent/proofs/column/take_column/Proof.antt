@@ -8,8 +8,8 @@ use borrow.Author.Needs.{needs}
 use Rattle.residue.specs.Modulus.{ValidModulus}
 use Rattle.solve_lattice.specs.Room.{productWords, inputWords, outputWords, blockWords, tailWords}
 use Rattle.solve_descent.proofs.Columns.{stored-length, stored-below, column-taken}
-use Rattle.solve_descent.proofs.coordinate.take_column.Statement.{statement}
-use Rattle.solve_descent.proofs.coordinate.take_column.Tie as tie
+use Rattle.solve_descent.proofs.column.take_column.Statement.{statement}
+use Rattle.solve_descent.proofs.column.take_column.Tie as tie
 
 store-negated-requires : tie.Need-store-negated-requires
 store-negated-requires c κs =
@@ -34,7 +34,7 @@ subtract-product-requires c κs =
     let m : ValidModulus (S .args .modulus) = S .pre .0 .0 in
     let limit : S .args .modulus .p ≤ 65521 = m .limit in
     let square = mul-le-mul limit limit in
-    let few = K .min .ensures in
+    let few = K .lesser .ensures in
     let stores = N .store-negated .ensures in
     let t : length (S .args .t .now) ≡ productWords = c .before .before .before .subtract-product-arg .given .0 .1 in
     let output : length (S .args .output .now) ≡ outputWords = search needs in
@@ -62,7 +62,7 @@ returns c =
     let output : length (S .args .output .now) ≡ outputWords = search needs in
     column-taken (m .prime) (S .args .t .now) (S .args .output .now) (S .args .place) (S .args .y .now) (S .args .input .now)
     (S .args .at) _ _ _ _ t (omega (arith, S .pre .0 .1)) (N .store-negated .ensures) (K .before .find-leading .ensures .0)
-    (K .min .ensures) (c .subtract-product .ensures)
+    (K .lesser .ensures) (c .subtract-product .ensures)
 
 pub take-column-spec : {M : Type 1} → statement M
 take-column-spec =

@@ -7,16 +7,16 @@ use Rattle.solve_lattice.specs.Memory.{slotSize}
 use Rattle.solve_second.specs.Greatest.{greatest-high, greatest-small}
 use Rattle.solve_second.specs.Words.{reversed, tailWord}
 use Rattle.solve_second.specs.Spread.{lane-spread, spread-same}
-use Rattle.solve_second.specs.RightFilling.{righting-empty, righting-lane}
+use Rattle.solve_second.specs.SideFilling.{side-filling-empty, side-filling-lane}
 use borrow.Author.Needs.{needs}
-use Rattle.solve_second.proofs.right.tail_lane.Statement.{statement}
-use Rattle.solve_second.proofs.right.tail_lane.Tie as tie
+use Rattle.solve_second.proofs.second_side.tail_lane.Statement.{statement}
+use Rattle.solve_second.proofs.second_side.tail_lane.Tie as tie
 use Rattle.solve_lattice.specs.Room.{lanes, lastLane}
 
 returns : tie.Need-returns
 returns c =
     let S = c .before .before in
-    righting-empty (S .args .level .now) (S .args .n) (S .args .i) (S .pre .0 .3)
+    side-filling-empty (S .args .level .now) (S .args .n) (S .args .i) (S .pre .0 .3)
     (λ (h : 0 < slotSize (S .args .level .now) (reversed (S .args .n) (S .args .i))). omega arith) (S .pre .1 .1)
 
 sub-lift : tie.Need-sub-lift
@@ -56,7 +56,7 @@ returns-2 c =
     let small = greatest-small (S .args .level .now) (S .args .n) (S .pre .0 .2) (S .pre .0 .0) in
     let some : 0 < slotSize (S .args .level .now) (reversed (S .args .n) (S .args .i)) = omega arith in
     let high = c .before .before .before .slot-height .ensures in
-    righting-lane (S .args .level .now) (S .args .n) (S .args .i) (S .pre .0 .3) some (S .pre .0 .2) small short
+    side-filling-lane (S .args .level .now) (S .args .n) (S .args .i) (S .pre .0 .3) some (S .pre .0 .2) small short
     (λ j ge lt. S .pre .0 .1 .zero q j (omega arith) ge lt) (S .pre .1 .1) (S .pre .1 .0)
     (spread-same
     (lane-spread (omega (arith, short, small, some, high, S .pre .1 .0, S .pre .1 .1 .room)) (c .copy-lane .ensures))

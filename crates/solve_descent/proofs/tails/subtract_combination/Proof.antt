@@ -7,8 +7,8 @@ use lib.ListN.{length}
 use Rattle.solve_lattice.specs.Room.{productWords, blockWords, slotWords, tailWords}
 use Rattle.solve_descent.specs.Combination.{TakesCombination}
 use Rattle.solve_descent.proofs.Combinations.{combination-start, combination-small, combination-turn}
-use Rattle.solve_descent.proofs.combination.subtract_combination.Statement.{statement}
-use Rattle.solve_descent.proofs.combination.subtract_combination.Tie as tie
+use Rattle.solve_descent.proofs.tails.subtract_combination.Statement.{statement}
+use Rattle.solve_descent.proofs.tails.subtract_combination.Tie as tie
 
 abbrev Inv-loop : tie.InvT-loop
 Inv-loop y₀ quotients count level rows modulus q₀ y q =

@@ -3,8 +3,8 @@ use Prim.Native.Nat.{_*_}
 use native.Mathlib.Nat.{mul-le-mul-right}
 use native.Mathlib.Omega.{arith}
 use Rattle.solve_descent.proofs.Coordinates.{coordinate-found}
-use Rattle.solve_descent.proofs.search.find_coordinate.Statement.{statement}
-use Rattle.solve_descent.proofs.search.find_coordinate.Tie as tie
+use Rattle.solve_descent.proofs.coordinate.find_coordinate.Statement.{statement}
+use Rattle.solve_descent.proofs.coordinate.find_coordinate.Tie as tie
 use Rattle.solve_lattice.specs.Room.{productDegrees}
 
 subtract-combination-requires : tie.Need-subtract-combination-requires
