@@ -16,17 +16,18 @@ use Rattle.reduction.specs.Slots.{Slots, SameBlocks, unweighted}
 use Rattle.reduction.specs.Span.{InSpan, InSpanWith, span-blocks}
 use Rattle.reduction.specs.Euclidean.{Euclidean, Associate}
 use Rattle.reduction.specs.Inserting.{Inserting}
-use Rattle.reduction.specs.System.{System}
-use Rattle.reduction.specs.Levels.{Level}
+use Rattle.reduction.specs.System.{LinearSystem}
+use Rattle.reduction.specs.Levels.{LevelKnown}
 use Rattle.reduction.specs.Dual.{Dual}
-use Rattle.reduction.specs.Certificate.{RightSolution, SmallSolution}
+use Rattle.reduction.specs.Certificate.{RightSolutionIn, SmallSolution}
 use Rattle.reduction.specs.Certifying.{Short, Certifying}
 use Rattle.reduction.specs.Retailed.{retailed}
 use Rattle.reduction.specs.LessTail.{LessMultiples}
-use Rattle.reduction.specs.Solution.{solution-span, solution-small, solution-right, solution-sizes, solution-short, solution-certifying}
+use Rattle.reduction.specs.Solution.{solution-span, solution-small, solution-right, solution-sizes}
+use Rattle.reduction.specs.Solution.{solution-short, solution-certifying}
 
-module _ {A : Type 0} {R : Ring A} {S : Sized R} (E : Euclidean S) (T : System S) where
-  open System T using (rows as n, columns as m, degree as δ, matrix as M, right as b)
+module _ {A : Type 0} {R : Ring A} {S : Sized R} (E : Euclidean S) (T : LinearSystem S) where
+  open LinearSystem T using (rows as n, columns as m, degree as δ, matrix as M, side as b)
   open Ring R using (mul as _*_)
   open Sized S using (size)
 
@@ -36,21 +37,22 @@ module _ {A : Type 0} {R : Ring A} {S : Sized R} (E : Euclidean S) (T : System S
     pub span : InSpan R n n U (λ k. d * b k)
     pub vector-small : (i : ℕ) → i < n → size (d * b i) ≤ suc (δ +ₙ degrees n (U .size))
     -- with numerators that solve the system, the certificate is right; with small ones, it is small
-    pub right : (N : ℕ → A) → ((i : ℕ) → i < n → sum R m (λ j. M i j * N j) ≡ d * b i) → RightSolution E T d N w Z
+    pub right : (N : ℕ → A) → ((i : ℕ) → i < n → sum R m (λ j. M i j * N j) ≡ d * b i) → RightSolutionIn E T d N w Z
     pub small : (N : ℕ → A) → ((j : ℕ) → j < m → size (N j) ≤ suc (rank n (U .size) *ₙ δ))
         → SmallSolution E T (suc (rank n (U .size) *ₙ δ)) d N w Z
     -- w and Z are the ones that are chosen
     pub certifying : Certifying S n m M b d w Z
 
   -- L7 and L8, of slots G with multiples of d off the tails, where the rows are short
-  module _ {U : Slots A} (L : Level T m U) (X : Inserting S n unweighted U b) (z : Vanishes R n (X .now .hand))
+  module _ {U : Slots A} (L : LevelKnown T m U) (X : Inserting S n unweighted U b) (z : Vanishes R n (X .now .hand))
       (μ : Associate S (E .Monic) (X .now .hand n)) {G : Slots A} (less : LessMultiples R n (μ .unit * X .now .hand n) (X .now .slots) G)
       (w′ : A) (Y : ℕ → A) (monic : E .Monic w′) (K : Dual S n (degrees n (U .size)) G w′ Y)
       (short : (i : ℕ) → i < n → 0 < size (Y i) → size (Y i) +ₙ X .now .slots .size i ≤ size (μ .unit * X .now .hand n * w′)) where
     into : (u : ℕ → A) → InSpanWith R n (suc n) (X .now .slots) (X .now .hand) u → InSpanWith R n (suc n) G (X .now .hand) u
     into = retailed R (less .blocks) z (λ q. less .multiple q * μ .unit)
         (λ q h f. less .tails q h f
-        ∙ identity R (X .now .slots .at q n ∷ less .multiple q ∷ μ .unit ∷ X .now .hand n ∷ []) (λ ρ q1 q2 q3 q4. search quotes depth 16) refl)
+        ∙ identity R (X .now .slots .at q n ∷ less .multiple q ∷ μ .unit ∷ X .now .hand n ∷ [])
+        (λ ρ q1 q2 q3 q4. search quotes depth 16) refl)
 
     row-short : (i : ℕ) → i < n → ¬ (Y i ≡ R .zero) → Short S n m M b (μ .unit * X .now .hand n * w′) Y i
     row-short i h some = go (ℕ-discrete (X .now .slots .size i) 0)

@@ -3,7 +3,7 @@ pub mod Witnessed
 -- inside: laws on words
 pub mod Words
 -- inside: rows that are too long
-pub mod Long
+pub mod LongRow
 pub mod LongSoFar
 pub mod Shortens
 pub mod Short

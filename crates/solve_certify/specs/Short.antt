@@ -1,4 +1,5 @@
--- The second system solved with short rows: what is asked, what a turn finds, and what is found in the end. Multiples of d may be off the tails.
+-- The second system solved with short rows, and multiples of d off the tails: what is asked, what a turn finds, and what is found
+-- in the end.
 use Prim.Native.Nat.{ℕ, suc, _+_, _-_, _*_, _<_, _≤_}
 use mathlib.Core.Path.{_≡_}
 use mathlib.Core.Logic.{ite}
@@ -20,7 +21,7 @@ use Rattle.solve_lattice.specs.Memory.{Level, ValidLevel}
 use Rattle.solve_lattice.specs.Holding.{HoldsSlots}
 use Rattle.solve_second.specs.Solved.{HoldsSecond, SecondSolved}
 use Rattle.solve_certify.specs.declared.shorten.Longest.{Longest}
-use Rattle.solve_certify.specs.Long.{rowSize, LongFound}
+use Rattle.solve_certify.specs.LongRow.{rowSize, LongFound}
 
 -- slots that have a second system within the room, and a monic d
 pub record HasMonicTops (p n : ℕ) (L : Level) (d : List ℕ) : Type 0 where
@@ -48,7 +49,7 @@ pub record HoldsLess (p : ℕ) (prime : Prime p) (n B : ℕ) (U : Slots (Polynom
   pub tops : Tops (sized (residues p prime)) n B blockDegrees slots
   pub less : LessMultiples (polynomials (residues p prime)) n x U slots
 
-pub record Lessened (p n : ℕ) (L : Level) (d : List ℕ) (L′ : Level) : Type 0 where
+pub record LessTails (p n : ℕ) (L : Level) (d : List ℕ) (L′ : Level) : Type 0 where
   pub valid : ValidLevel p L′
   pub holds : (prime : Prime p) (B : ℕ) (U : Slots (Polynomial (residues p prime))) → B < mostCoefficients
       → HoldsSlots p prime n unweighted L U → Tops (sized (residues p prime)) n B blockDegrees U

@@ -1,26 +1,25 @@
--- The rounds in memory: where a row is too long, what is taken off its slot's tail makes the next round lower, and where none is, the rows are
--- short.
+-- The rounds in memory: where a row is too long, what is taken off its slot's tail makes the next round lower; where none is, the
+-- rows are short.
 use Prim.Native.Nat.{ℕ, suc, _+_, _-_, _*_, _<_, _≤_}
 use mathlib.Core.Path.{_≡_, sym, _∙_, ap, ap₂, subst}
 use mathlib.Core.Logic.{_⊎_, inl, inr, ⊎-elim, if-pos, if-neg}
 use mathlib.Core.List.{List}
 use native.Mathlib.Omega.{arith}
-use native.Mathlib.Decide.{ℕ-discrete, decLt, decLe}
+use native.Mathlib.Decide.{decLt, decLe}
 use lib.ListN.{getD}
 use Rattle.algebra.specs.Expressions.{shift-zero}
-use Rattle.algebra.specs.Polynomial.{Polynomial, polynomials, coefficients}
+use Rattle.algebra.specs.Polynomial.{Polynomial, polynomials}
 use Rattle.algebra.specs.Size.{size, leading, sized, coefficients-last}
 use Rattle.algebra.specs.Monic.{Monic, monic-nonzero}
-use Rattle.algebra.specs.Sized.{size-mul-nonzero, positive-nonzero, size-positive}
+use Rattle.algebra.specs.Sized.{size-mul-nonzero, size-positive}
 use Rattle.modular.specs.Prime.{Prime}
 use Rattle.modular.specs.Modulo.{modulo}
 use Rattle.modular.specs.Residue.{residues}
-use Rattle.reduction.specs.Total.{degrees, total-term}
+use Rattle.reduction.specs.Total.{total-term}
 use Rattle.reduction.specs.Slots.{Slots, unweighted}
 use Rattle.reduction.specs.Transpose.{Tops}
-use Rattle.reduction.specs.Dual.{Dual}
 use Rattle.reduction.specs.LessTail.{lessTail, LessMultiples, less-none, less-more}
-use Rattle.reduction.specs.Rounds.{factorOf, long-filled, factor-tops, factor-before}
+use Rattle.reduction.specs.Rounds.{roundFactor, long-filled, factor-tops, factor-before}
 use Rattle.reduction.specs.Holds.{Holds, monomial, holds-size}
 use Rattle.reduction.specs.Flat.{flat}
 use Rattle.solve_lattice.specs.Room.{blockWords, slotWords, blockDegrees, lanes, mostCoefficients}
@@ -31,9 +30,9 @@ use Rattle.solve_lattice.specs.Range.{ends-most, words-zero}
 use Rattle.solve_second.specs.Solved.{HasTops, HoldsSecond}
 use Rattle.solve_certify.specs.declared.shorten.Longest.{Longest}
 use Rattle.solve_certify.specs.Words.{held-zero-from}
-use Rattle.solve_certify.specs.Long.{rowSize, rowLeading, Long, row-size, row-leading, row-most}
+use Rattle.solve_certify.specs.LongRow.{rowSize, rowLeading, row-size-held, row-leading-held, row-most}
 use Rattle.solve_certify.specs.Shortens.{Shortens}
-use Rattle.solve_certify.specs.Short.{HasMonicTops, RowsSolved, HoldsLess, Lessened, HoldsShort, ShortSolved, excess}
+use Rattle.solve_certify.specs.Short.{HasMonicTops, RowsSolved, HoldsLess, LessTails, ShortSolved, excess}
 
 -- the multiple that is taken off: its leading coefficient, and its power of x beside d
 abbrev pub shortFactor : (p : ℕ) → List ℕ → Level → ℕ → ℕ
@@ -62,7 +61,7 @@ module _ {p n length : ℕ} {L : Level} {w rows : List ℕ} {r : Longest} (found
   second = found .solved .solved prime B G (omega arith) holds tops
 
   row-is : (j : ℕ) → j < n → rowSize p rows j ≡ size (residues p prime) (second .Y j)
-  row-is j h = row-size prime rows j (second .holds-Y j h)
+  row-is j h = row-size-held prime rows j (second .holds-Y j h)
 
   module _ {d : List ℕ} (ends : Ends p d 0 blockWords length) (x : Polynomial (residues p prime)) (monic : Monic (residues p prime) x)
       (D : Holds (residues p prime) (words p prime d 0 blockWords) x) where
@@ -71,7 +70,7 @@ module _ {p n length : ℕ} {L : Level} {w rows : List ℕ} {r : Longest} (found
       arith,
       found .most,
       d-size prime x ends D,
-      row-size prime w 0 (second .holds-w),
+      row-size-held prime w 0 (second .holds-w),
       size-mul-nonzero (sized (residues p prime)) x (second .polynomial) (monic-nonzero (residues p prime) x monic) (second .dual .nonzero),
     )
 
@@ -87,8 +86,11 @@ module _ {p n length : ℕ} {L : Level} {w rows : List ℕ} {r : Longest} (found
             → size (residues p prime) (second .Y i) + G .size i
             ≤ size (residues p prime) (polynomials (residues p prime) .mul x (second .polynomial))
         go (yes e) = e
-        go (no e) = absurd (omega (arith, found .long .greatest i h
-            (omega (arith, row-is i h), omega (arith, row-is i h, most-is, holds .size i h)) .0))
+        go (no e) = absurd (omega (
+          arith,
+          found .long .greatest i h
+              (omega (arith, row-is i h), omega (arith, row-is i h, most-is, holds .size i h)) .0,
+        ))
 
 -- row i is too long
 module _ {p n length : ℕ} {L : Level} {d w rows : List ℕ} {r : Longest} (few : n ≤ lanes) (valid : ValidLevel p L)
@@ -111,7 +113,8 @@ module _ {p n length : ℕ} {L : Level} {d w rows : List ℕ} {r : Longest} (few
   row-some : 0 < size (residues p prime) (S .Y (r .row))
   row-some = omega (arith, found .long .long inside .0, size-row i inside)
 
-  long : size (residues p prime) (polynomials (residues p prime) .mul x (S .polynomial)) < size (residues p prime) (S .Y (r .row)) + G .size (r .row)
+  long : size (residues p prime) (polynomials (residues p prime) .mul x (S .polynomial))
+      < size (residues p prime) (S .Y (r .row)) + G .size (r .row)
   long = omega (arith, found .long .long inside .1, size-row i inside, size-w, holds .size i inside)
 
   filled : 0 < G .size (r .row)
@@ -136,7 +139,8 @@ module _ {p n length : ℕ} {L : Level} {d w rows : List ℕ} {r : Longest} (few
   pivot-size = omega (arith, tops .filled i inside filled .reached)
 
   -- the last word of the slot is the leading coefficient of its block at the pivot
-  slot-leading : residue p prime (getD L (slotWords * r .row + (slotSize L (r .row) - 1)) 0) ≡ leading (residues p prime) (G .at (r .row) (r .row))
+  slot-leading : residue p prime (getD L (slotWords * r .row + (slotSize L (r .row) - 1)) 0)
+      ≡ leading (residues p prime) (G .at (r .row) (r .row))
   slot-leading =
       let e : ℕ = height (slotSize L i) - 1 in
       let slot = valid .slot i (omega arith) in
@@ -148,14 +152,15 @@ module _ {p n length : ℕ} {L : Level} {d w rows : List ℕ} {r : Longest} (few
       ∙ coefficients-last (residues p prime) (G .at i i) e (omega (arith, pivot-size, holds .size i inside, filled))
 
   abbrev factor : Polynomial (residues p prime)
-  factor = factorOf (residues p prime) tops x (S .dual) monic (S .monic) (monic-some prime x monic) i inside row-some long
+  factor = roundFactor (residues p prime) tops x (S .dual) monic (S .monic) (monic-some prime x monic) i inside row-some long
 
-  factor-is : monomial (residues p prime) (residue p prime (shortFactor p rows L (r .row))) (shortShift p rows L (r .most) (r .row)) ≡ factor
+  factor-is : monomial (residues p prime) (residue p prime (shortFactor p rows L (r .row))) (shortShift p rows L (r .most) (r .row))
+      ≡ factor
   unfolding modulo
   factor-is = ap₂ (monomial (residues p prime))
       (residue-mod p prime (rowLeading p rows i * getD L (slotWords * i + (slotSize L i - 1)) 0)
       ∙ residue-mul p prime (rowLeading p rows i) (getD L (slotWords * i + (slotSize L i - 1)) 0)
-      ∙ ap₂ (residues p prime .ring .mul) (row-leading prime rows i (S .holds-Y i inside) row-some) slot-leading)
+      ∙ ap₂ (residues p prime .ring .mul) (row-leading-held prime rows i (S .holds-Y i inside) row-some) slot-leading)
       (omega (arith, size-row i inside, size-w, holds .size i inside, pivot-size))
 
   abbrev after : Slots (Polynomial (residues p prime))
@@ -164,7 +169,8 @@ module _ {p n length : ℕ} {L : Level} {d w rows : List ℕ} {r : Longest} (few
   after-tops : Tops (sized (residues p prime)) n B blockDegrees after
   after-tops = factor-tops (residues p prime) tops x (S .dual) monic (S .monic) (monic-some prime x monic) i inside row-some long
 
-  module _ {L′ : Level} (shortens : Shortens p L (r .row) d (shortFactor p rows L (r .row)) (shortShift p rows L (r .most) (r .row)) L′) where
+  module _ {L′ : Level}
+      (shortens : Shortens p L (r .row) d (shortFactor p rows L (r .row)) (shortShift p rows L (r .most) (r .row)) L′) where
     after-holds : HoldsSlots p prime n unweighted L′ after
     after-holds = subst (λ y. HoldsSlots p prime n unweighted L′
         (lessTail (polynomials (residues p prime)) n G i (polynomials (residues p prime) .mul y x))) factor-is
@@ -243,7 +249,7 @@ module _ {p n length : ℕ} {L : Level} {d : List ℕ} (few : n ≤ lanes) (ends
     monic-some (has .prime) (has .polynomial) (has .monic),
   )
 
-  pub less-first : ValidLevel p L → Lessened p n L d L
+  pub less-first : ValidLevel p L → LessTails p n L d L
   less-first valid = record {
     valid = valid;
     holds = λ prime B U small holds tops x monic D. record {
@@ -254,11 +260,12 @@ module _ {p n length : ℕ} {L : Level} {d : List ℕ} (few : n ≤ lanes) (ends
     };
   }
 
-  module _ {L₁ : Level} (less : Lessened p n L d L₁) where
+  module _ {L₁ : Level} (less : LessTails p n L d L₁) where
     -- some slots are there still
     module _ (has : HasMonicTops p n L d) where
       abbrev now : HoldsLess p (has .prime) n (has .bound) (has .slots) (has .polynomial) L₁
-      now = less .holds (has .prime) (has .bound) (has .slots) (has .small) (has .holds) (has .tops) (has .polynomial) (has .monic) (has .holds-d)
+      now = less .holds (has .prime) (has .bound) (has .slots) (has .small) (has .holds) (has .tops) (has .polynomial) (has .monic)
+          (has .holds-d)
 
       pub has-tops : HasTops p n L₁
       has-tops = record {
@@ -280,7 +287,8 @@ module _ {p n length : ℕ} {L : Level} {d : List ℕ} (few : n ≤ lanes) (ends
             (has .monic) (has .holds-d)
 
         -- the rounds end
-        pub excess-falls : {L₂ : Level} → Shortens p L₁ (r .row) d (shortFactor p rows L₁ (r .row)) (shortShift p rows L₁ (r .most) (r .row)) L₂
+        pub excess-falls : {L₂ : Level}
+            → Shortens p L₁ (r .row) d (shortFactor p rows L₁ (r .row)) (shortShift p rows L₁ (r .most) (r .row)) L₂
             → {w₁ rows₁ : List ℕ} {r₁ : Longest} → RowsSolved p n length L₂ w₁ rows₁ r₁ → excess p n rows₁ r₁ < excess p n rows r
         unfolding excess
         excess-falls shortens {w₁} {rows₁} {r₁} found₁ = go (decLt (r₁ .row) n)
@@ -289,8 +297,12 @@ module _ {p n length : ℕ} {L : Level} {d : List ℕ} (few : n ≤ lanes) (ends
             old = if-pos (decLt (r .row) n) inside _ 0
 
             go : Dec (r₁ .row < n) → excess p n rows₁ r₁ < excess p n rows r
-            go (no none) = omega (arith, old, if-neg (decLt (r₁ .row) n) none
-                (suc ((rowSize p rows₁ (r₁ .row) + 2 * blockWords - r₁ .most) * lanes + r₁ .row)) 0)
+            go (no none) = omega (
+              arith,
+              old,
+              if-neg (decLt (r₁ .row) n) none
+                  (suc ((rowSize p rows₁ (r₁ .row) + 2 * blockWords - r₁ .most) * lanes + r₁ .row)) 0,
+            )
             go (yes inside₁) =
                 let new : excess p n rows₁ r₁ ≡ suc ((rowSize p rows₁ (r₁ .row) + 2 * blockWords - r₁ .most) * lanes + r₁ .row) =
                 if-pos (decLt (r₁ .row) n) inside₁ _ 0 in
@@ -302,7 +314,7 @@ module _ {p n length : ℕ} {L : Level} {d : List ℕ} (few : n ≤ lanes) (ends
 
     module _ {w rows : List ℕ} {r : Longest} (found : RowsSolved p n length L₁ w rows r) where
       pub less-next : r .row < n → {L₂ : Level}
-          → Shortens p L₁ (r .row) d (shortFactor p rows L₁ (r .row)) (shortShift p rows L₁ (r .most) (r .row)) L₂ → Lessened p n L d L₂
+          → Shortens p L₁ (r .row) d (shortFactor p rows L₁ (r .row)) (shortShift p rows L₁ (r .most) (r .row)) L₂ → LessTails p n L d L₂
       less-next inside shortens = record {
         valid = shortens .valid;
         holds = λ prime B U small holds tops x monic D.

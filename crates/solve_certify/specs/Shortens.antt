@@ -1,7 +1,7 @@
 -- A multiple of d taken off the tail of a slot in memory: the level stays in order, and holds the slots with that tail.
 use Prim.Native.Nat.{ℕ, _+_, _-_, _*_, _%_, _<_, _≤_}
-use mathlib.Core.Path.{_≡_, refl, sym, _∙_, ap, subst}
-use mathlib.Core.Logic.{_⊎_, inl, inr, ⊎-elim}
+use mathlib.Core.Path.{_≡_, sym, _∙_, ap, subst}
+use mathlib.Core.Logic.{_⊎_, inl, inr}
 use mathlib.Core.List.{List}
 use native.Mathlib.Nat.{mod-lt, mul-le-mul, mul-le-mul-right}
 use native.Mathlib.Omega.{arith}
@@ -19,12 +19,12 @@ use Rattle.reduction.specs.Replace.{replace-elim}
 use Rattle.reduction.specs.Slots.{Slots, unweighted}
 use Rattle.reduction.specs.LessTail.{lessTail}
 use Rattle.reduction.specs.Holds.{Holds, monomial, holds-step}
-use Rattle.solve_lattice.specs.Room.{lanes, blockWords, slotWords, sizesFrom, tailSizesFrom, inversesFrom, levelWords, mostCoefficients}
+use Rattle.solve_lattice.specs.Room.{lanes, blockWords, slotWords, sizesFrom, tailSizesFrom, inversesFrom, mostCoefficients}
 use Rattle.solve_lattice.specs.Word.{residue, words}
 use Rattle.solve_lattice.specs.Memory.{ZeroFrom, Level, tailSize, ValidSlot, ValidLevel}
 use Rattle.solve_lattice.specs.Holding.{HoldsSlots}
 use Rattle.solve_lattice.specs.Range.{words-same, words-upper, words-lower, words-slot, zero-kept, zero-from-same}
-use Rattle.solve_second.specs.Same.{SameBlocks}
+use Rattle.solve_second.specs.Same.{SameLevelBlocks}
 use Rattle.solve_second.specs.OtherTails.{same-slot, same-holds}
 use Rattle.solve_certify.specs.Words.{words-copied}
 
@@ -94,7 +94,7 @@ module _ {p : ℕ} (prime₀ : Prime p) {L : Level} (valid : ValidLevel p L) (i 
   kept : (x : ℕ) → (x < b) ⊎ (b + blockWords ≤ x) → ¬ (x ≡ tailSizesFrom + i) → getD L′ x 0 ≡ getD L x 0
   kept x out ne = noted x ne ∙ kept₁ x out
 
-  same : SameBlocks L L′
+  same : SameLevelBlocks L L′
   same = record {
     words = λ q j l lt. kept (slotWords * q + j) (apart q j lt (decLt i q)) (λ e. omega arith);
     sizes = λ q l. kept (sizesFrom + q) (inr (omega arith)) (λ e. omega arith);
@@ -137,8 +137,10 @@ module _ {p : ℕ} (prime₀ : Prime p) {L : Level} (valid : ValidLevel p L) (i 
         (polynomials (residues p prime) .mul (monomial (residues p prime) (residue p prime a) k) x)))
     shortened-tail {g} {x} A D = record {
       at = λ j. holds-step (residues p prime) (residue p prime a) k (record { at = λ e. A .at e ∙ tail-before e }) D
-          (words-upper p prime t₀ t d k 0 size blockWords blockWords a taken small (omega arith) (omega (arith, length₀)) behind (omega arith))
-          (words-lower p prime t₀ t d k 0 size blockWords blockWords a taken small (omega arith) (omega (arith, length₀)) behind (omega arith)) .at j
+          (words-upper p prime t₀ t d k 0 size blockWords blockWords a taken small (omega arith) (omega (arith, length₀)) behind
+          (omega arith))
+          (words-lower p prime t₀ t d k 0 size blockWords blockWords a taken small (omega arith) (omega (arith, length₀)) behind
+          (omega arith)) .at j
           ∙ sym (tail-after j);
     }
 

@@ -1,4 +1,5 @@
-// The second system solved with rows that are short: while one is too long, a multiple of d is taken off one tail.
+// The second system solved with short rows: while a row is too long beside d w, a multiple of d is taken off a tail (section 2, step
+// 5, of docs/mathematics.md).
 use residue::modulus::Modulus;
 use solve_lattice::BLOCK;
 use solve_lattice::Block;
@@ -9,7 +10,7 @@ use solve_lattice::SIZES;
 use solve_lattice::SLOT;
 use solve_lattice::TAIL_SIZES;
 use solve_second::Side;
-use solve_second::height::slot_height;
+use solve_second::slot_height;
 use solve_second::solve_second;
 use vector::Leading;
 use vector::add_scaled;
@@ -22,9 +23,9 @@ ghost use lib.ListN.{length, getD};
 ghost use Rattle.residue.specs.Modulus.{ValidModulus};
 ghost use Rattle.solve_lattice.specs.Room.{lanes, blockWords, rowsWords, mostCoefficients};
 ghost use Rattle.solve_lattice.specs.Memory.{height, ZeroFrom, Ends, slotSize, ValidLevel};
-ghost use Rattle.solve_second.specs.Greatest.{Low};
+ghost use Rattle.solve_second.specs.Greatest.{LowBlocks};
 ghost use Rattle.solve_second.specs.Solved.{HasTops};
-ghost use Rattle.solve_certify.specs.Long.{rowSize, rowLeading, Long, LongFound};
+ghost use Rattle.solve_certify.specs.LongRow.{rowSize, rowLeading, LongRow, LongFound};
 ghost use Rattle.solve_certify.specs.Shortens.{Shortens};
 ghost use Rattle.solve_certify.specs.Short.{HasMonicTops, RowsSolved, ShortSolved};
 ghost use Rattle.solve_certify.specs.ShortRounds.{shortFactor, shortShift};
@@ -49,7 +50,7 @@ fn find_row(rows: &[u64], i: usize, modulus: Modulus) -> Leading
 // Finds, of the first n rows that are not 0 and with their slot's height have more than `most` coefficients, the last of those of
 // greatest size. Returns n where there is none.
 fn find_long(rows: &[u64], level: &Level, n: usize, most: usize, modulus: Modulus) -> usize
-    requires { ⌜ ValidModulus modulus × (n ≤ lanes) × Low (now level) ⌝ }
+    requires { ⌜ ValidModulus modulus × (n ≤ lanes) × LowBlocks (now level) ⌝ }
     requires rows { ⌜ (rowsWords ≤ length (now rows)) × ((j : ℕ) → getD (now rows) j 0 < modulus .p) ⌝ }
     ensures { λ r. ⌜ LongFound (modulus .p) (now (rows .entry)) (now (level .entry)) n most r ⌝ }
 {
@@ -127,7 +128,7 @@ fn shorten(
     requires { ⌜ ValidModulus modulus × (i < lanes) × ValidLevel (modulus .p) (now level) × (0 < slotSize (now level) i) ⌝ }
     requires multiple { ⌜ ((j : ℕ) → getD (now d) j 0 < modulus .p) × ZeroFrom (modulus .p) (now d) 0 blockWords size ⌝ }
     requires rows { ⌜ ((j : ℕ) → getD (now rows) j 0 < modulus .p) ⌝ }
-    requires long { ⌜ Long (modulus .p) (now rows) (now level) most i
+    requires long { ⌜ LongRow (modulus .p) (now rows) (now level) most i
         × (rowSize (modulus .p) (now rows) i + height (slotSize (now level) i) + size ≤ most + suc mostCoefficients) ⌝ }
     ensures { λ _. ⌜ Shortens (modulus .p) (now (level .entry)) i (now (d .entry))
         (shortFactor (modulus .p) (now (rows .entry)) (now (level .entry)) i)
@@ -140,8 +141,8 @@ fn shorten(
     take_from_tail(level, i, d, size, factor, k, modulus);
 }
 
-// Solves the second system of `level`, of n rows, whose tails less multiples of d: stores w and its rows, which with d w are
-// short. Changes the tails of `level`.
+// Solves the second system of `level`, of n rows, with multiples of d, of `size` coefficients, off its tails, so that no row is too
+// long beside d w: stores w and the rows. Changes the tails of `level`.
 pub fn solve_short(
     w: &mut Block,
     rows: &mut [u64; ROWS],

@@ -19,9 +19,9 @@ use Rattle.solve_lattice.specs.Holding.{HoldsSlots}
 use Rattle.solve_lattice.specs.Range.{words-same}
 use Rattle.solve_lattice.specs.Reading.{flat-same}
 use Rattle.solve_lattice.specs.Room.{lanes, blockWords, slotWords, mostCoefficients}
-use Rattle.solve_second.specs.Same.{SameBlocks}
+use Rattle.solve_second.specs.Same.{SameLevelBlocks}
 
-module _ {p : ℕ} {L L′ : Level} (same : SameBlocks L L′) where
+module _ {p : ℕ} {L L′ : Level} (same : SameLevelBlocks L L′) where
   pub same-slot : (q : ℕ) → q < lanes → ValidSlot p L q → tailSize L′ q ≤ mostCoefficients
       → ZeroFrom p L′ (slotWords * q + blockWords) blockWords (tailSize L′ q) → ValidSlot p L′ q
   same-slot q l old few behind =

@@ -3,14 +3,10 @@ use Prim.Native.Nat.{_-_}
 use mathlib.Core.Logic.{inl, inr, ⊎-elim}
 use native.Mathlib.Omega.{arith}
 use borrow.Author.Tests.{ltb-true, ltb-false}
-use Rattle.solve_certify.specs.Long.{row-most}
+use Rattle.solve_certify.specs.LongRow.{row-most}
 use Rattle.solve_certify.specs.LongSoFar.{LongSoFar, long-start, long-turn, long-end}
 use Rattle.solve_certify.proofs.shorten.find_long.Statement.{statement}
 use Rattle.solve_certify.proofs.shorten.find_long.Tie as tie
-use Rattle.solve_certify.proofs.shorten.find_long.Reads as reads
-use Rattle.solve_certify.proofs.shorten.find_long.Lts as lts
-use Rattle.solve_certify.proofs.shorten.find_row.Reads as find-row-reads
-use Rattle.solve_second.proofs.height.slot_height.Reads as slot-height-reads
 
 abbrev Inv-loop : tie.InvT-loop
 Inv-loop rows level n most modulus long₀ best₀ i₀ long best i = LongSoFar (modulus .p) rows level n most i long best
@@ -49,10 +45,10 @@ loop-again c =
     let H = c .before in
     let R = H .before in
     let L = R .before .before in
-    long-turn _ _ _ _ _ (R .before .loop-test .taken) (L .loop .inv) (R .find-row .result .size) (H .slot-height .result) (R .find-row .ensures .0)
-    (H .slot-height .ensures)
-    (⊎-elim (λ w. inl (w .0 .taken, ltb-true _ _ (w .1 .taken), w .2, w .3))
-    (λ w. inr (⊎-elim (λ e. inr (ltb-false _ _ (e .1 .left))) (λ e. inl (e .left)) (w .0 .came), w .1, w .2)) (c .if1 .came))
+    long-turn _ _ _ _ _ (R .before .loop-test .taken) (L .loop .inv) (R .find-row .result .size) (H .slot-height .result)
+    (R .find-row .ensures .0) (H .slot-height .ensures)
+    (⊎-elim (λ w. inl (omega (arith, w .0 .taken), ltb-true _ _ (w .1 .taken), w .2, w .3))
+    (λ w. inr (⊎-elim (λ e. inr (ltb-false _ _ (e .1 .left))) (λ e. inl (omega (arith, e .left))) (w .0 .came), w .1, w .2)) (c .if1 .came))
 
 returns : tie.Need-returns Inv-loop μ-loop
 returns c = long-end _ _ _ _ _ (c .before .loop .inv) (c .loop-test .left)

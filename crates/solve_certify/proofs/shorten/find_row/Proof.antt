@@ -5,7 +5,7 @@ use lib.ListN.{length}
 use borrow.Author.Needs.{needs}
 use Rattle.algebra.specs.Coefficients.{leading}
 use Rattle.modular.specs.Modulo.{modulo}
-use Rattle.solve_certify.specs.Long.{part-room, part-reducible, part-row}
+use Rattle.solve_certify.specs.LongRow.{part-room, part-reducible, part-row}
 use Rattle.solve_certify.proofs.shorten.find_row.Statement.{statement}
 use Rattle.solve_certify.proofs.shorten.find_row.Tie as tie
 
@@ -20,7 +20,8 @@ find-leading-requires c κs =
 returns : tie.Need-returns
 returns c =
     let S = c .before .before .before in
-    let same = part-row (S .args .modulus .p) (S .args .rows .now) (S .args .i) (S .pre .0 .1) (omega (arith, S .pre .0 .0 .prime .large)) in (
+    let same = part-row (S .args .modulus .p) (S .args .rows .now) (S .args .i) (S .pre .0 .1)
+    (omega (arith, S .pre .0 .0 .prime .large)) in (
       c .find-leading .ensures .0 ∙ ap length same,
       c .find-leading .ensures .1 ∙ ap (leading (modulo (S .args .modulus .p))) same,
     )

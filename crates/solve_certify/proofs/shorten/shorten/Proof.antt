@@ -1,6 +1,6 @@
 -- `shorten` meets its contract: the factor and the place are those that it states.
 use Prim.Native.Nat.{_+_, _-_, _*_}
-use mathlib.Core.Path.{_≡_, sym, _∙_, ap, ap₂, subst₂}
+use mathlib.Core.Path.{_∙_, ap, ap₂, subst₂}
 use native.Mathlib.Omega.{arith}
 use lib.ListN.{getD}
 use borrow.Author.Needs.{needs}
@@ -8,17 +8,10 @@ use Rattle.modular.specs.Modulo.{modulo}
 use Rattle.residue.specs.Below.{mul-below}
 use Rattle.solve_lattice.specs.Room.{slotWords}
 use Rattle.solve_lattice.specs.Memory.{slotSize}
-use Rattle.solve_certify.specs.Long.{row-most, row-below}
+use Rattle.solve_certify.specs.LongRow.{row-most, row-below}
 use Rattle.solve_certify.specs.Shortens.{Shortens}
-use Rattle.solve_certify.specs.ShortRounds.{shortFactor, shortShift}
 use Rattle.solve_certify.proofs.shorten.shorten.Statement.{statement}
 use Rattle.solve_certify.proofs.shorten.shorten.Tie as tie
-use Rattle.solve_certify.proofs.shorten.shorten.Reads as reads
-use Rattle.solve_certify.proofs.shorten.shorten.Lts as lts
-use Rattle.residue.proofs.modulus.Modulus.mul.Reads as mul-reads
-use Rattle.solve_certify.proofs.shorten.find_row.Reads as find-row-reads
-use Rattle.solve_certify.proofs.shorten.take_from_tail.Reads as take-from-tail-reads
-use Rattle.solve_second.proofs.height.slot_height.Reads as slot-height-reads
 
 slot-height-requires : tie.Need-slot-height-requires
 slot-height-requires c κs =
@@ -62,7 +55,8 @@ mul-requires c κs =
       omega (
         arith,
         R .find-row .ensures .1,
-        row-below (S .args .modulus .p) (S .args .rows .now) (S .args .i) (omega (arith, S .pre .0 .0 .prime .large)) (S .pre .1 .1 .1 .0 .0),
+        row-below (S .args .modulus .p) (S .args .rows .now) (S .args .i) (omega (arith, S .pre .0 .0 .prime .large))
+            (S .pre .1 .1 .1 .0 .0),
       ),
       S .pre .0 .2 .below (slotWords * S .args .i + (slotSize (S .args .level .now) (S .args .i) - 1)) (omega (arith, within)),
     )
@@ -77,8 +71,12 @@ take-from-tail-requires c κs =
       (
         S .pre .1 .0,
         (
-          omega (arith, M .mul .ensures, mul-below (S .args .modulus .p) (S .pre .0 .0 .prime .large) (R .find-row .result .value)
-              (getD (S .args .level .now) (slotWords * S .args .i + (slotSize (S .args .level .now) (S .args .i) - 1)) 0)),
+          omega (
+            arith,
+            M .mul .ensures,
+            mul-below (S .args .modulus .p) (S .pre .0 .0 .prime .large) (R .find-row .result .value)
+                (getD (S .args .level .now) (slotWords * S .args .i + (slotSize (S .args .level .now) (S .args .i) - 1)) 0),
+          ),
           omega (arith, R .find-row .ensures .0, H .slot-height .ensures, S .pre .1 .1 .1 .1, S .pre .1 .1 .1 .0 .1),
         ),
       ),
@@ -93,7 +91,8 @@ returns c =
     let L = S .args .level .now in
     let i = S .args .i in
     subst₂ (λ a k. Shortens (S .args .modulus .p) L i (S .args .d .now) a k (c .take-from-tail .last .0))
-    (M .mul .ensures ∙ ap (λ v. modulo (S .args .modulus .p) .mul v (getD L (slotWords * i + (slotSize L i - 1)) 0)) (R .find-row .ensures .1))
+    (M .mul .ensures
+    ∙ ap (λ v. modulo (S .args .modulus .p) .mul v (getD L (slotWords * i + (slotSize L i - 1)) 0)) (R .find-row .ensures .1))
     (ap₂ (λ u v. u + v - S .args .most - 1) (R .find-row .ensures .0) (H .slot-height .ensures))
     (c .take-from-tail .ensures)
 

@@ -4,14 +4,9 @@ use mathlib.Core.Path.{_≡_}
 use lib.ListN.{length, List·getD-eq-default}
 use borrow.Author.Needs.{needs}
 use Rattle.solve_lattice.specs.Room.{rowsWords}
-use Rattle.solve_certify.specs.Long.{row-most}
+use Rattle.solve_certify.specs.LongRow.{row-most}
 use Rattle.solve_certify.proofs.shorten.solve_rows.Statement.{statement}
 use Rattle.solve_certify.proofs.shorten.solve_rows.Tie as tie
-use Rattle.solve_certify.proofs.shorten.solve_rows.Reads as reads
-use Rattle.solve_certify.proofs.shorten.solve_rows.Lts as lts
-use Rattle.solve_certify.proofs.shorten.find_long.Reads as find-long-reads
-use Rattle.solve_certify.proofs.shorten.find_row.Reads as find-row-reads
-use Rattle.solve_second.proofs.solve_second.Reads as solve-second-reads
 
 solve-second-requires : tie.Need-solve-second-requires
 solve-second-requires c κs =
@@ -20,7 +15,10 @@ solve-second-requires c κs =
       (S .pre .0 .0, S .pre .0 .1, omega arith, S .pre .0 .2),
       (
         S .pre .1 .0,
-        (search needs, λ i ge. omega (arith, List·getD-eq-default (S .args .rows .now) 0 {n = i} (omega (arith, room)), S .pre .0 .0 .prime .large)),
+        (
+          search needs,
+          λ i ge. omega (arith, List·getD-eq-default (S .args .rows .now) 0 {n = i} (omega (arith, room)), S .pre .0 .0 .prime .large),
+        ),
       ),
     )
 

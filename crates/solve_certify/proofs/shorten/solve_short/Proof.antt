@@ -1,19 +1,14 @@
 -- The loop keeps what is known of the tails and the rows, and what a row is too long by falls.
-use mathlib.Core.Path.{refl}
+use Prim.Native.Nat.{_<_}
 use native.Mathlib.Omega.{arith}
-use borrow.Author.Needs.{needs}
-use Rattle.solve_certify.specs.Short.{RowsSolved, Lessened, excess}
+use Rattle.solve_certify.specs.Short.{RowsSolved, LessTails, excess}
 use Rattle.solve_certify.specs.ShortRounds.{has-some, has-tops, has-slot, has-room, excess-falls, less-first, less-next, short-solved}
 use Rattle.solve_certify.proofs.shorten.solve_short.Statement.{statement}
 use Rattle.solve_certify.proofs.shorten.solve_short.Tie as tie
-use Rattle.solve_certify.proofs.shorten.solve_short.Reads as reads
-use Rattle.solve_certify.proofs.shorten.solve_short.Lts as lts
-use Rattle.solve_certify.proofs.shorten.shorten.Reads as shorten-reads
-use Rattle.solve_certify.proofs.shorten.solve_rows.Reads as solve-rows-reads
 
 abbrev Inv-loop : tie.InvT-loop
 Inv-loop w₀ rows₀ level₀ n d size modulus long₀ w rows level long =
-    Lessened (modulus .p) n level₀ d level × RowsSolved (modulus .p) n size level w rows long
+    LessTails (modulus .p) n level₀ d level × RowsSolved (modulus .p) n size level w rows long
 
 abbrev μ-loop : tie.MeasureT-loop
 μ-loop w₀ rows₀ level₀ n d size modulus long₀ w rows level long = excess (modulus .p) n rows long
@@ -43,7 +38,7 @@ shorten-requires c κs =
     let has = S .pre .1 .0 in
     let less = L .loop .inv .0 in
     let found = L .loop .inv .1 in
-    let inside = I .if1 .taken in (
+    let inside : L .loop .long .row < S .args .n = omega (arith, I .if1 .taken) in (
       (S .pre .0 .0, omega (arith, few, inside), less .valid, has-slot few ends less has found inside),
       (
         (S .pre .1 .1 .0, ends .behind),
@@ -60,7 +55,7 @@ solve-rows-requires-2 c κs =
     let few = S .pre .0 .1 in
     let ends = S .pre .1 .1 .1 in
     let has = S .pre .1 .0 in
-    let next = less-next few ends (L .loop .inv .0) (L .loop .inv .1) (I .if1 .taken) (H .shorten .ensures) in (
+    let next = less-next few ends (L .loop .inv .0) (L .loop .inv .1) (omega (arith, I .if1 .taken)) (H .shorten .ensures) in (
       (S .pre .0 .0, few, next .valid),
       (has-tops few ends next has, (has-some few ends has, ends .within)),
     )
@@ -71,17 +66,16 @@ loop-less c =
     let I = H .before .before .before in
     let L = I .before .before in
     let S = L .before .before .before .before .before in
-    excess-falls (S .pre .0 .1) (S .pre .1 .1 .1) (L .loop .inv .0) (S .pre .1 .0) (L .loop .inv .1) (I .if1 .taken) (H .shorten .ensures)
-    (c .solve-rows2 .ensures)
+    excess-falls (S .pre .0 .1) (S .pre .1 .1 .1) (L .loop .inv .0) (S .pre .1 .0) (L .loop .inv .1)
+    (omega (arith, I .if1 .taken)) (H .shorten .ensures) (c .solve-rows2 .ensures)
 
 loop-again : tie.Need-loop-again Inv-loop μ-loop
 loop-again c =
     let H = c .before .before .before .before in
     let I = H .before .before .before in
     let L = I .before .before in
-    let S = L .before .before .before .before .before in
-    (
-      less-next (S .pre .0 .1) (S .pre .1 .1 .1) (L .loop .inv .0) (L .loop .inv .1) (I .if1 .taken) (H .shorten .ensures),
+    let S = L .before .before .before .before .before in (
+      less-next (S .pre .0 .1) (S .pre .1 .1 .1) (L .loop .inv .0) (L .loop .inv .1) (omega (arith, I .if1 .taken)) (H .shorten .ensures),
       c .solve-rows2 .ensures,
     )
 
@@ -89,7 +83,7 @@ returns : tie.Need-returns Inv-loop μ-loop
 returns c =
     let L = c .before .before in
     let S = L .before .before .before .before .before in
-    short-solved (S .pre .0 .1) (S .pre .1 .1 .1) (L .loop .inv .0) (L .loop .inv .1) (c .if1 .left)
+    short-solved (S .pre .0 .1) (S .pre .1 .1 .1) (L .loop .inv .0) (L .loop .inv .1) (omega (arith, c .if1 .left))
 
 pub solve-short-spec : {M : Type 1} → statement M
 solve-short-spec =

@@ -40,8 +40,8 @@ returns c =
     let A = X .before .before .before .before in
     let C = A .before .before .before .before .before in
     let S = C .before .before .before .before in
-    shortens (S .pre .0 .0 .prime) (S .pre .0 .2) (S .args .i) (S .pre .0 .1) (S .args .d .now) (S .args .size) (S .args .factor) (S .args .k)
-    (S .pre .1 .1 .0) (S .pre .1 .0 .1) (S .pre .1 .1 .1) _ refl (C .copy .last .0) (A .add-scaled .last .0) _ (C .copy .ensures)
+    shortens (S .pre .0 .0 .prime) (S .pre .0 .2) (S .args .i) (S .pre .0 .1) (S .args .d .now) (S .args .size) (S .args .factor)
+    (S .args .k) (S .pre .1 .1 .0) (S .pre .1 .0 .1) (S .pre .1 .1 .1) _ refl (C .copy .last .0) (A .add-scaled .last .0) _ (C .copy .ensures)
     (A .add-scaled .ensures .0) (X .exchange .ensures .1)
 
 pub take-from-tail-spec : {M : Type 1} → statement M
