@@ -7,13 +7,15 @@ pub mod SystemIn
 pub mod Laid
 pub mod Taken
 pub mod Lists
+pub mod Vectors
 pub mod Equations
 pub mod LaidLaws
 pub mod SystemInLaws
 pub mod TakenLaws
 pub mod RightLists
+pub mod PivotLists
+pub mod ChosenLists
 pub mod TakenRight
 pub mod Answers
 pub mod Existence
-pub mod Chosen
-pub mod TakenChosen
+pub mod ChosenUnique

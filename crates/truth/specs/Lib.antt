@@ -1,4 +1,4 @@
--- interface, what contracts, other crates and PROVED.md cite: Solution, Listed, Right, Verdict, Truth, RefusalLaws, Accepted, Demand,
+-- interface, what contracts, other crates and PROVED.md cite: Solution, Listed, Right, Chosen, Verdict, Truth, RefusalLaws, Accepted, Demand,
 --   Denominators, Cases, Places, Prefix, Certified, CertifiedLaws, CertifiedWords, TurnedBack, TurnedBackLaws, DemandLaws,
 --   RefusedWords
 -- inside: Witness, Lift, Fractions, CertifiedTruth
@@ -6,6 +6,7 @@ pub mod Witness
 pub mod Solution
 pub mod Listed
 pub mod Right
+pub mod Chosen
 pub mod Verdict
 pub mod Lift
 pub mod Truth
