@@ -2,7 +2,7 @@
 -- zero at the end, and the second system was solved. The way down from d·b gives the numerators.
 use Prim.Native.Nat.{ℕ, suc, _<_, _≤_, min}
 use Prim.Native.Nat.{_+_ as _+ₙ_, _*_ as _*ₙ_}
-use mathlib.Core.Path.{_≡_, refl, ap, subst}
+use mathlib.Core.Path.{_≡_, ap, subst}
 use native.Mathlib.Omega.{arith}
 use Rattle.ring.specs.Ring.{Ring}
 use Rattle.ring.specs.Sum.{sum}
@@ -10,14 +10,15 @@ use Rattle.algebra.specs.Sized.{Sized}
 use Rattle.reduction.specs.Total.{rank, degrees, rank-ext, degrees-ext}
 use Rattle.reduction.specs.Pivot.{Vanishes}
 use Rattle.reduction.specs.Slots.{Slots, SameBlocks, unweighted}
-use Rattle.reduction.specs.Span.{InSpan, span-blocks}
+use Rattle.reduction.specs.Span.{InSpan, InSpanWith, span-blocks}
 use Rattle.reduction.specs.Euclidean.{Euclidean, Associate}
 use Rattle.reduction.specs.Inserting.{Inserting}
 use Rattle.reduction.specs.System.{System}
 use Rattle.reduction.specs.Levels.{Level}
 use Rattle.reduction.specs.Dual.{Dual}
 use Rattle.reduction.specs.Certificate.{RightSolution, SmallSolution}
-use Rattle.reduction.specs.Solution.{solution-span, solution-small, solution-right, solution-sizes}
+use Rattle.reduction.specs.Certifying.{Short, Certifying}
+use Rattle.reduction.specs.Solution.{solution-span, solution-small, solution-right, solution-sizes, solution-certifying}
 
 module _ {A : Type 0} {R : Ring A} {S : Sized R} (E : Euclidean S) (T : System S) where
   open System T using (rows as n, columns as m, degree as δ, matrix as M, right as b)
@@ -33,17 +34,23 @@ module _ {A : Type 0} {R : Ring A} {S : Sized R} (E : Euclidean S) (T : System S
     pub right : (N : ℕ → A) → ((i : ℕ) → i < n → sum R m (λ j. M i j * N j) ≡ d * b i) → RightSolution E T d N w Z
     pub small : (N : ℕ → A) → ((j : ℕ) → j < m → size (N j) ≤ suc (rank n (U .size) *ₙ δ))
         → SmallSolution E T (suc (rank n (U .size) *ₙ δ)) d N w Z
+    -- w and Z are the ones that are chosen
+    pub certifying : Certifying S n m M b d w Z
 
-  -- L7 and L8
+  -- L7 and L8, of slots G that have the blocks of those after the insertion, and with the hand span the same
   pub unfinished : {U : Slots A} (L : Level T m U) (X : Inserting S n unweighted U b) (z : Vanishes R n (X .now .hand))
-      (μ : Associate S (E .Monic) (X .now .hand n)) (w′ : A) (Y : ℕ → A) → E .Monic w′
-      → Dual S n (degrees n (U .size)) (X .now .slots) w′ Y
+      (μ : Associate S (E .Monic) (X .now .hand n)) {G : Slots A}
+      (sizes : (q : ℕ) → q < n → X .now .slots .size q ≡ G .size q)
+      (into : (u : ℕ → A) → InSpanWith R n (suc n) (X .now .slots) (X .now .hand) u → InSpanWith R n (suc n) G (X .now .hand) u)
+      (w′ : A) (Y : ℕ → A) → E .Monic w′ → Dual S n (degrees n (U .size)) G w′ Y
+      → ((i : ℕ) → i < n → ¬ (Y i ≡ R .zero) → Short S n m M b (μ .unit * X .now .hand n * w′) Y i)
       → Unfinished U (μ .unit * X .now .hand n) (μ .unit * X .now .hand n * w′) Y
-  unfinished L X z μ w′ Y monic K = record {
+  unfinished L X z μ sizes into w′ Y monic K short = record {
     span = solution-span E T L X z μ;
     vector-small = solution-small E T L X z μ;
-    right = λ N solves. solution-right E T L X z μ (λ q h. refl) (λ u s. s) w′ Y monic K N solves;
-    small = λ N small. solution-sizes E T L X z μ (λ q h. refl) (λ u s. s) w′ Y monic K N small;
+    right = λ N solves. solution-right E T L X z μ sizes into w′ Y monic K N solves;
+    small = λ N small. solution-sizes E T L X z μ sizes into w′ Y monic K N small;
+    certifying = solution-certifying E T L X z μ sizes into w′ Y monic K short;
   }
 
   -- tails of U play no part
@@ -54,4 +61,5 @@ module _ {A : Type 0} {R : Ring A} {S : Sized R} (E : Euclidean S) (T : System S
     right = X .right;
     small = subst (λ r. (N : ℕ → A) → ((j : ℕ) → j < m → size (N j) ≤ suc (r *ₙ δ)) → SmallSolution E T (suc (r *ₙ δ)) d N w Z)
         (rank-ext n (U .size) (U′ .size) (λ q h. ap (min 1) (e .sizes q h))) (X .small);
+    certifying = X .certifying;
   }

@@ -29,7 +29,7 @@ use Rattle.solve_lattice.specs.Input.{Equations, systemOf}
 use Rattle.solve_lattice.specs.Output.{ValidOutput, HoldsAt, HoldsAbsence}
 use Rattle.solve_second.specs.WithRow.{withRow, row-valid, row-holds}
 use Rattle.solve_second.specs.Solved.{HasTops, HoldsSecond, SecondSolved}
-use Rattle.solve_lattice.specs.Room.{outputWords, blockWords}
+use Rattle.solve_lattice.specs.Room.{outputWords, blockWords, blockDegrees, lanes}
 use Rattle.solve_certify.specs.Words.{stored-below, words-copied, holds-negated}
 use Rattle.solve_certify.specs.Inserted.{HoldsStuck, slots-high, last-degrees}
 
@@ -39,24 +39,24 @@ pub record AbsenceFound (p n : ℕ) (L : Level) (h : ℕ) (output : List ℕ) : 
       → HoldsStuck p prime n m X U L h → HoldsAbsence p prime (systemOf p prime n m X) output
 
 -- the second system of these slots
-module _ {p n m h : ℕ} {L : Level} (lanes : n ≤ 8) (level : ValidLevel p L) (prime : Prime p) (X : Equations p prime n m)
+module _ {p n m h : ℕ} {L : Level} (few-rows : n ≤ lanes) (level : ValidLevel p L) (prime : Prime p) (X : Equations p prime n m)
     (U : Slots (Polynomial (residues p prime))) (Q : HoldsStuck p prime n m X U L h) where
   abbrev rowed : Slots (Polynomial (residues p prime))
   rowed = tailed n U (λ q. U .at q (Q .stuck .at))
 
   held : HoldsSlots p prime n unweighted (withRow h L) (tailed n U (λ q. U .at q (Q .stuck .at)))
   held = subst (λ k. HoldsSlots p prime n unweighted (withRow h L) (tailed n U (λ q. U .at q k))) (sym (Q .at))
-      (row-holds h level prime lanes (omega (arith, Q .at, Q .stuck .pivot .inside)) (Q .slots))
+      (row-holds h level prime few-rows (omega (arith, Q .at, Q .stuck .pivot .inside)) (Q .slots))
 
-  tops : Tops (sized (residues p prime)) n (degrees n (U .size)) 16 (tailed n U (λ q. U .at q (Q .stuck .at)))
-  tops = absence-tops (euclidean (residues p prime)) (systemOf p prime n m X) (Q .last) (Q .inserting) (Q .stuck) 16
-      (slots-high prime lanes (row-valid h level (omega (arith, Q .at, Q .stuck .pivot .inside))) held)
+  tops : Tops (sized (residues p prime)) n (degrees n (U .size)) blockDegrees (tailed n U (λ q. U .at q (Q .stuck .at)))
+  tops = absence-tops (euclidean (residues p prime)) (systemOf p prime n m X) (Q .last) (Q .inserting) (Q .stuck) blockDegrees
+      (slots-high prime few-rows (row-valid h level (omega (arith, Q .at, Q .stuck .pivot .inside))) held)
 
   pub stuck-tops : HasTops p n (withRow h L)
   stuck-tops = record {
     prime = prime;
     bound = degrees n (U .size);
-    small = last-degrees prime lanes (Q .last) .1;
+    small = last-degrees prime few-rows (Q .last) .1;
     slots = rowed;
     holds = held;
     tops = tops;
@@ -64,14 +64,14 @@ module _ {p n m h : ℕ} {L : Level} (lanes : n ≤ 8) (level : ValidLevel p L) 
 
   stuck-second : {w rows : List ℕ} → SecondSolved p n (withRow h L) w rows
       → HoldsSecond p prime n (degrees n (U .size)) (tailed n U (λ q. U .at q (Q .stuck .at))) w rows
-  stuck-second solved = solved .solved prime (degrees n (U .size)) rowed (last-degrees prime lanes (Q .last) .1) held tops
+  stuck-second solved = solved .solved prime (degrees n (U .size)) rowed (last-degrees prime few-rows (Q .last) .1) held tops
 
 -- minus the rows at the places below n, then w at h
 abbrev storedAbsence : (p n h : ℕ) (w rows : List ℕ) → List ℕ
 storedAbsence p n h w rows =
     stored (λ j. getD w (0 + j) 0) (stored (λ j. modulo p .neg (getD rows j 0)) rows 0 (blockWords * n)) (blockWords * h) blockWords
 
-module _ (p : ℕ) (prime₀ : Prime p) (n h : ℕ) (lanes : n ≤ 8) (inside : h < 8) (w rows : List ℕ) (valid : ValidOutput p rows) where
+module _ (p : ℕ) (prime₀ : Prime p) (n h : ℕ) (few-rows : n ≤ lanes) (inside : h < lanes) (w rows : List ℕ) (valid : ValidOutput p rows) where
   abbrev first : List ℕ
   first = stored (λ j. modulo p .neg (getD rows j 0)) rows 0 (blockWords * n)
 
@@ -105,12 +105,12 @@ module _ (p : ℕ) (prime₀ : Prime p) (n h : ℕ) (lanes : n ≤ 8) (inside : 
           (⊎-elim (λ lt. inl (omega arith)) (λ ge. inr (omega arith)) (below-or-not i h)) j);
     }
 
-stored-found : {p n h : ℕ} {L : Level} {w rows : List ℕ} → Prime p → n ≤ 8 → h < 8 → ValidLevel p L
+stored-found : {p n h : ℕ} {L : Level} {w rows : List ℕ} → Prime p → n ≤ lanes → h < lanes → ValidLevel p L
     → SecondSolved p n (withRow h L) w rows → ValidOutput p rows → AbsenceFound p n L h (storedAbsence p n h w rows)
-stored-found {p} {n} {h} {L} {w} {rows} prime₀ lanes inside level solved valid = record {
-  valid = absence-valid p prime₀ n h lanes inside w rows valid (solved .w-below);
+stored-found {p} {n} {h} {L} {w} {rows} prime₀ few-rows inside level solved valid = record {
+  valid = absence-valid p prime₀ n h few-rows inside w rows valid (solved .w-below);
   holds = λ prime m X U Q.
-      let S = stuck-second lanes level prime X U Q solved in record {
+      let S = stuck-second few-rows level prime X U Q solved in record {
         q = absence (polynomials (residues p prime)) (Q .stuck .at) (S .polynomial) (S .Y);
         right = absence-right (euclidean (residues p prime)) (systemOf p prime n m X) (Q .last) (Q .inserting) (Q .stuck)
             (S .polynomial) (S .Y) (S .dual);
@@ -118,7 +118,7 @@ stored-found {p} {n} {h} {L} {w} {rows} prime₀ lanes inside level solved valid
           arith,
           absence-sizes (euclidean (residues p prime)) (systemOf p prime n m X) (Q .last) (Q .inserting) (Q .stuck)
               (S .polynomial) (S .Y) (S .dual) i l,
-          last-degrees prime lanes (Q .last) .0,
+          last-degrees prime few-rows (Q .last) .0,
         );
         killing = absence-killing (euclidean (residues p prime)) (systemOf p prime n m X) (Q .last) (Q .inserting) (Q .stuck)
             (S .polynomial) (S .Y) (S .dual);
@@ -127,17 +127,17 @@ stored-found {p} {n} {h} {L} {w} {rows} prime₀ lanes inside level solved valid
         holds-q = λ i l. replace-elim (λ i x. i < n → HoldsAt p prime (storedAbsence p n h w rows) i x)
             (λ k. polynomials (residues p prime) .neg (S .Y k)) (Q .stuck .at) (S .polynomial)
             (λ _. subst (λ k. HoldsAt p prime (storedAbsence p n h w rows) k (S .polynomial)) (sym (Q .at))
-            (holds-here p prime₀ n h lanes inside w rows valid prime (S .holds-w)))
-            i (λ ne l. holds-other p prime₀ n h lanes inside w rows valid prime i l (λ e. ne (e ∙ sym (Q .at)))
+            (holds-here p prime₀ n h few-rows inside w rows valid prime (S .holds-w)))
+            i (λ ne l. holds-other p prime₀ n h few-rows inside w rows valid prime i l (λ e. ne (e ∙ sym (Q .at)))
             (S .holds-Y i l)) l;
       };
 }
 
 -- L9
-pub absence-found : {p n h : ℕ} {L : Level} {w rows negated output : List ℕ} → Prime p → n ≤ 8 → h < 8 → ValidLevel p L
+pub absence-found : {p n h : ℕ} {L : Level} {w rows negated output : List ℕ} → Prime p → n ≤ lanes → h < lanes → ValidLevel p L
     → SecondSolved p n (withRow h L) w rows → length rows ≡ outputWords
     → negated ≡ stored (λ j. modulo p .neg (getD rows j 0)) rows 0 (blockWords * n)
     → output ≡ stored (λ j. getD w (0 + j) 0) negated (blockWords * h) blockWords → AbsenceFound p n L h output
-absence-found {p} {n} {h} {L} {w} prime₀ lanes inside level solved room negates stores =
+absence-found {p} {n} {h} {L} {w} prime₀ few-rows inside level solved room negates stores =
     subst (AbsenceFound p n L h) (sym (stores ∙ ap (λ l. stored (λ j. getD w (0 + j) 0) l (blockWords * h) blockWords) negates))
-    (stored-found prime₀ lanes inside level solved (record { room = room; below = solved .rows-below }))
+    (stored-found prime₀ few-rows inside level solved (record { room = room; below = solved .rows-below }))

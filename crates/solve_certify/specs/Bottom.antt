@@ -18,8 +18,9 @@ use Rattle.solve_lattice.specs.Output.{HoldsSolution, HoldsCertificate}
 use Rattle.solve_certify.specs.Ascended.{HoldsLevels, HoldsDescended, HoldsAscended, Ascended}
 use Rattle.solve_certify.specs.Certifies.{Certifies}
 use Rattle.solve_certify.specs.Empty.{empty-levels}
+use Rattle.solve_lattice.specs.Room.{lanes}
 
-module _ {p n m : ℕ} (few : n ≤ 8) {input : List ℕ} {L : Level} (quotients output : List ℕ) where
+module _ {p n m : ℕ} (few : n ≤ lanes) {input : List ℕ} {L : Level} (quotients output : List ℕ) where
   module _ (prime : Prime p) {X : Equations p prime n m} (H : HoldsLevels p prime n m X 0 input L) where
     solution : HoldsDescended p prime n m H quotients output → HoldsSolution p prime (systemOf p prime n m X) output
     solution D = record {
@@ -33,6 +34,7 @@ module _ {p n m : ℕ} (few : n ≤ 8) {input : List ℕ} {L : Level} (quotients
           (omega (arith, rank-le n (D .level m .size))) (D .unfinished .small (D .N) (λ j h. D .descent .small j (omega arith) h));
       reduced = descent-reduced (systemOf p prime n m X) (D .level) (D .kernel) (D .levels)
           (λ k. polynomials (residues p prime) .mul (D .d) (X .right k)) (D .vector) (D .N) (D .descent);
+      certifying = D .unfinished .certifying;
       holds-d = D .holds-d;
       holds-N = λ j h. D .holds-N j (omega arith) h;
       holds-w = D .holds-w;

@@ -16,7 +16,7 @@ use Rattle.reduction.specs.Polynomials.{associate}
 use Rattle.reduction.specs.Holds.{Holds, holds-size}
 use Rattle.reduction.specs.Flat.{Flat}
 use Rattle.solve_lattice.specs.Word.{words}
-use Rattle.solve_lattice.specs.Room.{productWords, blockWords, tailWords}
+use Rattle.solve_lattice.specs.Room.{productWords, blockWords, tailWords, lanes, mostCoefficients, mostPlaces}
 use Rattle.solve_lattice.specs.Memory.{ZeroFrom, Ends, Sums}
 use Rattle.solve_lattice.specs.Range.{words-zero, ends-most}
 use Rattle.solve_lattice.specs.Reading.{flat-same}
@@ -36,17 +36,17 @@ pub record HasTail (p : ℕ) (tail : List ℕ) : Type 0 where
 pub record HoldsDenominator (p : ℕ) (prime : Prime p) (n : ℕ) (d t : List ℕ) (x : Polynomial (residues p prime))
     (b : ℕ → Polynomial (residues p prime)) : Type 0 where
   pub denominator : Holds (residues p prime) (words p prime d 0 blockWords) x
-  pub vector : Flat (residues p prime) n 8 unweighted (words p prime t 0 productWords) (λ k. polynomials (residues p prime) .mul x (b k))
+  pub vector : Flat (residues p prime) n lanes unweighted (words p prime t 0 productWords) (λ k. polynomials (residues p prime) .mul x (b k))
 
 pub record HasDenominator (p m : ℕ) (input tail d t : List ℕ) (found : ℕ) : Type 0 where
   pub below : (i : ℕ) → getD d i 0 < p
   pub room : length t ≡ productWords
-  pub vector-sums : Sums p 2112 t
+  pub vector-sums : Sums p mostPlaces t
   pub ends : Ends p d 0 blockWords found
-  pub small : found ≤ 121
+  pub small : found ≤ mostCoefficients
   pub holds : (prime : Prime p) (n : ℕ) (x : Polynomial (residues p prime)) (some : 0 < size (residues p prime) x)
       (b : ℕ → Polynomial (residues p prime)) → Holds (residues p prime) (words p prime tail 0 tailWords) x
-      → Flat (residues p prime) n 8 unweighted (words p prime input (blockWords * m) blockWords) b
+      → Flat (residues p prime) n lanes unweighted (words p prime input (blockWords * m) blockWords) b
       → HoldsDenominator p prime n d t (polynomials (residues p prime) .mul (associate (residues p prime) x some .unit) x) b
 
 -- the words of the right side, copied
@@ -63,19 +63,19 @@ side-below {p} prime input m l copied below none = subst (λ w. (i : ℕ) → ge
 
 module _ {p : ℕ} {tail d : List ℕ} {found : ℕ} (made : MadeMonic p tail d found) where
   -- a tail has at most 121 coefficients
-  pub monic-small : ZeroFrom p tail 0 tailWords 121 → HasTail p tail → found ≤ 121
+  pub monic-small : ZeroFrom p tail 0 tailWords mostCoefficients → HasTail p tail → found ≤ mostCoefficients
   monic-small zero has = go (has .prime) (has .polynomial) (has .some) (has .holds)
     where
       go : (prime : Prime p) (x : Polynomial (residues p prime)) (some : 0 < size (residues p prime) x)
-          → Holds (residues p prime) (words p prime tail 0 tailWords) x → found ≤ 121
+          → Holds (residues p prime) (words p prime tail 0 tailWords) x → found ≤ mostCoefficients
       go prime x some A =
-          let few : size (residues p prime) x ≤ 121 =
-          holds-size (residues p prime) A 121 (words-zero p prime tail 0 tailWords 121 zero) in
-          ends-most d 0 blockWords found 121 (made .ends) (held-zero-from p prime d 0 blockWords 121 (made .holds prime x some A)
+          let few : size (residues p prime) x ≤ mostCoefficients =
+          holds-size (residues p prime) A mostCoefficients (words-zero p prime tail 0 tailWords mostCoefficients zero) in
+          ends-most d 0 blockWords found mostCoefficients (made .ends) (held-zero-from p prime d 0 blockWords mostCoefficients (made .holds prime x some A)
           (omega (arith, associate-size (sized (residues p prime)) (associate (residues p prime) x some) some)))
 
   pub denominator-made : (input : List ℕ) (m : ℕ) (l : List ℕ) {block t : List ℕ} → blockWords ≤ length l → block ≡ sideWords input m l
-      → found ≤ 121 → BlockMultiplied p d found block blockWords t → HasDenominator p m input tail d t found
+      → found ≤ mostCoefficients → BlockMultiplied p d found block blockWords t → HasDenominator p m input tail d t found
   denominator-made input m l {block} {t} room stores small multiplied = record {
     below = made .below;
     room = multiplied .room;

@@ -26,7 +26,7 @@ use Rattle.solve_lattice.specs.Range.{words-zero}
 use Rattle.solve_lattice.specs.Reading.{ends-zero}
 use Rattle.solve_lattice.specs.Coefficients.{HoldsCoefficients}
 use Rattle.solve_levels.specs.Column.{HoldsLeft, ColumnDivided}
-use Rattle.solve_lattice.specs.Room.{outputWords, blockWords}
+use Rattle.solve_lattice.specs.Room.{outputWords, blockWords, lanes}
 use Rattle.solve_certify.specs.Words.{stored-below}
 use Rattle.solve_lattice.specs.Input.{Equations, systemOf}
 use Rattle.solve_lattice.specs.Output.{ValidOutput, HoldsAt}
@@ -103,7 +103,7 @@ module _ {p : ℕ} {n m j : ℕ} {input : List ℕ} {L : Level} (inside : j < m)
     }
 
     module _ {quotients output : List ℕ} (D : HoldsDescended p prime n m (extended dropping) quotients output)
-        (room : length output ≡ outputWords) (few : m ≤ 8) where
+        (room : length output ≡ outputWords) (few : m ≤ lanes) where
       same-one : D .kernel j ≡ R .one
       unfolding dropping
       same-one = D .same-kernel j (omega arith) ∙ extended-last dropping
@@ -127,7 +127,7 @@ module _ {p : ℕ} {n m j : ℕ} {input : List ℕ} {L : Level} (inside : j < m)
           (λ i out. stored-outside (λ i. 0) output (blockWords * (1 + j)) blockWords i out)
 
   left-holds : (solved : Bool) (quotients output : List ℕ) (prime : Prime p) {X : Equations p prime n m}
-      (H : HoldsLevels p prime n m X j input L) → m ≤ 8 → length output ≡ outputWords
+      (H : HoldsLevels p prime n m X j input L) → m ≤ lanes → length output ≡ outputWords
       → HoldsAscended p prime n m solved X (extended (dropping prime H)) quotients output
       → HoldsAscended p prime n m solved X H quotients (leftOut solved output j)
   unfolding HoldsAscended leftOut
@@ -135,7 +135,7 @@ module _ {p : ℕ} {n m j : ℕ} {input : List ℕ} {L : Level} (inside : j < m)
   left-holds false quotients output prime H few room A = A
 
   -- a column left out as a whole: the columns behind it, and its numerator
-  ascended-drop : {solved : Bool} {quotients output output′ : List ℕ} → m ≤ 8
+  ascended-drop : {solved : Bool} {quotients output output′ : List ℕ} → m ≤ lanes
       → Ascended p n m (j + 1) input L quotients output solved → output′ ≡ leftOut solved output j
       → Ascended p n m j input L quotients output′ solved
   ascended-drop {solved} {quotients} {output} few A e = rw e record {

@@ -23,7 +23,7 @@ use Rattle.solve_levels.specs.Next.{NextLevel}
 use Rattle.solve_levels.specs.Column.{ColumnDivided}
 use Rattle.solve_descent.specs.Turn.{HoldsDescent, HoldsTurn, Turned}
 use Rattle.solve_lattice.specs.Input.{Equations, systemOf}
-use Rattle.solve_lattice.specs.Room.{blockWords}
+use Rattle.solve_lattice.specs.Room.{blockWords, lanes}
 use Rattle.solve_certify.specs.Ascended.{HoldsLevels, HoldsDescended}
 use Rattle.solve_certify.specs.Extending.{extended, extended-next, extended-last}
 use Rattle.solve_certify.specs.Undoing.{above, lower-level, undone, ascended-undone, ascended-none}
@@ -40,7 +40,7 @@ pub record Fallen (s : Stage) (L L′ : Level) (kernel input quotients output qu
   pub left : ℕ
   pub divided : Divided (s .modulus .p) L rest emptied quotients′ left
 
-module _ {p : ℕ} {n m j : ℕ} (few : n ≤ 8) {input : List ℕ} {L L′ : Level} {rest factors kernel : List ℕ} {left found : ℕ}
+module _ {p : ℕ} {n m j : ℕ} (few : n ≤ lanes) {input : List ℕ} {L L′ : Level} {rest factors kernel : List ℕ} {left found : ℕ}
     (inside : j < m) (C : ColumnDivided p L input (blockWords * j) rest factors left) (some : 0 < left)
     (next : NextLevel p L rest L′ kernel found) {quotients output turned cleared output′ emptied quotients′ : List ℕ} {least : ℕ}
     (T′ : Turned p L′ n kernel input (blockWords * j) quotients output (blockWords * (1 + j)) turned cleared output′)

@@ -25,7 +25,7 @@ use Rattle.reduction.specs.Filling.{filledWith, filled-with-blocks, filled-link
 use Rattle.reduction.specs.Levels.{level-of}
 use Rattle.reduction.specs.Descent.{Descent, Turn, descent-turn}
 use Rattle.solve_lattice.specs.declared.stage.Stage.{Stage}
-use Rattle.solve_lattice.specs.Room.{blockWords, slotPlaces}
+use Rattle.solve_lattice.specs.Room.{blockWords, slotPlaces, lanes, mostCoefficients}
 use Rattle.solve_lattice.specs.Memory.{row, height, Level, slotSize, slotInverse, ValidLevel}
 use Rattle.solve_lattice.specs.Sums.{sums-room}
 use Rattle.solve_lattice.specs.Reading.{ends-pivot}
@@ -89,7 +89,7 @@ module _ {p : ℕ} {n m j : ℕ} {input : List ℕ} {L : Level} (inside : j < m)
       blocks = filled-with-blocks R (row left) a (height left) (tailOf p prime L (row left)) (H .blocks);
     }
 
-    module _ (few : n ≤ 8) {quotients output quotients′ output′ : List ℕ}
+    module _ (few : n ≤ lanes) {quotients output quotients′ output′ : List ℕ}
         (low : Lowers p (row left) quotients factors output (blockWords * (1 + j)) quotients′ output′)
         (D : HoldsDescended p prime n m (extended filling) quotients output) where
       none : D .kernel j ≡ R .zero
@@ -129,7 +129,7 @@ module _ {p : ℕ} {n m j : ℕ} {input : List ℕ} {L : Level} (inside : j < m)
       }
 
       -- L6
-      short : size (residues p prime) x ≤ 121
+      short : size (residues p prime) x ≤ mostCoefficients
       short =
           let below : Descent (systemOf p prime n m X) (D .level) (D .kernel)
           (λ k. R .mul (D .d) (X .right k)) j vector (replace (D .N) j x) =

@@ -32,7 +32,7 @@ use Rattle.solve_lattice.specs.Input.{Equations, systemOf}
 use Rattle.solve_levels.specs.Begun.{ValidColumn}
 use Rattle.solve_levels.specs.Started.{Started}
 use Rattle.solve_second.specs.Solved.{HasTops}
-use Rattle.solve_lattice.specs.Room.{blockWords, tailWords}
+use Rattle.solve_lattice.specs.Room.{blockWords, tailWords, blockDegrees, lanes, mostCoefficients}
 use Rattle.solve_certify.specs.Witnessed.{HoldsLast}
 use Rattle.solve_certify.specs.Words.{words-copied}
 use Rattle.solve_certify.specs.Denominator.{sideWords, side-below}
@@ -41,7 +41,7 @@ module _ (p : ℕ) (prime : Prime p) (n m : ℕ) where
   -- the slots after the insertion into U, and the tail that is left
   pub record HoldsVanished (X : Equations p prime n m) (U : Slots (Polynomial (residues p prime))) (input : List ℕ) (L : Level)
       (tail : List ℕ) : Type 0 where
-    pub side : Flat (residues p prime) n 8 unweighted (words p prime input (blockWords * m) blockWords) (X .right)
+    pub side : Flat (residues p prime) n lanes unweighted (words p prime input (blockWords * m) blockWords) (X .right)
     pub last : reduction.Level (systemOf p prime n m X) m U
     pub inserting : Inserting (sized (residues p prime)) n unweighted U (X .right)
     pub vanishes : Vanishes (polynomials (residues p prime)) n (inserting .now .hand)
@@ -71,22 +71,22 @@ pub record HasStuck (p n : ℕ) (L : Level) (h : ℕ) : Type 0 where
   pub stuck : HoldsStuck p prime n columns equations slots L h
 
 -- slots in memory have at most 16 degrees
-pub slots-high : {p : ℕ} (prime : Prime p) {n : ℕ} {ω : ℕ → ℕ} {L : Level} {U : Slots (Polynomial (residues p prime))} → n ≤ 8
-    → ValidLevel p L → HoldsSlots p prime n ω L U → (q : ℕ) → q < n → U .size q ≤ 16
-slots-high prime {L = L} lanes valid holds q h =
+pub slots-high : {p : ℕ} (prime : Prime p) {n : ℕ} {ω : ℕ → ℕ} {L : Level} {U : Slots (Polynomial (residues p prime))} → n ≤ lanes
+    → ValidLevel p L → HoldsSlots p prime n ω L U → (q : ℕ) → q < n → U .size q ≤ blockDegrees
+slots-high prime {L = L} few-rows valid holds q h =
     let within : slotSize L q ≤ blockWords = valid .slot q (omega arith) .block .within in
     omega (arith, holds .size q h)
 
 -- L6: at most 8 slots of degree 15
 pub last-degrees : {p : ℕ} (prime : Prime p) {n m : ℕ} {X : Equations p prime n m} {U : Slots (Polynomial (residues p prime))}
-    → n ≤ 8 → reduction.Level (systemOf p prime n m X) m U → (rank n (U .size) * 15 ≤ 120) × (degrees n (U .size) ≤ 120)
-last-degrees prime {n = n} {U = U} lanes last =
-    let few : rank n (U .size) ≤ 8 = omega (arith, rank-le n (U .size)) in
+    → n ≤ lanes → reduction.Level (systemOf p prime n m X) m U → (rank n (U .size) * 15 ≤ 120) × (degrees n (U .size) ≤ 120)
+last-degrees prime {n = n} {U = U} few-rows last =
+    let few : rank n (U .size) ≤ lanes = omega (arith, rank-le n (U .size)) in
     let small : degrees n (U .size) ≤ rank n (U .size) * 15 = last .degrees-le in
     (omega arith, omega arith)
 
 module _ {p : ℕ} (prime : Prime p) {n m : ℕ} {X : Equations p prime n m} {U : Slots (Polynomial (residues p prime))}
-    (lanes : n ≤ 8) where
+    (few-rows : n ≤ lanes) where
   pub vanished-some : {input : List ℕ} {L : Level} {tail : List ℕ} (Q : HoldsVanished p prime n m X U input L tail)
       → 0 < size (residues p prime) (Q .inserting .now .hand n)
   vanished-some Q =
@@ -98,17 +98,17 @@ module _ {p : ℕ} (prime : Prime p) {n m : ℕ} {X : Equations p prime n m} {U 
   vanished-tops valid Q = record {
     prime = prime;
     bound = degrees n (U .size);
-    small = last-degrees prime lanes (Q .last) .1;
+    small = last-degrees prime few-rows (Q .last) .1;
     slots = Q .inserting .now .slots;
     holds = Q .slots;
-    tops = solution-tops (euclidean (residues p prime)) (systemOf p prime n m X) (Q .last) (Q .inserting) (Q .vanishes) 16
-        (slots-high prime lanes valid (Q .slots));
+    tops = solution-tops (euclidean (residues p prime)) (systemOf p prime n m X) (Q .last) (Q .inserting) (Q .vanishes) blockDegrees
+        (slots-high prime few-rows valid (Q .slots));
   }
 
 -- the right side inserted into a copy of L: the slots and the tail then, and how many words are left of the block
 pub record Inserted (p m : ℕ) (input : List ℕ) (L L′ : Level) (tail : List ℕ) (size : ℕ) : Type 0 where
   pub valid : ValidLevel p L′
-  pub small : ZeroFrom p tail 0 tailWords 121
+  pub small : ZeroFrom p tail 0 tailWords mostCoefficients
   pub sums : Sums p 0 tail
   pub vanished : (prime : Prime p) (n : ℕ) (X : Equations p prime n m) (H : HoldsLast p prime n m X input L) → size ≡ 0
       → HoldsVanished p prime n m X (H .slots) input L′ tail

@@ -29,7 +29,7 @@ use Rattle.solve_lattice.specs.Input.{Equations, systemOf}
 use Rattle.solve_lattice.specs.Output.{ValidOutput}
 use Rattle.solve_second.specs.Product.{Multiplied}
 use Rattle.solve_second.specs.Solved.{HoldsSecond, SecondSolved}
-use Rattle.solve_lattice.specs.Room.{outputWords, blockWords}
+use Rattle.solve_lattice.specs.Room.{outputWords, blockWords, blockDegrees, lanes}
 use Rattle.solve_certify.specs.Witnessed.{HoldsUnfinished}
 use Rattle.solve_certify.specs.Words.{stored-below, held-zero-from, held-fewer, words-copied}
 use Rattle.solve_certify.specs.Inserted.{HoldsVanished, HasVanished, slots-high, last-degrees, vanished-some}
@@ -43,12 +43,12 @@ pub record SolutionFound (p n m : ℕ) (input : List ℕ) (L L′ : Level) (tail
       → HoldsUnfinished p prime n m X U quotients output
 
 -- L2: what is left of the tail is not zero
-pub vanished-tail : {p n m : ℕ} {input : List ℕ} {L : Level} {tail : List ℕ} → n ≤ 8 → HasVanished p n m input L tail
+pub vanished-tail : {p n m : ℕ} {input : List ℕ} {L : Level} {tail : List ℕ} → n ≤ lanes → HasVanished p n m input L tail
     → HasTail p tail
-vanished-tail {n = n} lanes has = record {
+vanished-tail {n = n} few-rows has = record {
   prime = has .prime;
   polynomial = has .vanished .inserting .now .hand n;
-  some = vanished-some (has .prime) lanes (has .vanished);
+  some = vanished-some (has .prime) few-rows (has .vanished);
   holds = has .vanished .held;
 }
 
@@ -57,7 +57,7 @@ abbrev pub storedSolution : (n m : ℕ) (d w rows output : List ℕ) → List �
 storedSolution n m d w rows output = stored (λ j. getD rows (0 + j) 0)
     (stored (λ j. getD w (0 + j) 0) (stored (λ j. getD d (0 + j) 0) output 0 blockWords) (blockWords * (1 + m)) blockWords) (blockWords * (2 + m)) (blockWords * n)
 
-module _ (p : ℕ) (prime₀ : Prime p) (n m : ℕ) (lanes : n ≤ 8) (columns : m ≤ 8) (d w rows output : List ℕ)
+module _ (p : ℕ) (prime₀ : Prime p) (n m : ℕ) (few-rows : n ≤ lanes) (columns : m ≤ lanes) (d w rows output : List ℕ)
     (valid : ValidOutput p output) where
   abbrev first : List ℕ
   first = stored (λ j. getD d (0 + j) 0) output 0 blockWords
@@ -103,7 +103,7 @@ module _ (p : ℕ) (prime₀ : Prime p) (n m : ℕ) (lanes : n ≤ 8) (columns :
         (omega (arith, second-length)) (omega arith) (omega arith) (omega arith)
 
 -- the parts of the certificate
-module _ {p n m : ℕ} {input : List ℕ} {L L′ : Level} {tail d t : List ℕ} {found : ℕ} {w rows : List ℕ} (lanes : n ≤ 8)
+module _ {p n m : ℕ} {input : List ℕ} {L L′ : Level} {tail d t : List ℕ} {found : ℕ} {w rows : List ℕ} (few-rows : n ≤ lanes)
     (level : ValidLevel p L′) (has : HasDenominator p m input tail d t found) (solved : SecondSolved p n L′ w rows)
     {t′ quotients : List ℕ} {left : ℕ} (divided : Divided p L t t′ quotients left) where
   module _ (prime : Prime p) (X : Equations p prime n m) (U : Slots (Polynomial (residues p prime)))
@@ -112,20 +112,20 @@ module _ {p n m : ℕ} {input : List ℕ} {L L′ : Level} {tail d t : List ℕ}
     e = Q .inserting .now .hand n
 
     abbrev x : Polynomial (residues p prime)
-    x = polynomials (residues p prime) .mul (associate (residues p prime) e (vanished-some prime lanes Q) .unit) e
+    x = polynomials (residues p prime) .mul (associate (residues p prime) e (vanished-some prime few-rows Q) .unit) e
 
     D : HoldsDenominator p prime n d t x (X .right)
-    D = has .holds prime n e (vanished-some prime lanes Q) (X .right) (Q .held) (Q .side)
+    D = has .holds prime n e (vanished-some prime few-rows Q) (X .right) (Q .held) (Q .side)
 
     S : HoldsSecond p prime n (degrees n (U .size)) (Q .inserting .now .slots) w rows
-    S = solved .solved prime (degrees n (U .size)) (Q .inserting .now .slots) (last-degrees prime lanes (Q .last) .1) (Q .slots)
-        (solution-tops (euclidean (residues p prime)) (systemOf p prime n m X) (Q .last) (Q .inserting) (Q .vanishes) 16
-        (slots-high prime lanes level (Q .slots)))
+    S = solved .solved prime (degrees n (U .size)) (Q .inserting .now .slots) (last-degrees prime few-rows (Q .last) .1) (Q .slots)
+        (solution-tops (euclidean (residues p prime)) (systemOf p prime n m X) (Q .last) (Q .inserting) (Q .vanishes) blockDegrees
+        (slots-high prime few-rows level (Q .slots)))
 
     made : Unfinished (euclidean (residues p prime)) (systemOf p prime n m X) U x
         (polynomials (residues p prime) .mul x (S .polynomial)) (S .Y)
     made = unfinished (euclidean (residues p prime)) (systemOf p prime n m X) (Q .last) (Q .inserting) (Q .vanishes)
-        (associate (residues p prime) e (vanished-some prime lanes Q)) (S .polynomial) (S .Y) (S .monic) (S .dual)
+        (associate (residues p prime) e (vanished-some prime few-rows Q)) (S .polynomial) (S .Y) (S .monic) (S .dual)
 
     -- L8: d and w′ have together at most 122 coefficients, since their product has at most 121
     together : size (residues p prime) x + size (residues p prime) (S .polynomial) ≤ 122
@@ -136,10 +136,10 @@ module _ {p n m : ℕ} {input : List ℕ} {L L′ : Level} {tail d t : List ℕ}
         .certifying-denominator in
         omega (
           arith,
-          last-degrees prime lanes (Q .last) .0,
+          last-degrees prime few-rows (Q .last) .0,
           size-mul-nonzero (sized (residues p prime)) x (S .polynomial)
-              (associate-nonzero (sized (residues p prime)) (associate (residues p prime) e (vanished-some prime lanes Q))
-              (vanished-some prime lanes Q)) (S .dual .nonzero),
+              (associate-nonzero (sized (residues p prime)) (associate (residues p prime) e (vanished-some prime few-rows Q))
+              (vanished-some prime few-rows Q)) (S .dual .nonzero),
         )
 
     held-w : Holds (residues p prime) (words p prime w 0 (122 - found)) (S .polynomial)
@@ -150,11 +150,11 @@ module _ {p n m : ℕ} {input : List ℕ} {L L′ : Level} {tail d t : List ℕ}
         most = ends-most d 0 blockWords found (size (residues p prime) x) (has .ends)
             (held-zero-from p prime d 0 blockWords (size (residues p prime) x) (D .denominator) (omega arith))
 
-  stored-found : {product output : List ℕ} → Prime p → m ≤ 8 → Multiplied p d found w (122 - found) product
+  stored-found : {product output : List ℕ} → Prime p → m ≤ lanes → Multiplied p d found w (122 - found) product
       → ValidOutput p output → SolutionFound p n m input L L′ tail quotients (storedSolution n m d product rows output)
   stored-found {product} {output} prime₀ columns multiplied valid = record {
     below = divided .below;
-    valid = stored-valid p prime₀ n m lanes columns d product rows output valid
+    valid = stored-valid p prime₀ n m few-rows columns d product rows output valid
         (has .below) (multiplied .below) (solved .rows-below);
     holds = λ prime X U slots Q. record {
       d = x prime X U Q;
@@ -162,17 +162,17 @@ module _ {p n m : ℕ} {input : List ℕ} {L L′ : Level} {tail d t : List ℕ}
       Z = S prime X U Q .Y;
       unfinished = made prime X U Q;
       holds-d = record {
-        at = λ j. D prime X U Q .denominator .at j ∙ stored-d p prime₀ n m lanes columns d product rows output valid prime j;
+        at = λ j. D prime X U Q .denominator .at j ∙ stored-d p prime₀ n m few-rows columns d product rows output valid prime j;
       };
       holds-w = record {
         at = λ j.
             multiplied .holds prime (x prime X U Q) (S prime X U Q .polynomial)
             (held-fewer p prime d 0 blockWords found (D prime X U Q .denominator) (has .ends .within) (has .ends .behind))
             (held-w prime X U Q) .at j
-            ∙ stored-w p prime₀ n m lanes columns d product rows output valid prime j;
+            ∙ stored-w p prime₀ n m few-rows columns d product rows output valid prime j;
       };
       holds-Z = λ i h. record {
-        at = λ j. S prime X U Q .holds-Y i h .at j ∙ stored-Z p prime₀ n m lanes columns d product rows output valid prime i h j;
+        at = λ j. S prime X U Q .holds-Y i h .at j ∙ stored-Z p prime₀ n m few-rows columns d product rows output valid prime i h j;
       };
       coefficients = divided-coefficients prime divided (record {
         slots = U;
@@ -184,7 +184,7 @@ module _ {p n m : ℕ} {input : List ℕ} {L L′ : Level} {tail d t : List ℕ}
   }
 
   -- L7 and L8
-  pub solution-found : {product output output′ : List ℕ} → Prime p → m ≤ 8 → Multiplied p d found w (122 - found) product
+  pub solution-found : {product output output′ : List ℕ} → Prime p → m ≤ lanes → Multiplied p d found w (122 - found) product
       → ValidOutput p output → output′ ≡ storedSolution n m d product rows output
       → SolutionFound p n m input L L′ tail quotients output′
   solution-found prime₀ columns multiplied valid stores =

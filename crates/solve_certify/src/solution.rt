@@ -21,7 +21,7 @@ ghost use mathlib.Core.Path.{_≡_};
 ghost use Prim.Native.Nat.{_≤_};
 ghost use Rattle.residue.specs.Modulus.{ValidModulus};
 ghost use Rattle.vector.specs.Bound.{AtMost};
-ghost use Rattle.solve_lattice.specs.Room.{lanes, tailWords};
+ghost use Rattle.solve_lattice.specs.Room.{lanes, tailWords, mostCoefficients};
 ghost use Rattle.solve_lattice.specs.Memory.{ValidLevel, ZeroFrom, Sums};
 ghost use Rattle.solve_lattice.specs.Stage.{ValidStage};
 ghost use Rattle.solve_lattice.specs.Input.{ValidInput};
@@ -41,7 +41,7 @@ pub fn find_denominator(
     modulus: Modulus,
 ) -> usize
     requires { ⌜ ValidModulus modulus × (columns ≤ lanes) × ValidInput (modulus .p) (now input) ⌝ }
-    requires tail { ⌜ HasTail (modulus .p) (now tail) × ZeroFrom (modulus .p) (now tail) 0 tailWords 121
+    requires tail { ⌜ HasTail (modulus .p) (now tail) × ZeroFrom (modulus .p) (now tail) 0 tailWords mostCoefficients
         × Sums (modulus .p) 0 (now tail) ⌝ }
     requires cleared { ⌜ AtMost 0 (now t) ⌝ }
     ensures { λ r. ⌜ HasDenominator (modulus .p) columns (now (input .entry)) (now (tail .entry)) (now (d .exit))
@@ -80,7 +80,7 @@ pub fn find_solution(
 )
     requires { ⌜ ValidStage stage × ValidInput (stage .modulus .p) (now input) ⌝ }
     requires level { ⌜ ValidLevel (stage .modulus .p) (now level) × ValidLevel (stage .modulus .p) (now next) ⌝ }
-    requires tail { ⌜ ZeroFrom (stage .modulus .p) (now tail) 0 tailWords 121 × Sums (stage .modulus .p) 0 (now tail) ⌝ }
+    requires tail { ⌜ ZeroFrom (stage .modulus .p) (now tail) 0 tailWords mostCoefficients × Sums (stage .modulus .p) 0 (now tail) ⌝ }
     requires vanished { ⌜ HasVanished (stage .modulus .p) (stage .rows) (stage .columns) (now input) (now next) (now tail) ⌝ }
     requires areas { ⌜ AtMost 0 (now quotients) × ValidOutput (stage .modulus .p) (now output) ⌝ }
     ensures { λ _. ⌜ SolutionFound (stage .modulus .p) (stage .rows) (stage .columns) (now (input .entry)) (now (level .entry))

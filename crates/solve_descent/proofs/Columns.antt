@@ -26,7 +26,7 @@ use Rattle.solve_lattice.specs.Word.{residue, residue-minus, residue-zero}
 use Rattle.solve_lattice.specs.Word.{zero-residue, words, words-inside, words-behind, words-first}
 use Rattle.solve_lattice.specs.Range.{words-zero}
 use Rattle.solve_lattice.specs.Found.{found-ends}
-use Rattle.solve_lattice.specs.Room.{productWords, blockWords, tailWords}
+use Rattle.solve_lattice.specs.Room.{productWords, blockWords, tailWords, lanes, mostCoefficients}
 use Rattle.solve_descent.specs.Read.{read-zeros}
 use Rattle.solve_descent.specs.Product.{strided, less, TakesProduct}
 use Rattle.solve_descent.specs.Column.{TakesColumn}
@@ -77,17 +77,17 @@ module _ {p : ℕ} (prime₀ : Prime p) where
         }
 
     -- the words stored are those of x
-    module _ (zero : ZeroFrom p y 0 tailWords 121) (prime : Prime p) (x : Polynomial (residues p prime))
+    module _ (zero : ZeroFrom p y 0 tailWords mostCoefficients) (prime : Prime p) (x : Polynomial (residues p prime))
         (A : Holds (residues p prime) (words p prime y 0 tailWords) (polynomials (residues p prime) .neg x)) where
       coefficient-is : (j : ℕ) → coefficients (residues p prime) x j ≡ residues p prime .ring .neg (words p prime y 0 tailWords j)
       coefficient-is j =
           identity (residues p prime .ring) (coefficients (residues p prime) x j ∷ []) (λ ρ qx. search quotes depth 16) refl
           ∙ ap (residues p prime .ring .neg) (sym (coefficients-neg (residues p prime) x j) ∙ A .at j)
 
-      coefficient-none : (j : ℕ) → 121 ≤ j → coefficients (residues p prime) x j ≡ residues p prime .ring .zero
+      coefficient-none : (j : ℕ) → mostCoefficients ≤ j → coefficients (residues p prime) x j ≡ residues p prime .ring .zero
       coefficient-none j ge =
           coefficient-is j
-          ∙ ap (residues p prime .ring .neg) (words-zero p prime y 0 tailWords 121 zero j ge)
+          ∙ ap (residues p prime .ring .neg) (words-zero p prime y 0 tailWords mostCoefficients zero j ge)
           ∙ neg-zero (residues p prime .ring)
 
       word-is : (j : ℕ) → j < blockWords → residue p prime (getD h′ (a + j) 0) ≡ coefficients (residues p prime) x j
@@ -104,24 +104,24 @@ module _ {p : ℕ} (prime₀ : Prime p) where
           go j (yes lt) = sym (words-inside p prime h′ a blockWords j lt ∙ word-is j lt)
           go j (no ge) = coefficient-none j (omega arith) ∙ sym (words-behind p prime h′ a blockWords j (omega arith))
 
-      pub coordinate-read : read (residues p prime) 121 (strided p prime h′ a 1) ≡ x
-      coordinate-read = equal-coefficients (residues p prime) _ _ (λ j. go j (decLt j 121))
+      pub coordinate-read : read (residues p prime) mostCoefficients (strided p prime h′ a 1) ≡ x
+      coordinate-read = equal-coefficients (residues p prime) _ _ (λ j. go j (decLt j mostCoefficients))
         where
-          go : (j : ℕ) → Dec (j < 121) → coefficients (residues p prime)
-              (read (residues p prime) 121 (strided p prime h′ a 1)) j ≡ coefficients (residues p prime) x j
+          go : (j : ℕ) → Dec (j < mostCoefficients) → coefficients (residues p prime)
+              (read (residues p prime) mostCoefficients (strided p prime h′ a 1)) j ≡ coefficients (residues p prime) x j
           go j (yes lt) =
               let place : a + j * 1 ≡ a + j = omega arith in
-              read-at (residues p prime) 121 (strided p prime h′ a 1) j lt
+              read-at (residues p prime) mostCoefficients (strided p prime h′ a 1) j lt
               ∙ ap (λ i. residue p prime (getD h′ i 0)) place
               ∙ word-is j (omega arith)
-          go j (no ge) = read-beyond (residues p prime) 121 (strided p prime h′ a 1) j (omega arith) ∙ sym
+          go j (no ge) = read-beyond (residues p prime) mostCoefficients (strided p prime h′ a 1) j (omega arith) ∙ sym
               (coefficient-none j (omega arith))
 
       -- the coefficients from `size` on are 0
-      pub coordinate-short : (size terms : ℕ) → size ≡ length (polynomial p y 0 blockWords) → terms ≡ min size 121
+      pub coordinate-short : (size terms : ℕ) → size ≡ length (polynomial p y 0 blockWords) → terms ≡ min size mostCoefficients
           → read (residues p prime) terms (strided p prime h′ a 1) ≡ x
       coordinate-short size terms found few =
-          sym (read-zeros (residues p prime) terms 121 (strided p prime h′ a 1) (omega arith) (λ j ge lt.
+          sym (read-zeros (residues p prime) terms mostCoefficients (strided p prime h′ a 1) (omega arith) (λ j ge lt.
           let place : a + j * 1 ≡ a + j = omega arith in
           residue-zero p prime _ (ap (λ i. getD h′ i 0 % p) place
           ∙ stored-ends size found .behind j (omega arith) (omega arith))))
@@ -144,18 +144,18 @@ shift-less p prime k v x u =
 
 -- the product taken off every lane of a block
 module _ {p : ℕ} {t h : List ℕ} {a : ℕ} {columns : List ℕ} {at : ℕ} {t′ : List ℕ}
-    {terms : ℕ} (T : TakesProduct p 8 t h a 1 terms columns at blockWords t′) (few : terms ≤ 121) (room : productWords ≤ length t)
+    {terms : ℕ} (T : TakesProduct p lanes t h a 1 terms columns at blockWords t′) (few : terms ≤ mostCoefficients) (room : productWords ≤ length t)
     (prime : Prime p) (n : ℕ) (ω : ℕ → ℕ)
     (v u : ℕ → Polynomial (residues p prime)) (x : Polynomial (residues p prime))
     (is : read (residues p prime) terms (strided p prime h a 1) ≡ x)
-    (A : Flat (residues p prime) n 8 ω (words p prime t 0 productWords) v)
-    (B : Flat (residues p prime) n 8 ω (words p prime columns at blockWords) u) where
-  lane-after : (i : ℕ) → i < 8 → (y z : Polynomial (residues p prime))
-      → Holds (residues p prime) (λ e. words p prime t 0 productWords (flat 8 i e)) y
-      → Holds (residues p prime) (λ e. words p prime columns at blockWords (flat 8 i e)) z
-      → Holds (residues p prime) (λ e. words p prime t′ 0 productWords (flat 8 i e)) (less p prime y x z)
+    (A : Flat (residues p prime) n lanes ω (words p prime t 0 productWords) v)
+    (B : Flat (residues p prime) n lanes ω (words p prime columns at blockWords) u) where
+  lane-after : (i : ℕ) → i < lanes → (y z : Polynomial (residues p prime))
+      → Holds (residues p prime) (λ e. words p prime t 0 productWords (flat lanes i e)) y
+      → Holds (residues p prime) (λ e. words p prime columns at blockWords (flat lanes i e)) z
+      → Holds (residues p prime) (λ e. words p prime t′ 0 productWords (flat lanes i e)) (less p prime y x z)
   lane-after i lane y z C D = subst
-      (λ w. Holds (residues p prime) (λ e. words p prime t′ 0 productWords (flat 8 i e)) (less p prime y w z)) is
+      (λ w. Holds (residues p prime) (λ e. words p prime t′ 0 productWords (flat lanes i e)) (less p prime y w z)) is
       (T .holds productWords (omega arith) room prime i lane y z C D)
 
   abbrev 𝟘 : Polynomial (residues p prime)
@@ -165,10 +165,10 @@ module _ {p : ℕ} {t h : List ℕ} {a : ℕ} {columns : List ℕ} {at : ℕ} {t
       (residues p prime) .zero
   nothing = identity (polynomials (residues p prime)) (x ∷ []) (λ ρ qx. search quotes depth 16) refl
 
-  pub block-after : Flat (residues p prime) n 8 ω (words p prime t′ 0 productWords) (λ i. less p prime (v i) x (u i))
+  pub block-after : Flat (residues p prime) n lanes ω (words p prime t′ 0 productWords) (λ i. less p prime (v i) x (u i))
   block-after = record {
     lanes = A .lanes;
-    lane = λ i lt. subst (Holds (residues p prime) (λ e. words p prime t′ 0 productWords (flat 8 i e)))
+    lane = λ i lt. subst (Holds (residues p prime) (λ e. words p prime t′ 0 productWords (flat lanes i e)))
         (shift-less p prime (ω i) (v i) x (u i))
         (lane-after i (omega (arith, A .lanes)) _ _ (A .lane i lt) (B .lane i lt));
     beside = λ i e out lane.
@@ -181,13 +181,13 @@ module _ {p : ℕ} {t h : List ℕ} {a : ℕ} {columns : List ℕ} {at : ℕ} {t
 -- all steps of `take_column` together
 pub column-taken : {p : ℕ} → Prime p → (t h : List ℕ) (a : ℕ) (y columns : List ℕ) (at : ℕ) (t′ h′ : List ℕ) (size terms : ℕ)
     → length t ≡ productWords → a + blockWords ≤ length h → h′ ≡ stored (λ j. modulo p .neg (getD y j 0 % p)) h a blockWords
-    → size ≡ length (polynomial p y 0 blockWords) → terms ≡ min size 121 → TakesProduct p 8 t h′ a 1 terms columns at blockWords t′
+    → size ≡ length (polynomial p y 0 blockWords) → terms ≡ min size mostCoefficients → TakesProduct p lanes t h′ a 1 terms columns at blockWords t′
     → TakesColumn p t h a y columns at t′ h′
 column-taken {p} prime₀ t h a y columns at t′ h′ size terms length-is room stores found few T = record {
   length-is = T .same-length ∙ length-is;
   room = room;
   bound = λ b small i.
-      let most : terms ≤ 121 = omega arith in
+      let most : terms ≤ mostCoefficients = omega arith in
       omega (arith, T .bound b small i, mul-le-mul-right (p * p) most);
   stores = stores;
   holds = λ zero prime n ω v u x A B C. record {

@@ -22,7 +22,7 @@ use Rattle.reduction.specs.Flat.{flat}
 use Rattle.solve_lattice.specs.Memory.{ZeroFrom}
 use Rattle.solve_lattice.specs.Word.{words}
 use Rattle.solve_lattice.specs.Coefficients.{HoldsCoefficients}
-use Rattle.solve_lattice.specs.Room.{blockWords}
+use Rattle.solve_lattice.specs.Room.{blockWords, lanes, lastLane, productDegrees}
 use Rattle.solve_descent.specs.Product.{less, TakesProduct}
 use Rattle.solve_descent.specs.Combination.{lessAll, factor, TakesCombination}
 use Rattle.solve_lattice.specs.Range.{words-shorter}
@@ -40,21 +40,21 @@ module _ {p w N : ℕ} {quotients : List ℕ} {terms : ℕ → ℕ} {slots : Lis
   }
 
   module _ {q : ℕ} {y : List ℕ} (so-far : TakesCombination p w N quotients terms slots at q y₀ y) where
-    pub combination-small : q ≤ 8 → p ≤ 65521 → AtMost 0 y₀ → AtMost 281474976710656 y
+    pub combination-small : q ≤ lanes → p ≤ 65521 → AtMost 0 y₀ → AtMost 281474976710656 y
     combination-small few limit none i =
         let square : p * p ≤ 65521 * 65521 = mul-le-mul limit limit in
-        let products : 136 * (p * p) ≤ 136 * (65521 * 65521) = omega arith in
+        let products : productDegrees * (p * p) ≤ productDegrees * (65521 * 65521) = omega arith in
         omega (arith, so-far .bound 0 none i, mul-le-mul few products)
 
-    module _ {k m : ℕ} {y′ : List ℕ} (is : k ≡ terms q) (few : k ≤ 136) (inside : k * w + m ≤ N + w) (room : N ≤ length y₀)
+    module _ {k m : ℕ} {y′ : List ℕ} (is : k ≡ terms q) (few : k ≤ productDegrees) (inside : k * w + m ≤ N + w) (room : N ≤ length y₀)
         (short : m ≤ blockWords) (behind : ZeroFrom p slots (at q) blockWords m)
-        (T : TakesProduct p w y quotients (7 - q) 8 k slots (at q) m y′) where
-      bound-after : (b : ℕ) → AtMost b y₀ → AtMost (b + (q + 1) * (136 * (p * p))) y′
+        (T : TakesProduct p w y quotients (lastLane - q) lanes k slots (at q) m y′) where
+      bound-after : (b : ℕ) → AtMost b y₀ → AtMost (b + (q + 1) * (productDegrees * (p * p))) y′
       bound-after b small i = omega (
         arith,
-        T .bound (b + q * (136 * (p * p))) (so-far .bound b small) i,
+        T .bound (b + q * (productDegrees * (p * p))) (so-far .bound b small) i,
         mul-le-mul-right (p * p) few,
-        add-mul q 1 (136 * (p * p)),
+        add-mul q 1 (productDegrees * (p * p)),
       )
 
       module _ (prime : Prime p) (i : ℕ) (lane : i < w) (x : Polynomial (residues p prime)) (u : ℕ → Polynomial (residues p prime))
@@ -87,9 +87,9 @@ module _ {p w N : ℕ} {quotients : List ℕ} {terms : ℕ → ℕ} {slots : Lis
       combination-turn = record { same-length = T .same-length ∙ so-far .same-length; bound = bound-after; holds = holds-after }
 
 -- the quotients are coefficients: of the slots only the filled ones count
-module _ {p : ℕ} (prime : Prime p) {n : ℕ} (rows : n ≤ 8) {U : Slots (Polynomial (residues p prime))}
+module _ {p : ℕ} (prime : Prime p) {n : ℕ} (rows : n ≤ lanes) {U : Slots (Polynomial (residues p prime))}
     {v : ℕ → Polynomial (residues p prime)} {quotients : List ℕ} (Q : HoldsCoefficients p prime n U v quotients) (terms : ℕ → ℕ)
-    (few : (q : ℕ) → q < n → terms q ≤ 136)
+    (few : (q : ℕ) → q < n → terms q ≤ productDegrees)
     (enough : (q : ℕ) → q < n → size (residues p prime) (Q .span .coefficient q) ≤ terms q) where
   abbrev R : Ring (Polynomial (residues p prime))
   R = polynomials (residues p prime)

@@ -26,7 +26,7 @@ use Rattle.solve_lattice.specs.Word.{words, words-behind}
 use Rattle.solve_lattice.specs.Holding.{HoldsSlots}
 use Rattle.solve_lattice.specs.Reading.{holds-filled}
 use Rattle.solve_lattice.specs.Coefficients.{HoldsCoefficients}
-use Rattle.solve_lattice.specs.Room.{productWords, blockWords, slotWords}
+use Rattle.solve_lattice.specs.Room.{productWords, blockWords, slotWords, blockDegrees, lanes, productDegrees}
 use Rattle.solve_descent.specs.Degrees.{FewDegrees}
 use Rattle.solve_descent.specs.Combination.{TakesCombination}
 use Rattle.solve_descent.specs.Blocks.{mostTerms, blockTerms, CombinesBlocks}
@@ -35,22 +35,22 @@ use Rattle.solve_descent.proofs.Lanes.{quotient-size}
 use Rattle.solve_descent.proofs.Negating.{factor-negated, cleared-all}
 use Rattle.solve_descent.proofs.Combinations.{more-filled}
 
-module _ {p : ℕ} (L : Level) (valid : ValidLevel p L) {n : ℕ} (rows : n ≤ 8) {quotients : List ℕ} {degrees : ℕ}
+module _ {p : ℕ} (L : Level) (valid : ValidLevel p L) {n : ℕ} (rows : n ≤ lanes) {quotients : List ℕ} {degrees : ℕ}
     (D : FewDegrees p quotients degrees) (quotients-length : length quotients ≡ productWords) (below : (i : ℕ) → getD quotients i 0 < p)
     {negated cleared t t′ : List ℕ} (none : AtMost 0 t)
-    (negates : negated ≡ stored (λ j. modulo p .neg (getD quotients j 0)) quotients 0 (8 * degrees))
-    (C : TakesCombination p 8 productWords negated (λ q. blockTerms degrees (slotSize L q)) L (λ q. slotWords * q) n t t′)
-    (clears : cleared ≡ stored (λ j. 0) negated 0 (8 * degrees)) where
+    (negates : negated ≡ stored (λ j. modulo p .neg (getD quotients j 0)) quotients 0 (lanes * degrees))
+    (C : TakesCombination p lanes productWords negated (λ q. blockTerms degrees (slotSize L q)) L (λ q. slotWords * q) n t t′)
+    (clears : cleared ≡ stored (λ j. 0) negated 0 (lanes * degrees)) where
   module _ (prime : Prime p) (U : Slots (Polynomial (residues p prime))) (v : ℕ → Polynomial (residues p prime))
       (S : HoldsSlots p prime n unweighted L U) (Q : HoldsCoefficients p prime n U v quotients)
-      (small : (i : ℕ) → i < n → size (residues p prime) (v i) ≤ 136) where
+      (small : (i : ℕ) → i < n → size (residues p prime) (v i) ≤ productDegrees) where
     abbrev R : Ring (Polynomial (residues p prime))
     R = polynomials (residues p prime)
 
     abbrev c : ℕ → Polynomial (residues p prime)
     c = Q .span .coefficient
 
-    few : (q : ℕ) → q < n → blockTerms degrees (slotSize L q) ≤ 136
+    few : (q : ℕ) → q < n → blockTerms degrees (slotSize L q) ≤ productDegrees
     few q h = omega (arith, D .most)
 
     -- L3
@@ -64,7 +64,7 @@ module _ {p : ℕ} (L : Level) (valid : ValidLevel p L) {n : ℕ} (rows : n ≤ 
         go (no e) (no f) = omega (
           arith,
           S .size q h,
-          coefficient-size (holds-filled p prime valid S) (omega arith) (Q .span) 136 (λ k l. omega (arith, small k l)) q h
+          coefficient-size (holds-filled p prime valid S) (omega arith) (Q .span) productDegrees (λ k l. omega (arith, small k l)) q h
               (omega arith),
         )
 
@@ -73,24 +73,24 @@ module _ {p : ℕ} (L : Level) (valid : ValidLevel p L) {n : ℕ} (rows : n ≤ 
 
     -- lane i of slot q, be the slot filled or not
     abbrev lane : ℕ → ℕ → Polynomial (residues p prime)
-    lane i q = read (residues p prime) 16 (λ e. words p prime L (slotWords * q) blockWords (flat 8 i e))
+    lane i q = read (residues p prime) blockDegrees (λ e. words p prime L (slotWords * q) blockWords (flat lanes i e))
 
-    lane-held : (i q : ℕ) → Holds (residues p prime) (λ e. words p prime L (slotWords * q) blockWords (flat 8 i e)) (lane i q)
-    lane-held i q = read-holds (residues p prime) 16 _ (λ e ge. words-behind p prime L (slotWords * q) blockWords (flat 8 i e) (omega arith))
+    lane-held : (i q : ℕ) → Holds (residues p prime) (λ e. words p prime L (slotWords * q) blockWords (flat lanes i e)) (lane i q)
+    lane-held i q = read-holds (residues p prime) blockDegrees _ (λ e ge. words-behind p prime L (slotWords * q) blockWords (flat lanes i e) (omega arith))
 
     -- lane i of t, where z is what the filled slots have there
-    lane-combined : (i : ℕ) → i < 8 → (z : ℕ → Polynomial (residues p prime)) → ((q : ℕ) → q < n → 0 < U .size q → lane i q ≡ z q)
-        → Holds (residues p prime) (λ e. words p prime t′ 0 productWords (flat 8 i e)) (sum R n (λ q. R .mul (c q) (z q)))
-    lane-combined i lt z same = subst (Holds (residues p prime) (λ e. words p prime t′ 0 productWords (flat 8 i e)))
+    lane-combined : (i : ℕ) → i < lanes → (z : ℕ → Polynomial (residues p prime)) → ((q : ℕ) → q < n → 0 < U .size q → lane i q ≡ z q)
+        → Holds (residues p prime) (λ e. words p prime t′ 0 productWords (flat lanes i e)) (sum R n (λ q. R .mul (c q) (z q)))
+    lane-combined i lt z same = subst (Holds (residues p prime) (λ e. words p prime t′ 0 productWords (flat lanes i e)))
         (more-filled prime rows Q (λ q. blockTerms degrees (slotSize L q)) few enough (lane i) z same negated
         (λ q h. factor-negated D quotients-length below negates prime q (blockTerms degrees (slotSize L q)) (omega arith)
         (omega arith)))
-        (C .holds prime i lt (R .zero) (lane i) (λ q h. lane-held i q) (zeros-held p prime t none productWords (flat 8 i)))
+        (C .holds prime i lt (R .zero) (lane i) (λ q h. lane-held i q) (zeros-held p prime t none productWords (flat lanes i)))
 
-    combined-held : Flat (residues p prime) n 8 unweighted (words p prime t′ 0 productWords) v
+    combined-held : Flat (residues p prime) n lanes unweighted (words p prime t′ 0 productWords) v
     combined-held = record {
       lanes = rows;
-      lane = λ i h. subst (Holds (residues p prime) (λ e. words p prime t′ 0 productWords (flat 8 i e)))
+      lane = λ i h. subst (Holds (residues p prime) (λ e. words p prime t′ 0 productWords (flat lanes i e)))
           (sym (Q .span .equal i h) ∙ sym (shift-zero (residues p prime) (v i)))
           (lane-combined i (omega arith) (λ q. U .at q i)
           (λ q l some. holds-unique (residues p prime) (lane-held i q) (S .vector q l some .block .lane i h)
@@ -104,7 +104,7 @@ module _ {p : ℕ} (L : Level) (valid : ValidLevel p L) {n : ℕ} (rows : n ≤ 
 
   pub blocks-combined : CombinesBlocks p L n quotients cleared t′
   blocks-combined = record {
-    bound = λ i. omega (arith, C .bound 0 none i, mul-le-mul-right (136 * (p * p)) rows);
+    bound = λ i. omega (arith, C .bound 0 none i, mul-le-mul-right (productDegrees * (p * p)) rows);
     cleared = cleared-all D quotients-length below negates clears;
     holds = combined-held;
   }

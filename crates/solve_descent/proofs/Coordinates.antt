@@ -19,7 +19,7 @@ use Rattle.solve_lattice.specs.Memory.{Level}
 use Rattle.solve_lattice.specs.Word.{words, words-behind}
 use Rattle.solve_lattice.specs.Holding.{HoldsSlots}
 use Rattle.solve_lattice.specs.Coefficients.{HoldsCoefficients}
-use Rattle.solve_lattice.specs.Room.{blockWords, slotWords, tailWords}
+use Rattle.solve_lattice.specs.Room.{blockWords, slotWords, tailWords, coordinateProducts, lanes, productDegrees}
 use Rattle.solve_descent.specs.Degrees.{FewDegrees}
 use Rattle.solve_descent.specs.Product.{less}
 use Rattle.solve_descent.specs.Combination.{lessAll, factor, TakesCombination}
@@ -30,14 +30,14 @@ use Rattle.solve_descent.specs.Held.{one-lane, zeros-held}
 use Rattle.solve_descent.proofs.Lanes.{quotient-size}
 use Rattle.solve_descent.proofs.Combinations.{less-filled}
 
-module _ {p : ℕ} (L : Level) {n : ℕ} {kernel : List ℕ} {size : ℕ} {quotients y y₁ y′ : List ℕ} (rows : n ≤ 8) (none : AtMost 0 y)
+module _ {p : ℕ} (L : Level) {n : ℕ} {kernel : List ℕ} {size : ℕ} {quotients y y₁ y′ : List ℕ} (rows : n ≤ lanes) (none : AtMost 0 y)
     {degrees : ℕ} (few : FewDegrees p quotients degrees)
     (C : TakesCombination p 1 tailWords quotients (λ _. degrees) L (λ q. slotWords * q + blockWords) n y y₁)
     (K : TakesKernel p y₁ kernel size y′) where
-  bound-found : AtMost (1344 * (p * p)) y′
+  bound-found : AtMost (coordinateProducts * (p * p)) y′
   bound-found i =
-      let products = mul-le-mul-right (136 * (p * p)) rows in
-      omega (arith, K .bound (0 + n * (136 * (p * p))) (C .bound 0 none) i)
+      let products = mul-le-mul-right (productDegrees * (p * p)) rows in
+      omega (arith, K .bound (0 + n * (productDegrees * (p * p))) (C .bound 0 none) i)
 
   module _ (prime : Prime p) (ω : ℕ → ℕ) (U : Slots (Polynomial (residues p prime))) (v : ℕ → Polynomial (residues p prime))
       (u : Polynomial (residues p prime)) (S : HoldsSlots p prime n ω L U) (Q : HoldsCoefficients p prime n U v quotients)

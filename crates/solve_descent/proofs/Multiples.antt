@@ -22,7 +22,7 @@ use Rattle.solve_lattice.specs.Range.{words-same, words-zero, words-shorter}
 use Rattle.solve_lattice.specs.Reading.{holds-same}
 use Rattle.solve_lattice.specs.Found.{found-ends}
 use Rattle.solve_lattice.specs.Quotients.{HoldsQuotient}
-use Rattle.solve_lattice.specs.Room.{productWords, blockWords}
+use Rattle.solve_lattice.specs.Room.{productWords, blockWords, lanes, mostCoefficients}
 use Rattle.solve_descent.specs.Product.{strided, less, TakesProduct}
 use Rattle.solve_descent.specs.Multiple.{TakesMultiple}
 
@@ -40,15 +40,15 @@ module _ (p : ℕ) (prime : Prime p) where
 
   -- the terms that are multiplied are all of x
   module _ (y : List ℕ) (x : Polynomial (residues p prime)) (A : Holds (residues p prime) (words p prime y 0 blockWords) x)
-      (small : size (residues p prime) x ≤ 121) (found terms : ℕ) (found-is : found ≡ length (polynomial p y 0 blockWords))
-      (few : terms ≡ min found 121) where
+      (small : size (residues p prime) x ≤ mostCoefficients) (found terms : ℕ) (found-is : found ≡ length (polynomial p y 0 blockWords))
+      (few : terms ≡ min found mostCoefficients) where
     terms-read : read (residues p prime) terms (strided p prime y 0 1) ≡ x
-    terms-read = equal-coefficients (residues p prime) _ _ (λ j. go j (decLt j terms) (decLt j 121))
+    terms-read = equal-coefficients (residues p prime) _ _ (λ j. go j (decLt j terms) (decLt j mostCoefficients))
       where
         ends : Ends p y 0 blockWords found
         ends = found-ends p positive y blockWords blockWords (omega arith) (λ j ge lt. absurd (omega arith)) found found-is
 
-        go : (j : ℕ) → Dec (j < terms) → Dec (j < 121)
+        go : (j : ℕ) → Dec (j < terms) → Dec (j < mostCoefficients)
             → coefficients (residues p prime) (read (residues p prime) terms (strided p prime y 0 1)) j
             ≡ coefficients (residues p prime) x j
         go j (yes lt) h =
@@ -69,7 +69,7 @@ module _ (p : ℕ) (prime : Prime p) where
 
 -- y has no terms
 pub nothing-taken : (p : ℕ) (quotients y factors : List ℕ) (found terms : ℕ) → ((i : ℕ) → getD quotients i 0 < p)
-    → found ≡ length (polynomial p y 0 blockWords) → terms ≡ min found 121 → terms ≡ 0 → TakesMultiple p quotients y factors quotients
+    → found ≡ length (polynomial p y 0 blockWords) → terms ≡ min found mostCoefficients → terms ≡ 0 → TakesMultiple p quotients y factors quotients
 nothing-taken p quotients y factors found terms below found-is few none = record {
   same-length = refl;
   below = below;
@@ -81,16 +81,16 @@ nothing-taken p quotients y factors found terms below found-is few none = record
 -- the first m words of the factors hold all that is not 0; the terms of y times them are taken off, and what that touched is
 -- reduced
 module _ {p : ℕ} (prime₀ : Prime p) {quotients y factors q₁ q′ : List ℕ} (found terms m : ℕ)
-    (found-is : found ≡ length (polynomial p y 0 blockWords)) (few : terms ≡ min found 121)
+    (found-is : found ≡ length (polynomial p y 0 blockWords)) (few : terms ≡ min found mostCoefficients)
     (enough : length (polynomial p factors 0 blockWords) ≤ m) (fits : m ≤ blockWords)
-    (T : TakesProduct p 8 quotients y 0 1 terms factors 0 m q₁)
-    (reduces : q′ ≡ stored (λ j. getD q₁ j 0 % p) q₁ 0 (8 * terms + m - 8))
+    (T : TakesProduct p lanes quotients y 0 1 terms factors 0 m q₁)
+    (reduces : q′ ≡ stored (λ j. getD q₁ j 0 % p) q₁ 0 (lanes * terms + m - lanes))
     (room : length quotients ≡ productWords) (factors-room : length factors ≡ blockWords) (below : (i : ℕ) → getD quotients i 0 < p) where
   factors-behind : ZeroFrom p factors 0 productWords m
   factors-behind j ge lt = found-ends p (positive p prime₀) factors productWords blockWords (omega arith)
       (subst (ZeroFrom p factors 0 productWords) factors-room (zero-behind p factors productWords)) _ refl .behind j (omega arith) lt
 
-  reduced-all : (P : ℕ → ℕ → Type 0) → ((j : ℕ) → P j (getD q₁ j 0 % p)) → ((i : ℕ) → terms * 8 + m ≤ i + 8 → P i (getD q₁ i 0))
+  reduced-all : (P : ℕ → ℕ → Type 0) → ((j : ℕ) → P j (getD q₁ j 0 % p)) → ((i : ℕ) → terms * lanes + m ≤ i + lanes → P i (getD q₁ i 0))
       → (i : ℕ) → P i (getD q′ i 0)
   reduced-all P inside outside = stored-all-first P (λ j. getD q₁ j 0 % p) q₁ q′ _ reduces (omega (arith, T .same-length))
       (λ j lt. inside j) (λ i far. outside i (omega arith))
@@ -105,7 +105,7 @@ module _ {p : ℕ} (prime₀ : Prime p) {quotients y factors q₁ q′ : List �
     below = reduced-all (λ i w. w < p) (λ j. mod-lt _ (positive p prime₀)) (λ i far. omega (arith, T .behind i far, below i));
     holds = λ prime x A small i lane c f C D. subst (λ z. HoldsQuotient p prime q′ i (less p prime c z f))
         (terms-read p prime y x A small found terms found-is few)
-        (holds-same (λ e. words-same p prime q₁ q′ 0 0 productWords (flat 8 i e) (λ lt. same-residue (0 + flat 8 i e)))
+        (holds-same (λ e. words-same p prime q₁ q′ 0 0 productWords (flat lanes i e) (λ lt. same-residue (0 + flat lanes i e)))
         (T .holds productWords (omega arith) (omega arith) prime i lane c f C
-        (holds-same (λ e. words-shorter p prime factors 0 productWords m (omega arith) factors-behind (flat 8 i e)) D)));
+        (holds-same (λ e. words-shorter p prime factors 0 productWords m (omega arith) factors-behind (flat lanes i e)) D)));
   }

@@ -20,7 +20,7 @@ use Rattle.reduction.specs.Flat.{Flat}
 use Rattle.solve_lattice.specs.Memory.{Level, ZeroFrom}
 use Rattle.solve_lattice.specs.Word.{words}
 use Rattle.solve_lattice.specs.Range.{words-zero, zero-word}
-use Rattle.solve_lattice.specs.Room.{productWords, blockWords, tailWords}
+use Rattle.solve_lattice.specs.Room.{productWords, blockWords, tailWords, lanes, mostCoefficients}
 use Rattle.solve_descent.specs.Product.{less}
 use Rattle.solve_descent.specs.Kernel.{ValidKernel}
 use Rattle.solve_descent.specs.Coordinate.{Coordinate, FindsCoordinate}
@@ -40,7 +40,7 @@ module _ {p : ℕ} (L : Level) {n : ℕ} {kernel : List ℕ} {size₀ : ℕ} {co
         (A .level (suc (A .column))) (A .vector) (A .kernel (A .column)) (A .holds-slots) (A .coefficients) (A .holds-kernel)
 
     -- t has room for the vector (L6)
-    held : Flat (residues p prime) (A .system .rows) 8 unweighted (words p prime t 0 productWords) (A .vector)
+    held : Flat (residues p prime) (A .system .rows) lanes unweighted (words p prime t 0 productWords) (A .vector)
     held = subst (λ m. CombinesBlocks p L m quotients cleared t) (sym rows) Z .holds prime (A .level (suc (A .column))) (A .vector)
         (A .holds-slots) (A .coefficients)
         (λ i h. omega (
@@ -102,7 +102,7 @@ module _ {p : ℕ} (L : Level) {n : ℕ} {kernel : List ℕ} {size₀ : ℕ} {co
     D = descent-turn (A .system) (A .level) (A .kernel) (A .levels) (A .whole) (A .column) (A .inside) T (A .descent)
 
     -- L6: the coordinate has room
-    short : size (residues p prime) (polynomials (residues p prime) .neg x) ≤ 121
+    short : size (residues p prime) (polynomials (residues p prime) .neg x) ≤ mostCoefficients
     short = omega (
       arith,
       D .small (A .column) (omega arith) (A .inside),
@@ -111,7 +111,7 @@ module _ {p : ℕ} (L : Level) {n : ℕ} {kernel : List ℕ} {size₀ : ℕ} {co
       size-neg-equal (sized (residues p prime)) x,
     )
 
-    zero : ZeroFrom p y 0 tailWords 121
+    zero : ZeroFrom p y 0 tailWords mostCoefficients
     zero j ge lt = zero-word p prime y 0 tailWords j lt
         (sym (C .holds .at j) ∙ coefficients-beyond (residues p prime) (polynomials (residues p prime) .neg x) j
         (omega (arith, short)))

@@ -14,7 +14,7 @@ use Rattle.solve_lattice.specs.Memory.{Level, ZeroFrom}
 use Rattle.solve_lattice.specs.Word.{words}
 use Rattle.solve_lattice.specs.Holding.{HoldsSlots}
 use Rattle.solve_lattice.specs.Coefficients.{HoldsCoefficients}
-use Rattle.solve_lattice.specs.Room.{blockWords, tailWords}
+use Rattle.solve_lattice.specs.Room.{blockWords, tailWords, coordinateProducts}
 use Rattle.solve_descent.specs.Product.{less}
 
 -- v, with a tail, in the span of the slots U; u is the kernel
@@ -28,7 +28,7 @@ pub record Coordinate (p : ℕ) (prime : Prime p) (n : ℕ) (U : Slots (Polynomi
       (polynomials (residues p prime) .neg (less p prime tails multiple u))
 
 pub record FindsCoordinate (p : ℕ) (L : Level) (n : ℕ) (kernel : List ℕ) (size : ℕ) (quotients y : List ℕ) : Type 0 where
-  pub bound : AtMost (1344 * (p * p)) y
+  pub bound : AtMost (coordinateProducts * (p * p)) y
   pub short : 0 < size → ZeroFrom p y 0 tailWords (size - 1)
   pub finds : (prime : Prime p) (ω : ℕ → ℕ) (U : Slots (Polynomial (residues p prime))) (v : ℕ → Polynomial (residues p prime))
       (u : Polynomial (residues p prime)) → HoldsSlots p prime n ω L U → HoldsCoefficients p prime n U v quotients

@@ -12,7 +12,7 @@ use Rattle.reduction.specs.Replace.{replace}
 use Rattle.reduction.specs.Holds.{Holds}
 use Rattle.solve_lattice.specs.Word.{words}
 use Rattle.solve_lattice.specs.Quotients.{HoldsQuotient}
-use Rattle.solve_lattice.specs.Room.{blockWords}
+use Rattle.solve_lattice.specs.Room.{blockWords, lanes, mostCoefficients}
 use Rattle.solve_descent.specs.Product.{less}
 
 -- the coordinate is the quotient of slot q, and the column has the factors f and, in slot q, 1
@@ -29,8 +29,8 @@ pub record Lowers (p q : ℕ) (quotients factors output : List ℕ) (place : ℕ
   pub same-output : length output′ ≡ length output
   pub output-below : (i : ℕ) → getD output′ i 0 < p
   pub others : (i : ℕ) → (i < place) ⊎ (place + blockWords ≤ i) → getD output′ i 0 ≡ getD output i 0
-  pub holds : (prime : Prime p) (n : ℕ) → n ≤ 8 → q < n → (c f : ℕ → Polynomial (residues p prime))
+  pub holds : (prime : Prime p) (n : ℕ) → n ≤ lanes → q < n → (c f : ℕ → Polynomial (residues p prime))
       → ((i : ℕ) → i < n → HoldsQuotient p prime quotients i (c i))
       → ((i : ℕ) → i < n → HoldsQuotient p prime factors i (f i))
-      → size (residues p prime) (c q) ≤ 121 → size (residues p prime) (f q) ≤ 1
+      → size (residues p prime) (c q) ≤ mostCoefficients → size (residues p prime) (f q) ≤ 1
       → HoldsLowered p prime n q c f quotients′ output′ place

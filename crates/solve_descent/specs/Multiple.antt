@@ -10,7 +10,7 @@ use Rattle.modular.specs.Residue.{residues}
 use Rattle.reduction.specs.Holds.{Holds}
 use Rattle.solve_lattice.specs.Word.{words}
 use Rattle.solve_lattice.specs.Quotients.{HoldsQuotient}
-use Rattle.solve_lattice.specs.Room.{blockWords}
+use Rattle.solve_lattice.specs.Room.{blockWords, lanes, mostCoefficients}
 use Rattle.solve_descent.specs.Product.{less}
 
 -- What it holds is said for a polynomial x in y of at most 121 coefficients.
@@ -18,6 +18,6 @@ pub record TakesMultiple (p : ℕ) (quotients y factors quotients′ : List ℕ)
   pub same-length : length quotients′ ≡ length quotients
   pub below : (i : ℕ) → getD quotients′ i 0 < p
   pub holds : (prime : Prime p) (x : Polynomial (residues p prime)) → Holds (residues p prime) (words p prime y 0 blockWords) x
-      → size (residues p prime) x ≤ 121 → (i : ℕ) → i < 8 → (c f : Polynomial (residues p prime))
+      → size (residues p prime) x ≤ mostCoefficients → (i : ℕ) → i < lanes → (c f : Polynomial (residues p prime))
       → HoldsQuotient p prime quotients i c → HoldsQuotient p prime factors i f
       → HoldsQuotient p prime quotients′ i (less p prime c x f)

@@ -4,7 +4,7 @@ use mathlib.Core.Path.{_≡_}
 use mathlib.Core.Logic.{_⊎_}
 use mathlib.Core.List.{List}
 use lib.ListN.{length, getD}
-use Rattle.solve_lattice.specs.Room.{productWords, blockWords}
+use Rattle.solve_lattice.specs.Room.{productWords, blockWords, lanes, mostPlaces}
 use Rattle.algebra.specs.Polynomial.{Polynomial}
 use Rattle.algebra.specs.Size.{sized}
 use Rattle.modular.specs.Prime.{Prime}
@@ -43,7 +43,7 @@ module _ (p : ℕ) (prime : Prime p) where
     pub descent : Descent system level kernel whole (suc column) vector coordinates
     pub holds-slots : HoldsSlots p prime (system .rows) unweighted L (level (suc column))
     pub holds-kernel : Holds (residues p prime) (words p prime block 0 blockWords) (kernel column)
-    pub holds-column : Flat (residues p prime) (system .rows) 8 unweighted (words p prime columns at blockWords)
+    pub holds-column : Flat (residues p prime) (system .rows) lanes unweighted (words p prime columns at blockWords)
         (λ i. system .matrix i column)
     pub coefficients : HoldsCoefficients p prime (system .rows) (level (suc column)) vector quotients
 
@@ -57,13 +57,13 @@ module _ (p : ℕ) (prime : Prime p) where
     pub descent : Descent (A .system) (A .level) (A .kernel) (A .whole) (A .column) vector
         (replace (A .coordinates) (A .column) coordinate)
     pub holds-coordinate : Holds (residues p prime) (words p prime coordinates place blockWords) coordinate
-    pub holds-vector : Flat (residues p prime) (A .system .rows) 8 unweighted (words p prime t′ 0 productWords) vector
+    pub holds-vector : Flat (residues p prime) (A .system .rows) lanes unweighted (words p prime t′ 0 productWords) vector
 
 -- The vector is left in sums not reduced, and the quotients all 0: as `divide` takes them.
 pub record Turned (p : ℕ) (L : memory.Level) (n : ℕ) (kernel columns : List ℕ) (at : ℕ)
     (quotients coordinates : List ℕ) (place : ℕ) (t′ quotients′ coordinates′ : List ℕ) : Type 0 where
   pub same-length : length t′ ≡ productWords
-  pub sums : Sums p 2112 t′
+  pub sums : Sums p mostPlaces t′
   pub cleared : AtMost 0 quotients′
   pub same-coordinates : length coordinates′ ≡ length coordinates
   pub coordinates-below : (i : ℕ) → getD coordinates′ i 0 < p

@@ -5,7 +5,9 @@ use crate::product::Terms;
 use crate::product::subtract_product;
 use residue::modulus::Modulus;
 use solve_lattice::LANES;
+use solve_lattice::LAST_LANE;
 use solve_lattice::Level;
+use solve_lattice::PRODUCT_DEGREES;
 use solve_lattice::Product;
 use solve_lattice::SIZES;
 use solve_lattice::SLOT;
@@ -29,7 +31,7 @@ fn most_terms(size: usize) -> usize
     if size == 0 {
         0
     } else {
-        136 - (size - 1) / LANES
+        PRODUCT_DEGREES - (size - 1) / LANES
     }
 }
 
@@ -53,7 +55,7 @@ fn subtract_blocks(
     while q < rows {
         let size = level[SIZES + q] as usize;
         let terms = Terms {
-            at: 7 - q,
+            at: LAST_LANE - q,
             step: LANES,
             count: min(degrees, most_terms(size)),
         };

@@ -4,6 +4,7 @@ use crate::product::subtract_product;
 use residue::modulus::Modulus;
 use solve_lattice::BLOCK;
 use solve_lattice::LANES;
+use solve_lattice::LAST_LANE;
 use solve_lattice::Level;
 use solve_lattice::Product;
 use solve_lattice::SLOT;
@@ -13,7 +14,7 @@ ghost use Prim.Native.Nat.{ℕ, _+_, _*_, _<_, _≤_};
 ghost use lib.ListN.{getD};
 ghost use Rattle.residue.specs.Modulus.{ValidModulus};
 ghost use Rattle.vector.specs.Bound.{AtMost};
-ghost use Rattle.solve_lattice.specs.Room.{lanes, blockWords, slotWords, tailWords};
+ghost use Rattle.solve_lattice.specs.Room.{lanes, blockWords, slotWords, tailWords, productDegrees};
 ghost use Rattle.solve_lattice.specs.Memory.{ValidLevel};
 ghost use Rattle.solve_descent.specs.Combination.{TakesCombination};
 
@@ -26,7 +27,7 @@ pub fn subtract_combination(
     rows: usize,
     modulus: Modulus,
 )
-    requires { ⌜ ValidModulus modulus × (rows ≤ lanes) × (count ≤ 136) × ValidLevel (modulus .p) (now level) ⌝ }
+    requires { ⌜ ValidModulus modulus × (rows ≤ lanes) × (count ≤ productDegrees) × ValidLevel (modulus .p) (now level) ⌝ }
     requires zero { ⌜ AtMost 0 (now y) ⌝ }
     requires factors { ⌜ ((i : ℕ) → getD (now quotients) i 0 < modulus .p) ⌝ }
     ensures { λ _. ⌜ TakesCombination (modulus .p) 1 tailWords (now (quotients .entry)) (λ _. count) (now (level .entry))
@@ -36,7 +37,7 @@ pub fn subtract_combination(
     while q < rows {
         let size = level[TAIL_SIZES + q] as usize;
         let terms = Terms {
-            at: 7 - q,
+            at: LAST_LANE - q,
             step: LANES,
             count,
         };

@@ -5,6 +5,7 @@ use crate::product::Terms;
 use crate::product::subtract_product;
 use residue::modulus::Modulus;
 use solve_lattice::BLOCK;
+use solve_lattice::COEFFICIENTS;
 use solve_lattice::Input;
 use solve_lattice::LANES;
 use solve_lattice::Output;
@@ -15,7 +16,7 @@ ghost use Prim.Native.Nat.{ℕ, _+_, _*_, _<_, _≤_};
 ghost use lib.ListN.{getD};
 ghost use Rattle.residue.specs.Modulus.{ValidModulus};
 ghost use Rattle.vector.specs.Bound.{AtMost};
-ghost use Rattle.solve_lattice.specs.Room.{blockWords, inputWords, outputWords, combinationProducts};
+ghost use Rattle.solve_lattice.specs.Room.{blockWords, inputWords, outputWords, combinationProducts, coordinateProducts};
 ghost use Rattle.solve_descent.specs.Column.{TakesColumn};
 
 // Stores minus y, the coordinate, in `output` from `place` on, and takes the coordinate times the column, the block of `input` from
@@ -32,7 +33,7 @@ pub fn take_column(
     requires { ⌜ ValidModulus modulus × (place + blockWords ≤ outputWords) × (at + blockWords ≤ inputWords) ⌝ }
     requires block { ⌜ AtMost (combinationProducts * (modulus .p * modulus .p)) (now t) ⌝ }
     requires coordinates { ⌜ ((i : ℕ) → getD (now output) i 0 < modulus .p) ⌝ }
-    requires sums { ⌜ AtMost (1344 * (modulus .p * modulus .p)) (now y) ⌝ }
+    requires sums { ⌜ AtMost (coordinateProducts * (modulus .p * modulus .p)) (now y) ⌝ }
     requires column { ⌜ ((i : ℕ) → getD (now input) i 0 < modulus .p) ⌝ }
     ensures { λ _. ⌜ TakesColumn (modulus .p) (now (t .entry)) (now (output .entry)) place (now (y .entry)) (now (input .entry)) at
         (now (t .exit)) (now (output .exit)) ⌝ }
@@ -43,7 +44,7 @@ pub fn take_column(
     let terms = Terms {
         at: place,
         step: 1,
-        count: min(found.size, 121),
+        count: min(found.size, COEFFICIENTS),
     };
     subtract_product(t, LANES, output, terms, input, at, BLOCK, modulus);
 }

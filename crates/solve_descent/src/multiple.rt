@@ -5,7 +5,9 @@ use crate::product::subtract_product;
 use residue::modulus::Modulus;
 use solve_lattice::BLOCK;
 use solve_lattice::Block;
+use solve_lattice::COEFFICIENTS;
 use solve_lattice::LANES;
+use solve_lattice::LAST_LANE;
 use solve_lattice::Product;
 use vector::find_leading;
 use vector::reduce_range;
@@ -22,7 +24,7 @@ fn count_words(factors: &[u64], modulus: Modulus) -> usize
     requires { ⌜ ValidModulus modulus × (length (now factors) ≡ blockWords) × ((i : ℕ) → getD (now factors) i 0 < modulus .p) ⌝ }
     ensures { λ r. ⌜ (length (polynomial (modulus .p) (now (factors .entry)) 0 blockWords) ≤ r) × (r ≤ blockWords) ⌝ }
 {
-    (find_leading(factors, BLOCK, modulus).size + 7) / LANES * LANES
+    (find_leading(factors, BLOCK, modulus).size + LAST_LANE) / LANES * LANES
 }
 
 // Takes y times `factors` off `quotients` in each lane, and reduces what that touched.
@@ -34,7 +36,7 @@ pub fn subtract_multiple(quotients: &mut Product, y: &Block, factors: &[u64], mo
         (now (quotients .exit)) ⌝ }
 {
     // y has at most 121 coefficients (L6), and the quotients have no room for more
-    let count = min(find_leading(y, BLOCK, modulus).size, 121);
+    let count = min(find_leading(y, BLOCK, modulus).size, COEFFICIENTS);
     if count == 0 {
         return;
     }

@@ -1,6 +1,7 @@
 // The quotients as a whole: behind which degree they are 0.
 use residue::modulus::Modulus;
 use solve_lattice::LANES;
+use solve_lattice::LAST_LANE;
 use solve_lattice::PRODUCT;
 use solve_lattice::Product;
 use vector::find_leading;
@@ -14,5 +15,5 @@ pub fn count_degrees(quotients: &Product, modulus: Modulus) -> usize
     requires { ⌜ ValidModulus modulus × ((i : ℕ) → getD (now quotients) i 0 < modulus .p) ⌝ }
     ensures { λ r. ⌜ FewDegrees (modulus .p) (now (quotients .entry)) r ⌝ }
 {
-    (find_leading(quotients, PRODUCT, modulus).size + 7) / LANES
+    (find_leading(quotients, PRODUCT, modulus).size + LAST_LANE) / LANES
 }

@@ -22,7 +22,7 @@ use Rattle.reduction.specs.Moves.{Taken}
 use Rattle.reduction.specs.Division.{start, step, quotient, division-on}
 use Rattle.reduction.specs.Holds.{monomial}
 use Rattle.reduction.specs.Flat.{flat, flat-step}
-use Rattle.solve_lattice.specs.Room.{productWords, slotPlaces}
+use Rattle.solve_lattice.specs.Room.{productWords, slotPlaces, lanes, lastLane, mostPlaces}
 use Rattle.solve_lattice.specs.declared.step.Remains.{Remains}
 use Rattle.solve_lattice.specs.Word.{residue, residue-mod, residue-add, words, words-first}
 use Rattle.solve_lattice.specs.Memory.{row, height, Ends, Level, slotSize, Sums, ValidLevel}
@@ -38,7 +38,7 @@ pub record Dividing (p : ℕ) (L : Level) (block₀ quotients₀ block quotients
   pub same-block : length block ≡ length block₀
   pub same-quotients : length quotients ≡ length quotients₀
   -- the block has room for the degrees of its k words, and the quotients for k words
-  pub room : height k * 8 ≤ length block₀
+  pub room : height k * lanes ≤ length block₀
   pub places : k ≤ length quotients₀
   pub ends : Ends p block 0 productWords k
   pub leading : 0 < k → value ≡ getD block (k - 1) 0 % p
@@ -49,8 +49,8 @@ pub record Dividing (p : ℕ) (L : Level) (block₀ quotients₀ block quotients
 
 module _ {p : ℕ} (prime₀ : Prime p) {L : Level} {block₀ quotients₀ : List ℕ} where
   -- nothing is taken off yet, and the quotients are zero
-  pub dividing-start : {k value : ℕ} → height k * 8 ≤ length block₀ → k ≤ length quotients₀ → Ends p block₀ 0 productWords k
-      → (0 < k → value ≡ getD block₀ (k - 1) 0 % p) → Sums p 2112 block₀
+  pub dividing-start : {k value : ℕ} → height k * lanes ≤ length block₀ → k ≤ length quotients₀ → Ends p block₀ 0 productWords k
+      → (0 < k → value ≡ getD block₀ (k - 1) 0 % p) → Sums p mostPlaces block₀
       → AtMost 0 quotients₀ → Dividing p L block₀ quotients₀ block₀ quotients₀ k value
   unfolding quotient
   dividing-start {k} room places ends leading sums zeros = record {
@@ -60,7 +60,7 @@ module _ {p : ℕ} (prime₀ : Prime p) {L : Level} {block₀ quotients₀ : Lis
     places = places;
     ends = ends;
     leading = leading;
-    sums = sums-fewer p block₀ 2112 (slotPlaces + k) (omega (arith, ends .within)) sums;
+    sums = sums-fewer p block₀ mostPlaces (slotPlaces + k) (omega (arith, ends .within)) sums;
     below = λ i. omega (arith, zeros i, prime₀ .large);
     divides = λ prime n ω f. record {
       rest = f .vector;
@@ -68,7 +68,7 @@ module _ {p : ℕ} (prime₀ : Prime p) {L : Level} {block₀ quotients₀ : Lis
       holds-rest = f .holds;
       holds-quotient = λ q h. record {
         at = λ e. coefficients-zero (residues p prime) e
-            ∙ sym (words-zero p prime quotients₀ 0 productWords 0 (λ j l lt. ap (λ w. w % p) (none j) ∙ zero-mod p) (flat 8 q e)
+            ∙ sym (words-zero p prime quotients₀ 0 productWords 0 (λ j l lt. ap (λ w. w % p) (none j) ∙ zero-mod p) (flat lanes q e)
             (omega arith));
       };
     };
@@ -94,14 +94,14 @@ module _ {p : ℕ} (prime₀ : Prime p) {L : Level} {block₀ quotients₀ : Lis
   module _ {block quotients : List ℕ} {k value : ℕ} (so-far : Dividing p L block₀ quotients₀ block quotients k value)
       (S : HasStep p L block k value) {block′ : List ℕ} {r : Remains} (T : TakesMultiple p L block k value block′ r) where
     abbrev place : ℕ
-    place = k - slotSize L (row k) + (7 - row k)
+    place = k - slotSize L (row k) + (lastLane - row k)
 
     abbrev sum : ℕ
-    sum = modulo p .add (getD quotients (k - slotSize L (row k) + (7 - row k)) 0) (r .factor)
+    sum = modulo p .add (getD quotients (k - slotSize L (row k) + (lastLane - row k)) 0) (r .factor)
 
     abbrev quotients′ : List ℕ
-    quotients′ = set quotients (k - slotSize L (row k) + (7 - row k))
-        (modulo p .add (getD quotients (k - slotSize L (row k) + (7 - row k)) 0) (r .factor))
+    quotients′ = set quotients (k - slotSize L (row k) + (lastLane - row k))
+        (modulo p .add (getD quotients (k - slotSize L (row k) + (lastLane - row k)) 0) (r .factor))
 
     place-there : place < length quotients
     place-there = omega (arith, Stepping.place-inside S, so-far .places, so-far .same-quotients)
@@ -125,8 +125,8 @@ module _ {p : ℕ} (prime₀ : Prime p) {L : Level} {block₀ quotients₀ : Lis
       P : Pivot (sized (residues p prime)) n ω (D .rest) (row k) (height k)
       P = ends-pivot p prime (so-far .ends) (D .holds-rest) (S .some)
 
-      lanes : n ≤ 8
-      lanes = f .holds .lanes
+      few-rows : n ≤ lanes
+      few-rows = f .holds .lanes
 
       filled : 0 < f .slots .size (row k)
       filled = omega (arith, f .holds-slots .size (row k) (P .inside), S .filled)
@@ -152,11 +152,11 @@ module _ {p : ℕ} (prime₀ : Prime p) {L : Level} {block₀ quotients₀ : Lis
       }
 
       -- the words of the quotients
-      here : place ≡ flat 8 (row k) degree
+      here : place ≡ flat lanes (row k) degree
       here = omega (arith, Stepping.step-shift p prime S (r .factor) (T .factor))
 
-      words-here : words p prime quotients′ 0 productWords (flat 8 (row k) degree)
-          ≡ residues p prime .ring .add (words p prime quotients 0 productWords (flat 8 (row k) degree)) a
+      words-here : words p prime quotients′ 0 productWords (flat lanes (row k) degree)
+          ≡ residues p prime .ring .add (words p prime quotients 0 productWords (flat lanes (row k) degree)) a
       unfolding modulo
       words-here = subst
           (λ x. words p prime quotients′ 0 productWords x ≡ residues p prime .ring .add (words p prime quotients 0 productWords x) a)
@@ -167,7 +167,7 @@ module _ {p : ℕ} (prime₀ : Prime p) {L : Level} {block₀ quotients₀ : Lis
           ∙ residue-add p prime (getD quotients place 0) (r .factor)
           ∙ ap (λ x. residues p prime .ring .add x a) (sym (words-first p prime quotients productWords place place-inside)))
 
-      words-other : (x : ℕ) → ¬ (x ≡ flat 8 (row k) degree)
+      words-other : (x : ℕ) → ¬ (x ≡ flat lanes (row k) degree)
           → words p prime quotients′ 0 productWords x ≡ words p prime quotients 0 productWords x
       words-other x ne = words-same p prime quotients′ quotients 0 0 productWords x
           (λ lt. ap (λ w. w % p) (getD-set-other quotients place (0 + x) sum 0 (λ e. ne (omega (arith, here)))))
@@ -178,10 +178,10 @@ module _ {p : ℕ} (prime₀ : Prime p) {L : Level} {block₀ quotients₀ : Lis
       lane q h = replace-elim (λ q x. q < n → HoldsQuotient p prime quotients′ q x)
           (quotient (polynomials (residues p prime)) n (f .slots) (D .trace)) (row k) _
           (λ l. holds-monomial (residues p prime) a degree (D .holds-quotient (row k) l) words-here
-          (λ e ne. words-other (flat 8 (row k) e) (λ same. ne (omega arith))))
+          (λ e ne. words-other (flat lanes (row k) e) (λ same. ne (omega arith))))
           q
           (λ ne l. record {
-            at = λ e. D .holds-quotient q l .at e ∙ sym (words-other (flat 8 q e) (λ same. ne (omega (arith, lanes))));
+            at = λ e. D .holds-quotient q l .at e ∙ sym (words-other (flat lanes q e) (λ same. ne (omega (arith, few-rows))));
           })
           h
 
@@ -211,8 +211,8 @@ module _ {p : ℕ} (prime₀ : Prime p) {L : Level} {block₀ quotients₀ : Lis
       divides = divides;
     }
 
-    pub dividing-turn : (v : ℕ) → v ≡ modulo p .add (getD quotients (k - slotSize L (row k) + (7 - row k)) 0) (r .factor)
-        → Dividing p L block₀ quotients₀ block′ (set quotients (k - slotSize L (row k) + (7 - row k)) v) (r .size) (r .leading)
+    pub dividing-turn : (v : ℕ) → v ≡ modulo p .add (getD quotients (k - slotSize L (row k) + (lastLane - row k)) 0) (r .factor)
+        → Dividing p L block₀ quotients₀ block′ (set quotients (k - slotSize L (row k) + (lastLane - row k)) v) (r .size) (r .leading)
     dividing-turn v e = rw e turned
 
   -- where it stops: on the span of the slots only with nothing left

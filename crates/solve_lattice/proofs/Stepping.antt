@@ -17,7 +17,7 @@ use Rattle.modular.specs.Residue.{Residue, residues}
 use Rattle.residue.specs.Below.{mul-below, inverse-below}
 use Rattle.vector.specs.Stored.{stored, length-stored, stored-inside, below-or-not}
 use Rattle.vector.specs.Multiple.{sumAt}
-use Rattle.solve_lattice.specs.Room.{sizesFrom, productWords, blockWords, slotWords}
+use Rattle.solve_lattice.specs.Room.{sizesFrom, productWords, blockWords, slotWords, lanes, lastLane, mostProducts}
 use Rattle.solve_lattice.specs.Word.{residue, residue-mod, residue-mul, residue-inverse, zero-residue}
 use Rattle.solve_lattice.specs.Word.{words, words-inside, words-first}
 use Rattle.solve_lattice.specs.Memory.{row, height, ZeroFrom, Level, slotSize, slotInverse, Sums, ValidSlot}
@@ -42,7 +42,7 @@ slot-inverse-below {p} {L} {block} {k} prime S =
 
 -- the place of the factor among the quotients
 pub place-inside : {p : ℕ} {L : Level} {block : List ℕ} {k value : ℕ} → HasStep p L block k value
-    → k - slotSize L (row k) + (7 - row k) < k
+    → k - slotSize L (row k) + (lastLane - row k) < k
 place-inside {k = k} S = omega (arith, S .level .slot (row k) (omega arith) .pivot (S .filled), S .filled, S .fits)
 
 -- where the last word is known
@@ -84,11 +84,11 @@ module _ (p : ℕ) (prime : Prime p) {L : Level} {block : List ℕ} {k value : �
   size = slotSize L (row k)
 
   abbrev pub shift : ℕ
-  shift = (k - slotSize L (row k)) / 8
+  shift = (k - slotSize L (row k)) / lanes
 
   -- the words of the slot's degrees
   abbrev pub taken : ℕ
-  taken = height (slotSize L (row k)) * 8
+  taken = height (slotSize L (row k)) * lanes
 
   slot : ValidSlot p L (row k)
   slot = S .level .slot (row k) (omega arith)
@@ -97,7 +97,7 @@ module _ (p : ℕ) (prime : Prime p) {L : Level} {block : List ℕ} {k value : �
   step-factor = subst (λ x. x < p) (sym by) (mul-below p (prime .large) value (slotInverse L (row k)))
 
   -- the shift is by whole degrees
-  pub step-shift : k - slotSize L (row k) ≡ shift * 8
+  pub step-shift : k - slotSize L (row k) ≡ shift * lanes
   step-shift = omega (arith, slot .pivot (S .filled), S .fits, S .filled)
 
   pub step-word : (i : ℕ) → i < sizesFrom → getD L i 0 < p
@@ -110,14 +110,14 @@ module _ (p : ℕ) (prime : Prime p) {L : Level} {block : List ℕ} {k value : �
   step-inside : k - slotSize L (row k) + taken ≤ productWords
   step-inside = omega (arith, step-shift, S .fits, S .ends .within)
 
-  pub step-room : k - slotSize L (row k) + height (slotSize L (row k)) * 8 ≤ length block
+  pub step-room : k - slotSize L (row k) + height (slotSize L (row k)) * lanes ≤ length block
   step-room = omega (arith, step-shift, S .fits, S .room)
 
   step-fits : taken ≤ blockWords
   step-fits = omega (arith, slot .block .within)
 
   -- the words that the step takes are numbers below p
-  pub step-slot-word : (j : ℕ) → j < height (slotSize L (row k)) * 8 → getD L (slotWords * row k + j) 0 < p
+  pub step-slot-word : (j : ℕ) → j < height (slotSize L (row k)) * lanes → getD L (slotWords * row k + j) 0 < p
   step-slot-word j lt = step-word (slotWords * row k + j) (omega (arith, step-fits))
 
   step-none : ZeroFrom p L (slotWords * row k) blockWords taken
@@ -129,23 +129,23 @@ module _ (p : ℕ) (prime : Prime p) {L : Level} {block : List ℕ} {k value : �
       let positive : 0 < p = omega (arith, prime .large) in
       omega (arith, sums-room p block 1 positive sums (k - slotSize L (row k) + j), step-product (slotWords * row k + j) (omega arith))
 
-  pub step-sum : Sums p 1 block → p ≤ 65521 → (j : ℕ) → j < height (slotSize L (row k)) * 8
+  pub step-sum : Sums p 1 block → p ≤ 65521 → (j : ℕ) → j < height (slotSize L (row k)) * lanes
       → sumAt block (k - slotSize L (row k)) L (slotWords * row k) (p - a) j < 18446744073709551616
   step-sum sums limit j lt = sum-fits p _ limit (step-reduces sums j (omega (arith, step-fits)))
 
-  pub step-slot-room : slotWords * row k + height (slotSize L (row k)) * 8 ≤ length L
+  pub step-slot-room : slotWords * row k + height (slotSize L (row k)) * lanes ≤ length L
   step-slot-room = omega (arith, S .level .room, step-fits)
 
   module _ (block′ : List ℕ)
       (stores : block′ ≡ stored (sumAt block (k - slotSize L (row k)) L (slotWords * row k) (p - a)) block
-      (k - slotSize L (row k)) (height (slotSize L (row k)) * 8)) where
+      (k - slotSize L (row k)) (height (slotSize L (row k)) * lanes)) where
     abbrev d : ℕ
     d = k - slotSize L (row k)
 
     abbrev c : ℕ
     c = p - a
 
-    pub step-sums : (n : ℕ) → 0 < n → n ≤ 8190 → Sums p n block → Sums p (n - 1) block′
+    pub step-sums : (n : ℕ) → 0 < n → n ≤ mostProducts → Sums p n block → Sums p (n - 1) block′
     step-sums = sums-step p block block′ d L (slotWords * row k) taken c stores
         (λ j lt. step-product (slotWords * row k + j) (omega (arith, step-fits)))
 
@@ -169,13 +169,13 @@ module _ (p : ℕ) (prime : Prime p) {L : Level} {block : List ℕ} {k value : �
         step-inside step-room step-none step-fits
 
     -- as `flat-step` of `reduction` takes it
-    pub step-upper : (x : ℕ) → words p prime block′ 0 productWords (shift * 8 + x)
-        ≡ residues p prime .ring .add (words p prime block 0 productWords (shift * 8 + x))
+    pub step-upper : (x : ℕ) → words p prime block′ 0 productWords (shift * lanes + x)
+        ≡ residues p prime .ring .add (words p prime block 0 productWords (shift * lanes + x))
         (residues p prime .ring .neg (residues p prime .ring .mul (residue p prime a)
         (words p prime L (slotWords * row k) blockWords x)))
     step-upper = rw step-shift at upper
 
-    pub step-lower : (x : ℕ) → x < shift * 8 → words p prime block′ 0 productWords x ≡ words p prime block 0 productWords x
+    pub step-lower : (x : ℕ) → x < shift * lanes → words p prime block′ 0 productWords x ≡ words p prime block 0 productWords x
     step-lower = rw step-shift at lower
 
     -- a is the quotient of the leading words, so that the leading word goes

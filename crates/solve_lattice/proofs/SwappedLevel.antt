@@ -16,7 +16,7 @@ use Rattle.reduction.specs.Replace.{replace-other, replace-elim}
 use Rattle.reduction.specs.Slots.{Slots, put}
 use Rattle.reduction.specs.Trace.{State}
 use Rattle.reduction.specs.Held.{Held}
-use Rattle.solve_lattice.specs.Room.{levelWords, inversesFrom, tailSizesFrom, sizesFrom, productWords, blockWords, slotWords, tailWords}
+use Rattle.solve_lattice.specs.Room.{levelWords, inversesFrom, tailSizesFrom, sizesFrom, productWords, blockWords, slotWords, tailWords, lanes, mostCoefficients}
 use Rattle.solve_lattice.specs.Word.{words}
 use Rattle.solve_lattice.specs.Memory.{row, height, ZeroFrom, Ends, Level, slotSize, tailSize, slotInverse}
 use Rattle.solve_lattice.specs.Memory.{ValidSlot, ValidLevel, Memory}
@@ -31,7 +31,7 @@ use Rattle.solve_lattice.proofs.SwappedWords
 slot-of : {p : ℕ} {L : Level} (q k t i : ℕ) → slotSize L q ≡ k → tailSize L q ≡ t → slotInverse L q ≡ i
     → Ends p L (slotWords * q) blockWords k → (0 < k → row k ≡ q)
     → (0 < k → i ≡ modulo p .inverse (getD L (slotWords * q + (k - 1)) 0))
-    → t ≤ 121 → ZeroFrom p L (slotWords * q + blockWords) blockWords t → ValidSlot p L q
+    → t ≤ mostCoefficients → ZeroFrom p L (slotWords * q + blockWords) blockWords t → ValidSlot p L q
 slot-of q k t i ek et ei ends pivot inverts small behind = record {
   block = rw ek ends;
   pivot = rw ek pivot;
@@ -72,13 +72,13 @@ module _ {p : ℕ} (prime₀ : Prime p) {M : Memory} {t e m : ℕ} (E : Swap p M
       → getD (level′ p M t e m) x 0 ≡ getD L x 0
   number-other x h a b c = noted-other (slots₂ p M e m) q k t _ x a b c ∙ SwappedWords.word-outside E x (inr (omega arith))
 
-  pub size-other : (r : ℕ) → r < 8 → ¬ (r ≡ q) → slotSize (level′ p M t e m) r ≡ slotSize L r
+  pub size-other : (r : ℕ) → r < lanes → ¬ (r ≡ q) → slotSize (level′ p M t e m) r ≡ slotSize L r
   size-other r h ne = number-other (sizesFrom + r) (omega arith) (λ e. ne (omega arith)) (λ e. omega arith) (λ e. omega arith)
 
-  tail-other : (r : ℕ) → r < 8 → ¬ (r ≡ q) → tailSize (level′ p M t e m) r ≡ tailSize L r
+  tail-other : (r : ℕ) → r < lanes → ¬ (r ≡ q) → tailSize (level′ p M t e m) r ≡ tailSize L r
   tail-other r h ne = number-other (tailSizesFrom + r) (omega arith) (λ e. omega arith) (λ e. ne (omega arith)) (λ e. omega arith)
 
-  inverse-other : (r : ℕ) → r < 8 → ¬ (r ≡ q) → slotInverse (level′ p M t e m) r ≡ slotInverse L r
+  inverse-other : (r : ℕ) → r < lanes → ¬ (r ≡ q) → slotInverse (level′ p M t e m) r ≡ slotInverse L r
   inverse-other r h ne = number-other (inversesFrom + r) (omega arith) (λ e. omega arith) (λ e. omega arith) (λ e. ne (omega arith))
 
   slot-here : ValidSlot p (level′ p M t e m) q
@@ -101,17 +101,17 @@ module _ {p : ℕ} (prime₀ : Prime p) {M : Memory} {t e m : ℕ} (E : Swap p M
       go (no h) = inr (omega arith)
 
   -- of another slot the words stay, block and tail
-  block-kept : (prime : Prime p) (r : ℕ) → r < 8 → ¬ (r ≡ q)
+  block-kept : (prime : Prime p) (r : ℕ) → r < lanes → ¬ (r ≡ q)
       → (x : ℕ) → words p prime L (slotWords * r) blockWords x ≡ words p prime (level′ p M t e m) (slotWords * r) blockWords x
   block-kept prime r h ne x = sym (SwappedWords.slot-kept E prime (slotWords * r) (omega arith)
       (⊎-elim (λ lo. inl (omega arith)) (λ hi. inr (omega arith)) (apart r ne)) x)
 
-  tail-kept : (prime : Prime p) (r : ℕ) → r < 8 → ¬ (r ≡ q)
+  tail-kept : (prime : Prime p) (r : ℕ) → r < lanes → ¬ (r ≡ q)
       → (x : ℕ) → words p prime L (slotWords * r + blockWords) blockWords x ≡ words p prime (level′ p M t e m) (slotWords * r + blockWords) blockWords x
   tail-kept prime r h ne x = sym (SwappedWords.slot-kept E prime (slotWords * r + blockWords) (omega arith)
       (⊎-elim (λ lo. inl (omega arith)) (λ hi. inr (omega arith)) (apart r ne)) x)
 
-  slot-other : (r : ℕ) → r < 8 → ¬ (r ≡ q) → ValidSlot p (level′ p M t e m) r
+  slot-other : (r : ℕ) → r < lanes → ¬ (r ≡ q) → ValidSlot p (level′ p M t e m) r
   slot-other r h ne =
       let old = E .valid .level .slot r h in
       slot-of r (slotSize L r) (tailSize L r) (slotInverse L r) (size-other r h ne) (tail-other r h ne) (inverse-other r h ne)
@@ -152,7 +152,7 @@ module _ {p : ℕ} (prime₀ : Prime p) {M : Memory} {t e m : ℕ} (E : Swap p M
     slot = λ r h. each r h (ℕ-discrete r q);
   }
     where
-      each : (r : ℕ) → r < 8 → Dec (r ≡ q) → ValidSlot p (level′ p M t e m) r
+      each : (r : ℕ) → r < lanes → Dec (r ≡ q) → ValidSlot p (level′ p M t e m) r
       each r h (yes same) = subst (ValidSlot p (level′ p M t e m)) (sym same) slot-here
       each r h (no ne) = slot-other r h ne
 
@@ -162,20 +162,20 @@ module _ {p : ℕ} (prime₀ : Prime p) {M : Memory} {t e m : ℕ} (E : Swap p M
     abbrev after : Slots (Polynomial (residues p prime))
     after = put (s .slots) (row (M .hand .size)) (s .hand) (s .size)
 
-    lanes : n ≤ 8
-    lanes = holds .hand .block .lanes
+    few-rows : n ≤ lanes
+    few-rows = holds .hand .block .lanes
 
     pub level-holds : HoldsSlots p prime n ω (level′ p M t e m) (put (s .slots) (row (M .hand .size)) (s .hand) (s .size))
     level-holds = record {
       size = λ r. replace-elim (λ r d. r < n → d ≡ height (slotSize (level′ p M t e m) r)) (s .slots .size)
           (row (M .hand .size)) (s .size) (λ h. holds .size ∙ ap height (sym size-here)) r
-          (λ ne h. holds .slots .size r h ∙ ap height (sym (size-other r (omega (arith, lanes)) ne)));
+          (λ ne h. holds .slots .size r h ∙ ap height (sym (size-other r (omega (arith, few-rows)) ne)));
       vector = λ r. replace-elim
-          (λ r v. r < n → 0 < after .size r → Held (residues p prime) n 8 ω (words p prime (level′ p M t e m) (slotWords * r) blockWords)
+          (λ r v. r < n → 0 < after .size r → Held (residues p prime) n lanes ω (words p prime (level′ p M t e m) (slotWords * r) blockWords)
           (words p prime (level′ p M t e m) (slotWords * r + blockWords) blockWords) v)
           (s .slots .at) (row (M .hand .size)) (s .hand)
           (λ h f. held-same (λ x. sym (SwappedWords.block-in E prime x)) (λ x. sym (SwappedWords.tail-in E prime x)) (holds .hand))
           r
-          (λ ne h f. held-same (block-kept prime r (omega (arith, lanes)) ne) (tail-kept prime r (omega (arith, lanes)) ne)
+          (λ ne h f. held-same (block-kept prime r (omega (arith, few-rows)) ne) (tail-kept prime r (omega (arith, few-rows)) ne)
           (holds .slots .vector r h (omega (arith, replace-other (s .slots .size) (row (M .hand .size)) (s .size) r ne))));
     }

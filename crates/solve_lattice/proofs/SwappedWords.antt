@@ -10,7 +10,7 @@ use Rattle.modular.specs.Prime.{Prime}
 use Rattle.modular.specs.Modulo.{modulo}
 use Rattle.vector.specs.Stored.{stored, length-stored, stored-inside, stored-outside}
 use Rattle.vector.specs.Reduced.{polynomial}
-use Rattle.solve_lattice.specs.Room.{sizesFrom, productWords, blockWords, slotWords, tailWords}
+use Rattle.solve_lattice.specs.Room.{sizesFrom, productWords, blockWords, slotWords, tailWords, mostCoefficients}
 use Rattle.solve_lattice.specs.Word.{words}
 use Rattle.solve_lattice.specs.Noted.{noted, noted-word}
 use Rattle.solve_lattice.specs.Memory.{row, ZeroFrom, Ends, Level, slotSize, tailSize, ValidSlot, Memory, places, Valid}
@@ -78,8 +78,8 @@ module _ {p : ℕ} {M : Memory} {t e m : ℕ} (E : Swap p M t e m) where
   pub slot : ValidSlot p (M .level) (row (M .hand .size))
   slot = E .valid .level .slot (row (M .hand .size)) (omega arith)
 
-  pub tail-small : t ≤ 121
-  tail-small = ends-most (M .tail) 0 tailWords t 121 (E .tail) (E .room .tail)
+  pub tail-small : t ≤ mostCoefficients
+  tail-small = ends-most (M .tail) 0 tailWords t mostCoefficients (E .tail) (E .room .tail)
 
   pub tails-fit : m ≤ blockWords
   tails-fit = omega (arith, E .tails, tail-small, slot .tail-within)

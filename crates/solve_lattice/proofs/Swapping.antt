@@ -18,7 +18,7 @@ use Rattle.reduction.specs.Replace.{replace-here}
 use Rattle.reduction.specs.Pivot.{Pivot}
 use Rattle.reduction.specs.Slots.{put, put-here, put-same}
 use Rattle.reduction.specs.Trace.{State, Exchange, start, exchange}
-use Rattle.solve_lattice.specs.Room.{productWords, blockWords, slotWords, tailWords}
+use Rattle.solve_lattice.specs.Room.{productWords, blockWords, slotWords, tailWords, lanes}
 use Rattle.solve_lattice.specs.Memory.{row, height, Ends, Level, slotSize, tailSize, Sums, ValidSlot, Memory, memory, places}
 use Rattle.solve_lattice.specs.Memory.{ValidHand}
 use Rattle.solve_lattice.specs.Noted.{noted}
@@ -66,7 +66,7 @@ module _ {p : ℕ} (prime₀ : Prime p) {M : Memory} {t e m : ℕ} (E : Swap p M
     same-places : places M′ ≡ places M
     same-places = omega (
       arith,
-      total-change 8 q (slotSize (level′ p M t e m)) (slotSize L) (omega arith) (SwappedLevel.size-other prime₀ E),
+      total-change lanes q (slotSize (level′ p M t e m)) (slotSize L) (omega arith) (SwappedLevel.size-other prime₀ E),
       SwappedLevel.size-here prime₀ E,
       hand-size,
     )

@@ -17,7 +17,7 @@ use Rattle.reduction.specs.Slots.{same-refl}
 use Rattle.reduction.specs.Trace.{State, Step, start, step}
 use Rattle.reduction.specs.Holds.{monomial, monomial-size}
 use Rattle.reduction.specs.Held.{held-step}
-use Rattle.solve_lattice.specs.Room.{blockWords, slotWords, tailWords}
+use Rattle.solve_lattice.specs.Room.{blockWords, slotWords, tailWords, lanes, mostPlaces}
 use Rattle.solve_lattice.specs.declared.step.Remains.{Remains}
 use Rattle.solve_lattice.specs.Word.{residue, words}
 use Rattle.solve_lattice.specs.Memory.{row, height, ZeroFrom, Level, slotSize, tailSize, ValidSlot}
@@ -32,11 +32,11 @@ use Rattle.solve_lattice.specs.Moves.{Fits, Stepped}
 use Rattle.solve_lattice.proofs.Stepping
 
 -- no more than 2112 places
-pub places-most : {p : ℕ} {M : Memory} → Valid p M → places M ≤ 2112
+pub places-most : {p : ℕ} {M : Memory} → Valid p M → places M ≤ mostPlaces
 places-most {p} {M} valid = omega (
   arith,
-  total-le 8 (slotSize (M .level)) (λ q. blockWords) (λ q h. valid .level .slot q h .block .within),
-  total-constant 8 blockWords,
+  total-le lanes (slotSize (M .level)) (λ q. blockWords) (λ q h. valid .level .slot q h .block .within),
+  total-constant lanes blockWords,
   valid .hand .block .within,
 )
 
@@ -67,7 +67,7 @@ module _ {p : ℕ} (prime₀ : Prime p) {M : Memory} (valid : Valid p M) (fits :
 
   -- how many degrees the slot is moved up, and the size of its tail
   abbrev pub shift : ℕ
-  shift = (M .hand .size - slotSize (M .level) (row (M .hand .size))) / 8
+  shift = (M .hand .size - slotSize (M .level) (row (M .hand .size))) / lanes
 
   abbrev size : ℕ
   size = tailSize (M .level) (row (M .hand .size))
@@ -75,7 +75,7 @@ module _ {p : ℕ} (prime₀ : Prime p) {M : Memory} (valid : Valid p M) (fits :
   slot : ValidSlot p (M .level) (row (M .hand .size))
   slot = valid .level .slot (row (M .hand .size)) (omega arith)
 
-  whole : k - slotSize L q ≡ shift * 8
+  whole : k - slotSize L q ≡ shift * lanes
   whole = Stepping.step-shift p prime₀ S (r .factor) (T .factor)
 
   pub factor-below : r .factor < p
@@ -97,7 +97,7 @@ module _ {p : ℕ} (prime₀ : Prime p) {M : Memory} (valid : Valid p M) (fits :
       ))
 
   -- words that `add_scaled` takes of the slot's tail
-  module _ (words : ℕ) (rounded : words ≡ height size * 8) where
+  module _ (words : ℕ) (rounded : words ≡ height size * lanes) where
     pub taking-fits : words ≤ blockWords
     taking-fits = omega (arith, slot .tail-within)
 
@@ -113,7 +113,7 @@ module _ {p : ℕ} (prime₀ : Prime p) {M : Memory} (valid : Valid p M) (fits :
     taking-none : ZeroFrom p L (slotWords * q + blockWords) blockWords words
     taking-none j h lt = slot .tail j (omega arith) lt
 
-  module _ (taken : ℕ) (rounded : taken ≡ height size * 8) (tail′ : List ℕ)
+  module _ (taken : ℕ) (rounded : taken ≡ height size * lanes) (tail′ : List ℕ)
       (stores : tail′ ≡ stored (sumAt (M .tail) shift L (slotWords * q + blockWords) (p - r .factor)) (M .tail) shift taken)
       (t : ℕ) (larger : t ≡ max (M .hand .tail) (shift + size)) where
     abbrev M′ : Memory

@@ -11,7 +11,7 @@ use Rattle.modular.specs.Residue.{residues}
 use Rattle.reduction.specs.Slots.{unweighted}
 use Rattle.reduction.specs.System.{System}
 use Rattle.reduction.specs.Flat.{Flat}
-use Rattle.solve_lattice.specs.Room.{inputWords, blockWords}
+use Rattle.solve_lattice.specs.Room.{inputWords, blockWords, blockDegrees, lanes}
 use Rattle.solve_lattice.specs.Word.{words}
 
 -- room for 8 columns and the right side
@@ -24,8 +24,8 @@ module _ (p : ℕ) (prime : Prime p) (n m : ℕ) where
   pub record Equations : Type 0 where
     pub matrix : ℕ → ℕ → Polynomial (residues p prime)
     pub right : ℕ → Polynomial (residues p prime)
-    pub matrix-small : (i j : ℕ) → i < n → j < m → size (residues p prime) (matrix i j) ≤ 16
-    pub right-small : (i : ℕ) → i < n → size (residues p prime) (right i) ≤ 16
+    pub matrix-small : (i j : ℕ) → i < n → j < m → size (residues p prime) (matrix i j) ≤ blockDegrees
+    pub right-small : (i : ℕ) → i < n → size (residues p prime) (right i) ≤ blockDegrees
 
   -- as `reduction` takes them
   abbrev pub systemOf : Equations → System (sized (residues p prime))
@@ -41,5 +41,5 @@ module _ (p : ℕ) (prime : Prime p) (n m : ℕ) where
 
   pub record HoldsSystem (X : Equations) (input : List ℕ) : Type 0 where
     pub column : (j : ℕ) → j < m
-        → Flat (residues p prime) n 8 unweighted (words p prime input (blockWords * j) blockWords) (λ i. X .matrix i j)
-    pub right : Flat (residues p prime) n 8 unweighted (words p prime input (blockWords * m) blockWords) (X .right)
+        → Flat (residues p prime) n lanes unweighted (words p prime input (blockWords * j) blockWords) (λ i. X .matrix i j)
+    pub right : Flat (residues p prime) n lanes unweighted (words p prime input (blockWords * m) blockWords) (X .right)

@@ -18,7 +18,7 @@ use Rattle.reduction.specs.Trace.{State}
 use Rattle.reduction.specs.Kept.{Begins, trace-kept}
 use Rattle.reduction.specs.Insert.{Stop, Inserted}
 use Rattle.reduction.specs.Holds.{holds-size, holds-unique}
-use Rattle.solve_lattice.specs.Room.{blockWords, slotWords, tailWords}
+use Rattle.solve_lattice.specs.Room.{blockWords, slotWords, tailWords, lanes, mostCoefficients}
 use Rattle.solve_lattice.specs.Word.{words, words-first, residue-one}
 use Rattle.solve_lattice.specs.Memory.{row, height, ZeroFrom, slotSize, tailSize, Memory, Valid}
 use Rattle.solve_lattice.specs.Holding.{HoldsState, Reached, Leads}
@@ -27,7 +27,7 @@ use Rattle.solve_lattice.specs.Reading.{holds-filled, holds-zero, holds-
 use Rattle.solve_lattice.specs.Lanes.{stateOf, stateOf-held}
 
 pub record Starts (p : ℕ) (M : Memory) : Type 0 where
-  pub tails : (q : ℕ) → q < 8 → tailSize (M .level) q ≡ 0
+  pub tails : (q : ℕ) → q < lanes → tailSize (M .level) q ≡ 0
   pub tail : M .hand .tail ≡ 1
   pub one : getD (M .tail) 0 0 % p ≡ 1
 
@@ -35,7 +35,7 @@ pub record Inserts (p : ℕ) (M M′ : Memory) : Type 0 where
   pub valid : Valid p M′
   pub leads : Leads p M M′
   pub stops : 0 < M′ .hand .size → slotSize (M′ .level) (row (M′ .hand .size)) ≡ 0
-  pub tail : ZeroFrom p (M′ .tail) 0 tailWords 121
+  pub tail : ZeroFrom p (M′ .tail) 0 tailWords mostCoefficients
 
 module _ (p : ℕ) (prime : Prime p) where
   -- it is the insertion of `reduction`, and memory holds its last state
@@ -56,7 +56,7 @@ module _ (p : ℕ) (prime : Prime p) where
       tail-zero : (q : ℕ) → q < n → 0 < s .slots .size q → s .slots .at q n ≡ polynomials (residues p prime) .zero
       tail-zero q h f =
           let A = holds .slots .vector q h f in
-          let inside : q < 8 = omega (arith, A .block .lanes) in
+          let inside : q < lanes = omega (arith, A .block .lanes) in
           let behind = valid .level .slot q inside .tail in
           let none : size (residues p prime) (s .slots .at q n) ≤ 0 =
           holds-size (residues p prime) (A .tail) 0
@@ -80,22 +80,22 @@ module _ (p : ℕ) (prime : Prime p) where
       }
 
     -- blocks of at most 16 degrees: their degrees come to at most 120
-    degrees-most : degrees 8 (λ q. height (slotSize (M .level) q)) ≤ 120
+    degrees-most : degrees lanes (λ q. height (slotSize (M .level) q)) ≤ 120
     degrees-most = omega (
       arith,
-      total-le 8 (λ q. height (slotSize (M .level) q) - 1) (λ q. 15) (λ q h. omega (arith, valid .level .slot q h .block .within)),
-      total-constant 8 15,
+      total-le lanes (λ q. height (slotSize (M .level) q) - 1) (λ q. 15) (λ q h. omega (arith, valid .level .slot q h .block .within)),
+      total-constant lanes 15,
     )
 
     -- L4: the tail has room
-    pub starts-room : {M′ : Memory} → Leads p M M′ → ZeroFrom p (M′ .tail) 0 tailWords 121
+    pub starts-room : {M′ : Memory} → Leads p M M′ → ZeroFrom p (M′ .tail) 0 tailWords mostCoefficients
     starts-room {M′} leads j h lt = zero-word p prime (M′ .tail) 0 tailWords j lt
         (sym (R .holds .hand .tail .at j)
-        ∙ coefficients-beyond (residues p prime) (R .now .hand 8) j (omega (arith, small, degrees-most)))
+        ∙ coefficients-beyond (residues p prime) (R .now .hand lanes) j (omega (arith, small, degrees-most)))
       where
-        R : Reached p prime 8 unweighted (stateOf p prime M) M′
-        R = leads prime 8 unweighted (stateOf p prime M) (stateOf-held p prime M)
+        R : Reached p prime lanes unweighted (stateOf p prime M) M′
+        R = leads prime lanes unweighted (stateOf p prime M) (stateOf-held p prime M)
 
-        small : size (residues p prime) (R .now .hand 8) ≤ suc (degrees 8 (λ q. height (slotSize (M .level) q)))
+        small : size (residues p prime) (R .now .hand lanes) ≤ suc (degrees lanes (λ q. height (slotSize (M .level) q)))
         small = tails-room-hand (polynomials (residues p prime))
             (trace-kept (starts-begins (stateOf-held p prime M)) (R .trace) .tails)

@@ -11,15 +11,15 @@ use Rattle.modular.specs.Modulo.{modulo}
 use Rattle.vector.specs.Bound.{AtMost}
 use Rattle.reduction.specs.Total.{total}
 use Rattle.solve_lattice.specs.declared.hand.Hand.{Hand}
-use Rattle.solve_lattice.specs.Room.{lanes, blockWords, tailWords, slotWords, levelWords, productWords}
+use Rattle.solve_lattice.specs.Room.{lanes, blockWords, tailWords, slotWords, levelWords, productWords, lastLane, mostCoefficients, mostProducts}
 use Rattle.solve_lattice.specs.Room.{sizesFrom, tailSizesFrom, inversesFrom}
 
 -- of a flat block whose last word that counts is the k-th: the row of that word, and the number of degrees
 abbrev pub row : ℕ → ℕ
-row k = 7 - (k - 1) % 8
+row k = lastLane - (k - 1) % lanes
 
 abbrev pub height : ℕ → ℕ
-height k = (k + 7) / 8
+height k = (k + lastLane) / lanes
 
 -- of n words from b on, those from the k-th on are 0 modulo p
 abbrev pub ZeroFrom : (p : ℕ) → List ℕ → (b n k : ℕ) → Type 0
@@ -50,7 +50,7 @@ pub record ValidSlot (p : ℕ) (L : Level) (q : ℕ) : Type 0 where
   pub pivot : 0 < slotSize L q → row (slotSize L q) ≡ q
   pub inverse : 0 < slotSize L q
       → slotInverse L q ≡ modulo p .inverse (getD L (slotWords * q + (slotSize L q - 1)) 0)
-  pub tail-within : tailSize L q ≤ 121
+  pub tail-within : tailSize L q ≤ mostCoefficients
   pub tail : ZeroFrom p L (slotWords * q + blockWords) blockWords (tailSize L q)
 
 pub record ValidLevel (p : ℕ) (L : Level) : Type 0 where
@@ -61,7 +61,7 @@ pub record ValidLevel (p : ℕ) (L : Level) : Type 0 where
 -- Sums that are not reduced: a number of at most p, and so many products of two such numbers. A step adds at most one product to a
 -- word, and lowers the number n of places by at least 1, so that no counter is needed against overflow.
 abbrev pub Sums : (p n : ℕ) → List ℕ → Type 0
-Sums p n = AtMost (p + (8190 - n) * (p * p))
+Sums p n = AtMost (p + (mostProducts - n) * (p * p))
 
 -- a level, and the vector in hand
 pub record Memory : Type 0 where

@@ -6,13 +6,13 @@ use Rattle.modular.specs.Residue.{residues}
 use Rattle.algebra.specs.Polynomial.{Polynomial}
 use Rattle.reduction.specs.Slots.{put}
 use Rattle.reduction.specs.Trace.{State}
-use Rattle.solve_lattice.specs.Room.{blockWords, tailWords}
+use Rattle.solve_lattice.specs.Room.{blockWords, tailWords, lanes, mostCoefficients}
 use Rattle.solve_lattice.specs.Memory.{row, height, ZeroFrom, slotSize, tailSize, Memory, places, Valid}
 use Rattle.solve_lattice.specs.Holding.{HoldsSlots, HoldsState, Leads}
 
 -- a hand of many degrees meets short tails only, so that the step on the tail has room for all words of the slot's degrees
 abbrev pub Short : Memory → Type 0
-Short M = (q : ℕ) → q < 8 → tailSize (M .level) q + height (M .hand .size) ≤ 137
+Short M = (q : ℕ) → q < lanes → tailSize (M .level) q + height (M .hand .size) ≤ 137
 
 -- the slot at the pivot of the hand is filled and no longer than the hand
 pub record Fits (M : Memory) : Type 0 where
@@ -25,13 +25,13 @@ pub record Fits (M : Memory) : Type 0 where
 pub record HasRoom (p : ℕ) (M : Memory) : Type 0 where
   pub some : 0 < M .hand .size
   pub block : M .hand .size ≤ blockWords
-  pub tail : ZeroFrom p (M .tail) 0 tailWords 121
+  pub tail : ZeroFrom p (M .tail) 0 tailWords mostCoefficients
 
 -- an insertion can go on: the slot at the pivot of the hand is filled, and the tail has room
 pub record GoesOn (p : ℕ) (M : Memory) : Type 0 where
   pub some : 0 < M .hand .size
   pub filled : 0 < slotSize (M .level) (row (M .hand .size))
-  pub tail : ZeroFrom p (M .tail) 0 tailWords 121
+  pub tail : ZeroFrom p (M .tail) 0 tailWords mostCoefficients
   pub short : Short M
 
 -- memory stays in order and holds a state that an insertion comes to

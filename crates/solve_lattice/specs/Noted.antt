@@ -4,7 +4,7 @@ use mathlib.Core.Path.{_≡_, _∙_}
 use native.Mathlib.Omega.{arith}
 use lib.ListN.{length, getD, set, length-set}
 use lib.Seq.{getD-set-same, getD-set-other}
-use Rattle.solve_lattice.specs.Room.{levelWords, inversesFrom, tailSizesFrom, sizesFrom}
+use Rattle.solve_lattice.specs.Room.{levelWords, inversesFrom, tailSizesFrom, sizesFrom, lanes}
 use Rattle.solve_lattice.specs.Memory.{Level, slotSize, tailSize, slotInverse}
 
 -- of slot q the size k, the size t of its tail, and the inverse i
@@ -28,7 +28,7 @@ module _ (L : Level) (q k t i : ℕ) where
   pub noted-word : (x : ℕ) → x < sizesFrom → getD (noted L q k t i) x 0 ≡ getD L x 0
   noted-word x h = noted-other x (λ e. omega arith) (λ e. omega arith) (λ e. omega arith)
 
-  module _ (inside : q < 8) (room : levelWords ≤ length L) where
+  module _ (inside : q < lanes) (room : levelWords ≤ length L) where
     pub noted-size : slotSize (noted L q k t i) q ≡ k
     noted-size =
         getD-set-other L₂ (inversesFrom + q) (sizesFrom + q) i 0 (λ e. omega arith)

@@ -14,8 +14,9 @@ use Rattle.reduction.specs.Holds.{Holds}
 use Rattle.reduction.specs.Polynomials.{euclidean}
 use Rattle.reduction.specs.Certificate.{RightSolution, SmallSolution, RightAbsence, SmallAbsence}
 use Rattle.reduction.specs.Numerators.{ReducedNumerators}
+use Rattle.reduction.specs.Certifying.{Certifying}
 use Rattle.reduction.specs.Killing.{Killing}
-use Rattle.solve_lattice.specs.Room.{outputWords, blockWords}
+use Rattle.solve_lattice.specs.Room.{outputWords, blockWords, mostCoefficients}
 use Rattle.solve_lattice.specs.Word.{words}
 
 -- room for 18 polynomials
@@ -40,8 +41,9 @@ module _ (p : ℕ) (prime : Prime p) where
       pub w : Polynomial (residues p prime)
       pub Z : ℕ → Polynomial (residues p prime)
       pub right : RightSolution (euclidean (residues p prime)) T d N w Z
-      pub small : SmallSolution (euclidean (residues p prime)) T 121 d N w Z
+      pub small : SmallSolution (euclidean (residues p prime)) T mostCoefficients d N w Z
       pub reduced : ReducedNumerators (sized (residues p prime)) (T .rows) (T .columns) (T .matrix) N
+      pub certifying : Certifying (sized (residues p prime)) (T .rows) (T .columns) (T .matrix) (T .right) d w Z
       pub holds-d : HoldsAt output 0 d
       pub holds-N : (j : ℕ) → j < T .columns → HoldsAt output (1 + j) (N j)
       pub holds-w : HoldsAt output (1 + T .columns) w
@@ -51,7 +53,7 @@ module _ (p : ℕ) (prime : Prime p) where
     pub record HoldsAbsence : Type 0 where
       pub q : ℕ → Polynomial (residues p prime)
       pub right : RightAbsence (euclidean (residues p prime)) T q
-      pub small : SmallAbsence (euclidean (residues p prime)) T 121 q
+      pub small : SmallAbsence (euclidean (residues p prime)) T mostCoefficients q
       pub killing : Killing (sized (residues p prime)) (T .rows) (T .columns) (T .matrix) (T .right) q
       pub monic : Monic (residues p prime) (q (killing .at))
       pub holds-q : (i : ℕ) → i < T .rows → HoldsAt output i (q i)

@@ -11,14 +11,14 @@ use Rattle.reduction.specs.Span.{InSpan}
 use Rattle.reduction.specs.Division.{Division, quotient}
 use Rattle.reduction.specs.Holds.{Holds}
 use Rattle.reduction.specs.Flat.{Flat, flat}
-use Rattle.solve_lattice.specs.Room.{productWords, slotPlaces}
+use Rattle.solve_lattice.specs.Room.{productWords, slotPlaces, lanes}
 use Rattle.solve_lattice.specs.Word.{words}
 use Rattle.solve_lattice.specs.Memory.{Level, Ends, Sums}
 use Rattle.solve_lattice.specs.Holding.{HoldsSlots}
 
 -- the array of lane 7 - q
 abbrev pub HoldsQuotient : (p : ℕ) (prime : Prime p) → List ℕ → ℕ → Polynomial (residues p prime) → Type 0
-HoldsQuotient p prime l q = Holds (residues p prime) (λ e. words p prime l 0 productWords (flat 8 q e))
+HoldsQuotient p prime l q = Holds (residues p prime) (λ e. words p prime l 0 productWords (flat lanes q e))
 
 module _ (p : ℕ) (prime : Prime p) (n : ℕ) (ω : ℕ → ℕ) where
   -- f divided by the slots U as far as it has come
@@ -26,7 +26,7 @@ module _ (p : ℕ) (prime : Prime p) (n : ℕ) (ω : ℕ → ℕ) where
       (block quotients : List ℕ) : Type 0 where
     pub rest : ℕ → Polynomial (residues p prime)
     pub trace : Division (polynomials (residues p prime)) n U f rest
-    pub holds-rest : Flat (residues p prime) n 8 ω (words p prime block 0 productWords) rest
+    pub holds-rest : Flat (residues p prime) n lanes ω (words p prime block 0 productWords) rest
     pub holds-quotient : (q : ℕ) → q < n → HoldsQuotient p prime quotients q (quotient (polynomials (residues p prime)) n U trace q)
 
   -- memory holds slots and a vector to divide
@@ -34,7 +34,7 @@ module _ (p : ℕ) (prime : Prime p) (n : ℕ) (ω : ℕ → ℕ) where
     pub slots : Slots (Polynomial (residues p prime))
     pub vector : ℕ → Polynomial (residues p prime)
     pub holds-slots : HoldsSlots p prime n ω L slots
-    pub holds : Flat (residues p prime) n 8 ω (words p prime block 0 productWords) vector
+    pub holds : Flat (residues p prime) n lanes ω (words p prime block 0 productWords) vector
 
 -- What is left of the block has so many words, none where the vector is in the span of the slots. It may be inserted into them as
 -- it is: its sums have room for all places of the slots and its own.

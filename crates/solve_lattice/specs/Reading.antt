@@ -22,6 +22,7 @@ use Rattle.solve_lattice.specs.Word.{words}
 use Rattle.solve_lattice.specs.Memory.{row, height, Ends, Level, slotSize, ValidLevel, Memory, ValidHand}
 use Rattle.solve_lattice.specs.Holding.{HoldsSlots, HoldsState}
 use Rattle.solve_lattice.specs.Range.{words-zero, zero-word}
+use Rattle.solve_lattice.specs.Room.{lanes}
 
 -- arrays of equal residues hold the same polynomial, and the same vectors
 pub holds-same : {K : Type 0} {F : Field K} {H H′ : ℕ → K} {x : Polynomial F} → ((e : ℕ) → H e ≡ H′ e) → Holds F H x → Holds F H′ x
@@ -43,7 +44,7 @@ module _ (p : ℕ) (prime : Prime p) where
   F = residues p prime
 
   module _ {n : ℕ} {ω : ℕ → ℕ} {l : List ℕ} {b N k : ℕ} {v : ℕ → Polynomial (residues p prime)} (ends : Ends p l b N k)
-      (A : Flat (residues p prime) n 8 ω (words p prime l b N) v) where
+      (A : Flat (residues p prime) n lanes ω (words p prime l b N) v) where
     pub ends-pivot : 0 < k → Pivot (sized F) n ω v (row k) (height k)
     ends-pivot some = subst₂ (λ q d. Pivot (sized F) n ω v q d) (omega arith) (omega arith)
         (flat-pivot F A (k - 1) (omega arith) nonzero (λ x h. words-zero p prime l b N k (ends .behind) x (omega arith)))

@@ -50,3 +50,30 @@ mostFactors = 256
 
 abbrev pub combinationProducts : ℕ
 combinationProducts = 1088
+
+-- the last lane, where row 0 stands: row i is in lane lastLane - i
+abbrev pub lastLane : ℕ
+lastLane = 7
+
+-- degrees of a block, and of a long block
+abbrev pub blockDegrees : ℕ
+blockDegrees = 16
+
+abbrev pub productDegrees : ℕ
+productDegrees = 136
+
+-- coefficients of a polynomial of a certificate, and of a tail on the way
+abbrev pub mostCoefficients : ℕ
+mostCoefficients = 121
+
+-- places that the slots and the hand have together, the most steps of an insertion
+abbrev pub mostPlaces : ℕ
+mostPlaces = 2112
+
+-- products that a word has room for, beside a number below p
+abbrev pub mostProducts : ℕ
+mostProducts = 8190
+
+-- products in a word of a coordinate
+abbrev pub coordinateProducts : ℕ
+coordinateProducts = 1344

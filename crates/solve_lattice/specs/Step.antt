@@ -9,14 +9,14 @@ use Rattle.modular.specs.Modulo.{modulo}
 use Rattle.residue.specs.Sum.{SmallSum}
 use Rattle.vector.specs.Stored.{stored}
 use Rattle.vector.specs.Multiple.{sumAt}
-use Rattle.solve_lattice.specs.Room.{productWords, slotWords}
+use Rattle.solve_lattice.specs.Room.{productWords, slotWords, lanes}
 use Rattle.solve_lattice.specs.declared.step.Remains.{Remains}
 use Rattle.solve_lattice.specs.Memory.{row, height, ZeroFrom, Ends, Level, slotSize, slotInverse, ValidLevel}
 
 -- k is the size of the block, value its leading word modulo p
 pub record HasStep (p : ℕ) (L : Level) (block : List ℕ) (k value : ℕ) : Type 0 where
   pub level : ValidLevel p L
-  pub room : height k * 8 ≤ length block
+  pub room : height k * lanes ≤ length block
   pub ends : Ends p block 0 productWords k
   pub some : 0 < k
   pub leading : value ≡ getD block (k - 1) 0 % p
@@ -31,7 +31,7 @@ factorOf p L k value = modulo p .mul value (slotInverse L (row k))
 pub record TakesMultiple (p : ℕ) (L : Level) (block : List ℕ) (k value : ℕ) (block′ : List ℕ) (r : Remains) : Type 0 where
   pub factor : r .factor ≡ factorOf p L k value
   pub words : block′ ≡ stored (sumAt block (k - slotSize L (row k)) L (slotWords * row k) (p - r .factor)) block
-      (k - slotSize L (row k)) (height (slotSize L (row k)) * 8)
+      (k - slotSize L (row k)) (height (slotSize L (row k)) * lanes)
   pub ends : Ends p block′ 0 productWords (r .size)
   pub leading : 0 < r .size → r .leading ≡ getD block′ (r .size - 1) 0 % p
   pub fewer : r .size < k
@@ -56,7 +56,7 @@ pub record Left (p : ℕ) (block : List ℕ) (n size value : ℕ) : Type 0 where
 pub record Takes (p : ℕ) (L : Level) (block : List ℕ) (k value : ℕ) (block′ : List ℕ) (r : Remains) : Type 0 where
   pub factor : r .factor ≡ factorOf p L k value
   pub words : block′ ≡ stored (sumAt block (k - slotSize L (row k)) L (slotWords * row k) (p - r .factor)) block
-      (k - slotSize L (row k)) (height (slotSize L (row k)) * 8)
+      (k - slotSize L (row k)) (height (slotSize L (row k)) * lanes)
   pub size : r .size ≡ k - 1
   pub rest : Rest p block′ (r .size) (r .leading) (r .unseen)
 

@@ -11,24 +11,25 @@ use Rattle.vector.specs.Stored.{stored}
 use Rattle.vector.specs.Multiple.{sumAt}
 use Rattle.vector.specs.Bound.{at-most-sum, at-most-stored}
 use Rattle.solve_lattice.specs.Memory.{Sums}
+use Rattle.solve_lattice.specs.Room.{mostProducts}
 
 module _ (p : ℕ) (l : List ℕ) where
   pub sums-room : (n : ℕ) → 0 < p → Sums p n l → (i : ℕ) → SmallSum p (getD l i 0 + p * p)
   sums-room n positive sums i =
-      let le : 8190 - n ≤ 8190 = omega arith in
+      let le : mostProducts - n ≤ mostProducts = omega arith in
       omega (arith, sums i, mul-le-mul-right (p * p) le, mul-le-mul-right p positive)
 
   pub sums-fewer : (m n : ℕ) → n ≤ m → Sums p m l → Sums p n l
   sums-fewer m n le sums i =
-      let more : 8190 - m ≤ 8190 - n = omega arith in
+      let more : mostProducts - m ≤ mostProducts - n = omega arith in
       omega (arith, sums i, mul-le-mul-right (p * p) more)
 
   pub sums-step : (l′ : List ℕ) (d : ℕ) (s : List ℕ) (b m c : ℕ) → l′ ≡ stored (sumAt l d s b c) l d m
-      → ((j : ℕ) → j < m → c * getD s (b + j) 0 ≤ p * p) → (n : ℕ) → 0 < n → n ≤ 8190 → Sums p n l → Sums p (n - 1) l′
+      → ((j : ℕ) → j < m → c * getD s (b + j) 0 ≤ p * p) → (n : ℕ) → 0 < n → n ≤ mostProducts → Sums p n l → Sums p (n - 1) l′
   sums-step l′ d s b m c stores products n some most sums i =
-      let more : 8190 - (n - 1) ≡ 8190 - n + 1 = omega arith in
-      let grown = at-most-sum (p + (8190 - n) * (p * p)) (p * p) l d s b m c sums products i in
-      rw (stores, more) (omega (arith, grown, add-mul (8190 - n) 1 (p * p)))
+      let more : mostProducts - (n - 1) ≡ mostProducts - n + 1 = omega arith in
+      let grown = at-most-sum (p + (mostProducts - n) * (p * p)) (p * p) l d s b m c sums products i in
+      rw (stores, more) (omega (arith, grown, add-mul (mostProducts - n) 1 (p * p)))
 
   -- numbers of at most p stored over some words
   pub sums-stored : (f : ℕ → ℕ) (d m n : ℕ) → ((j : ℕ) → j < m → f j ≤ p) → Sums p n l → Sums p n (stored f l d m)

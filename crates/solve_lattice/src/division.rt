@@ -1,5 +1,6 @@
 // A vector divided by the slots of a level.
 use crate::room::LANES;
+use crate::room::LAST_LANE;
 use crate::room::Level;
 use crate::room::SIZES;
 use crate::step::find_rest;
@@ -10,7 +11,7 @@ ghost use Prim.Native.Nat.{_*_, _≤_};
 ghost use lib.ListN.{length};
 ghost use Rattle.residue.specs.Modulus.{ValidModulus};
 ghost use Rattle.vector.specs.Bound.{AtMost};
-ghost use Rattle.solve_lattice.specs.Room.{lanes, productWords};
+ghost use Rattle.solve_lattice.specs.Room.{lanes, productWords, mostPlaces};
 ghost use Rattle.solve_lattice.specs.Memory.{height, ValidLevel, ZeroFrom, Sums};
 ghost use Rattle.solve_lattice.specs.Quotients.{Divided};
 
@@ -26,7 +27,7 @@ pub fn divide(
 ) -> usize
     requires { ⌜ ValidModulus modulus × ValidLevel (modulus .p) (now level) ⌝ }
     requires block { ⌜ (height n * lanes ≤ length (now block)) × (n ≤ productWords)
-        × ZeroFrom (modulus .p) (now block) 0 productWords n × Sums (modulus .p) 2112 (now block) ⌝ }
+        × ZeroFrom (modulus .p) (now block) 0 productWords n × Sums (modulus .p) mostPlaces (now block) ⌝ }
     requires quotients { ⌜ (n ≤ length (now quotients)) × AtMost 0 (now quotients) ⌝ }
     ensures { λ r. ⌜ Divided (modulus .p) (now (level .entry)) (now (block .entry)) (now (block .exit))
         (now (quotients .exit)) r ⌝ }
@@ -34,7 +35,7 @@ pub fn divide(
     let mut found = find_leading(block, n, modulus);
     while 0 < found.size {
         let k = found.size;
-        let q = 7 - (k - 1) % LANES;
+        let q = LAST_LANE - (k - 1) % LANES;
         let size = level[SIZES + q] as usize;
         if size == 0 {
             return k;
@@ -43,7 +44,7 @@ pub fn divide(
             return k;
         }
         let left = take_multiple(block, level, found, modulus);
-        let place = k - size + (7 - q);
+        let place = k - size + (LAST_LANE - q);
         quotients[place] = modulus.add(quotients[place], left.factor);
         found = find_rest(block, left.size, left.leading, left.unseen, modulus);
     }

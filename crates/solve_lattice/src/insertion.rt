@@ -3,6 +3,7 @@ use crate::hand::Hand;
 use crate::moves::swap_with_slot;
 use crate::moves::take_from_hand;
 use crate::room::LANES;
+use crate::room::LAST_LANE;
 use crate::room::Level;
 use crate::room::SIZES;
 use crate::room::Tail;
@@ -28,7 +29,7 @@ pub fn lengthen(
         (memory (now (level .exit)) (now (block .exit)) (now (tail .exit)) r) ⌝ }
 {
     let k = hand.size;
-    let q = 7 - (k - 1) % LANES;
+    let q = LAST_LANE - (k - 1) % LANES;
     if k < level[SIZES + q] as usize {
         return swap_with_slot(level, block, tail, hand, modulus);
     }
@@ -73,7 +74,7 @@ pub fn insert(
 {
     let mut hand = at;
     while 0 < hand.size {
-        let q = 7 - (hand.size - 1) % LANES;
+        let q = LAST_LANE - (hand.size - 1) % LANES;
         if level[SIZES + q] == 0 {
             return hand;
         }

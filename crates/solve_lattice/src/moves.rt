@@ -3,6 +3,7 @@ use crate::hand::Hand;
 use crate::room::BLOCK;
 use crate::room::INVERSES;
 use crate::room::LANES;
+use crate::room::LAST_LANE;
 use crate::room::Level;
 use crate::room::SIZES;
 use crate::room::SLOT;
@@ -60,7 +61,7 @@ pub fn take_from_hand(
         (memory (now (level .entry)) (now (block .exit)) (now (tail .exit)) r) ⌝ }
 {
     let k = hand.size;
-    let q = 7 - (k - 1) % LANES;
+    let q = LAST_LANE - (k - 1) % LANES;
     let shift = (k - level[SIZES + q] as usize) / LANES;
     let size = level[TAIL_SIZES + q] as usize;
     let found = Leading {
@@ -71,7 +72,7 @@ pub fn take_from_hand(
     let rest = find_rest(block, left.size, left.leading, left.unseen, modulus);
     let minus = modulus.p - left.factor;
     // all words of its degrees, as in `take_multiple`
-    let words = (size + 7) / LANES * LANES;
+    let words = (size + LAST_LANE) / LANES * LANES;
     add_tail(tail, shift, level, SLOT * q + BLOCK, words, minus);
     Hand {
         size: rest.size,
@@ -97,7 +98,7 @@ pub fn swap_with_slot(
         (memory (now (level .exit)) (now (block .exit)) (now (tail .exit)) r) ⌝ }
 {
     let k = hand.size;
-    let q = 7 - (k - 1) % LANES;
+    let q = LAST_LANE - (k - 1) % LANES;
     let size = level[SIZES + q] as usize;
     let slot_tail = level[TAIL_SIZES + q] as usize;
     let hand_tail = find_leading(tail, hand.tail, modulus).size;

@@ -2,8 +2,16 @@
 
 // Rows of a block, which stand side by side at each degree.
 pub const LANES: usize = 8;
-// Words of a block, 16 degrees in 8 lanes, and of a polynomial of the output.
-pub const BLOCK: usize = 128;
+// The last lane, where row 0 stands: row i is in lane LAST_LANE - i.
+pub const LAST_LANE: usize = LANES - 1;
+// Degrees of a block.
+pub const DEGREES: usize = 16;
+// Degrees of a long block.
+pub const PRODUCT_DEGREES: usize = 136;
+// Coefficients of a polynomial of a certificate, and of a tail on the way, at most.
+pub const COEFFICIENTS: usize = 121;
+// Words of a block, and of a polynomial of the output.
+pub const BLOCK: usize = DEGREES * LANES;
 // Words of the tail of a hand.
 pub const TAIL: usize = 256;
 // Words of a slot: its block, then its tail.
@@ -16,8 +24,8 @@ pub const TAIL_SIZES: usize = SIZES + LANES;
 pub const INVERSES: usize = TAIL_SIZES + LANES;
 // Words of a level.
 pub const LEVEL: usize = INVERSES + LANES;
-// Words of a long block, 136 degrees in 8 lanes: a block times a denominator, or quotients.
-pub const PRODUCT: usize = 1088;
+// Words of a long block: a block times a denominator, or quotients.
+pub const PRODUCT: usize = PRODUCT_DEGREES * LANES;
 // Words of 8 polynomials.
 pub const ROWS: usize = LANES * BLOCK;
 // Words of the input: a block for each of 8 columns, and one for the right side.

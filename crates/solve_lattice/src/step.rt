@@ -1,6 +1,7 @@
 // The step that insertion and division make: a multiple of a slot is taken off the block in hand.
 use crate::room::INVERSES;
 use crate::room::LANES;
+use crate::room::LAST_LANE;
 use crate::room::Level;
 use crate::room::SIZES;
 use crate::room::SLOT;
@@ -70,12 +71,12 @@ pub fn take_multiple(block: &mut [u64], level: &Level, found: Leading, modulus: 
         (now (block .exit)) r ⌝ }
 {
     let k = found.size;
-    let q = 7 - (k - 1) % LANES;
+    let q = LAST_LANE - (k - 1) % LANES;
     let size = level[SIZES + q] as usize;
     let factor = modulus.mul(found.value, level[INVERSES + q]);
     let minus = modulus.p - factor;
     // all words of the slot's degrees: those behind its size are 0, and the loop has none left over from its vectors
-    let words = (size + 7) / LANES * LANES;
+    let words = (size + LAST_LANE) / LANES * LANES;
     // in most cases the next leading word: with it before the loop, the processor works out the next factor during the loop
     let next = word_before(block, k - size, level, SLOT * q, size, minus, modulus);
     add_scaled(block, k - size, level, SLOT * q, words, minus);

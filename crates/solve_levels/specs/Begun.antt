@@ -26,7 +26,7 @@ use Rattle.solve_lattice.specs.Range.{words-zero, words-shorter, ends-same}
 use Rattle.solve_lattice.specs.Sums.{sums-fewer}
 use Rattle.solve_lattice.specs.Reading.{flat-same}
 use Rattle.solve_lattice.specs.Insertion.{Starts}
-use Rattle.solve_lattice.specs.Room.{productWords, slotPlaces, blockWords, tailWords}
+use Rattle.solve_lattice.specs.Room.{productWords, slotPlaces, blockWords, tailWords, lanes}
 use Rattle.solve_levels.specs.Cleared.{held-extend}
 
 -- a column in memory: a block of 128 words, of which so many count, in sums with room for an insertion
@@ -80,13 +80,13 @@ module _ {p : ℕ} (prime₀ : Prime p) {column : List ℕ} {size : ℕ} (valid 
     sums = sums-fewer p column (slotPlaces + size) (places (memory L column tail′ (begun p column size)))
         (omega (
           arith,
-          total-le 8 (slotSize L) (λ q. blockWords) (λ q h. level .slot q h .block .within),
-          total-constant 8 blockWords,
+          total-le lanes (slotSize L) (λ q. blockWords) (λ q h. level .slot q h .block .within),
+          total-constant lanes blockWords,
         )) (valid .sums);
     tail-sums = λ i. omega (arith, tail-most i);
   }
 
-  pub begun-starts : {L : Level} → ((q : ℕ) → q < 8 → tailSize L q ≡ 0)
+  pub begun-starts : {L : Level} → ((q : ℕ) → q < lanes → tailSize L q ≡ 0)
       → Starts p (memory L column (set tail 0 1) (begun p column size))
   begun-starts tails = record {
     tails = tails;
@@ -105,7 +105,7 @@ module _ {p : ℕ} (prime₀ : Prime p) {column : List ℕ} {size : ℕ} (valid 
 
     pub begun-holds : {L : Level} (U : Slots (Polynomial (residues p prime))) (a : ℕ → Polynomial (residues p prime))
         → HoldsSlots p prime n ω L (cleared (polynomials (residues p prime)) n U)
-        → Flat (residues p prime) n 8 ω (words p prime column 0 blockWords) a
+        → Flat (residues p prime) n lanes ω (words p prime column 0 blockWords) a
         → HoldsState p prime n ω (memory L column (set tail 0 1) (begun p column size))
         (begin (polynomials (residues p prime)) n U a (height size))
     begun-holds U a slots A = record {

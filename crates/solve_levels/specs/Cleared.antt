@@ -22,21 +22,21 @@ use Rattle.solve_lattice.specs.Memory.{row, height, Ends, Level, slotSize, tail
 use Rattle.solve_lattice.specs.Holding.{HoldsSlots}
 use Rattle.solve_lattice.specs.Range.{words-same, words-zero}
 use Rattle.solve_lattice.specs.Reading.{flat-same}
-use Rattle.solve_lattice.specs.Room.{levelWords, sizesFrom, blockWords, slotWords}
+use Rattle.solve_lattice.specs.Room.{levelWords, sizesFrom, blockWords, slotWords, lanes}
 use Rattle.solve_levels.specs.Copied.{Copied}
 
 -- the level L′ has the blocks of L and no tails
 pub record Copies (p : ℕ) (L L′ : Level) : Type 0 where
   pub room : levelWords ≤ length L′
   pub below : (i : ℕ) → i < sizesFrom → getD L′ i 0 < p
-  pub blocks : (q j : ℕ) → q < 8 → j < blockWords → getD L′ (slotWords * q + j) 0 ≡ getD L (slotWords * q + j) 0
-  pub tails : (q j : ℕ) → q < 8 → j < blockWords → getD L′ (slotWords * q + blockWords + j) 0 ≡ 0
-  pub sizes : (q : ℕ) → q < 8 → slotSize L′ q ≡ slotSize L q
-  pub tail-sizes : (q : ℕ) → q < 8 → tailSize L′ q ≡ 0
-  pub inverses : (q : ℕ) → q < 8 → slotInverse L′ q ≡ slotInverse L q
+  pub blocks : (q j : ℕ) → q < lanes → j < blockWords → getD L′ (slotWords * q + j) 0 ≡ getD L (slotWords * q + j) 0
+  pub tails : (q j : ℕ) → q < lanes → j < blockWords → getD L′ (slotWords * q + blockWords + j) 0 ≡ 0
+  pub sizes : (q : ℕ) → q < lanes → slotSize L′ q ≡ slotSize L q
+  pub tail-sizes : (q : ℕ) → q < lanes → tailSize L′ q ≡ 0
+  pub inverses : (q : ℕ) → q < lanes → slotInverse L′ q ≡ slotInverse L q
 
 -- words of a block that do not count are 0, since they are below p
-pub copied-copies : {p : ℕ} {L L′ : Level} → ValidLevel p L → Copied L 8 L′ → Copies p L L′
+pub copied-copies : {p : ℕ} {L L′ : Level} → ValidLevel p L → Copied L lanes L′ → Copies p L L′
 copied-copies {p} {L} {L′} valid copied = record {
   room = omega (arith, copied .room);
   below = λ i h. subst (λ x. getD L′ x 0 < p) (omega arith) (below (i / slotWords) (i % slotWords) (omega arith) (omega arith));
@@ -48,13 +48,13 @@ copied-copies {p} {L} {L′} valid copied = record {
   inverses = copied .inverses;
 }
   where
-    block : (q j : ℕ) → q < 8 → j < blockWords → (j < slotSize L q) ⊎ (slotSize L q ≤ j)
+    block : (q j : ℕ) → q < lanes → j < blockWords → (j < slotSize L q) ⊎ (slotSize L q ≤ j)
         → getD L′ (slotWords * q + j) 0 ≡ getD L (slotWords * q + j) 0
     block q j h lt (inl counts) = copied .blocks q j h counts
     block q j h lt (inr not) = copied .others q j h (omega arith) (λ l. not)
         ∙ sym (sym (mod-eq-of-lt (valid .below (slotWords * q + j) (omega arith))) ∙ valid .slot q h .block .behind j not lt)
 
-    below : (q j : ℕ) → q < 8 → j < slotWords → getD L′ (slotWords * q + j) 0 < p
+    below : (q j : ℕ) → q < lanes → j < slotWords → getD L′ (slotWords * q + j) 0 < p
     below q j h lt = ⊎-elim
         (λ counts. omega (arith, copied .blocks q j h counts, valid .below (slotWords * q + j) (omega arith)))
         (λ not. omega (arith, copied .others q j h lt (λ l. not), valid .below 0 (omega arith)))
@@ -80,7 +80,7 @@ module _ {p : ℕ} {L L′ : Level} (copies : Copies p L L′) where
     slot = slot;
   }
     where
-      slot : (q : ℕ) → q < 8 → ValidSlot p L′ q
+      slot : (q : ℕ) → q < lanes → ValidSlot p L′ q
       slot q h =
           let old = valid .slot q h in
           let k : ℕ = slotSize L q in
@@ -102,9 +102,9 @@ module _ {p : ℕ} {L L′ : Level} (copies : Copies p L L′) where
             tail = λ j l lt. ap (λ w. w % p) (copies .tails q j h lt) ∙ zero-mod p;
           }
 
-  pub copies-holds : (prime : Prime p) (n : ℕ) (ω : ℕ → ℕ) (U : Slots (Polynomial (residues p prime))) → n ≤ 8
+  pub copies-holds : (prime : Prime p) (n : ℕ) (ω : ℕ → ℕ) (U : Slots (Polynomial (residues p prime))) → n ≤ lanes
       → HoldsSlots p prime n ω L U → HoldsSlots p prime n ω L′ (cleared (polynomials (residues p prime)) n U)
-  copies-holds prime n ω U lanes holds = record {
+  copies-holds prime n ω U few-rows holds = record {
     size = λ q h. holds .size q h ∙ ap height (sym (copies .sizes q (omega arith)));
     vector = λ q h f. held-extend
         (flat-same (λ x. words-same p prime L L′ (slotWords * q) (slotWords * q) blockWords x

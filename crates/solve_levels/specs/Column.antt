@@ -6,7 +6,7 @@ use mathlib.Core.List.{List, [], _∷_}
 use native.Mathlib.Nat.{zero-mod}
 use native.Mathlib.Omega.{arith}
 use lib.ListN.{length, getD, List·getD-eq-default}
-use Rattle.solve_lattice.specs.Room.{productWords, slotPlaces, blockWords}
+use Rattle.solve_lattice.specs.Room.{productWords, slotPlaces, blockWords, lanes, mostPlaces}
 use Rattle.ring.specs.Identity.{quotes, identity}
 use Rattle.ring.specs.Ring.{Ring}
 use Rattle.ring.specs.Combination.{given, combination}
@@ -31,7 +31,7 @@ use Rattle.solve_lattice.specs.Coefficients.{HoldsCoefficients}
 pub record HoldsLeft (p : ℕ) (prime : Prime p) (n : ℕ) (U : Slots (Polynomial (residues p prime)))
     (column : ℕ → Polynomial (residues p prime)) (rest factors : List ℕ) : Type 0 where
   pub vector : ℕ → Polynomial (residues p prime)
-  pub holds : Flat (residues p prime) n 8 unweighted (words p prime rest 0 blockWords) vector
+  pub holds : Flat (residues p prime) n lanes unweighted (words p prime rest 0 blockWords) vector
   pub coefficients : HoldsCoefficients p prime n U
       (λ k. polynomials (residues p prime) .add (column k) (polynomials (residues p prime) .neg (vector k))) factors
 
@@ -42,10 +42,10 @@ pub record ColumnDivided (p : ℕ) (L : Level) (input : List ℕ) (at : ℕ) (re
   pub ends : Ends p rest 0 blockWords left
   -- of a column in the span nothing is left
   pub whole : (prime : Prime p) (n : ℕ) (U : Slots (Polynomial (residues p prime))) (column : ℕ → Polynomial (residues p prime))
-      → HoldsSlots p prime n unweighted L U → Flat (residues p prime) n 8 unweighted (words p prime input at blockWords) column
+      → HoldsSlots p prime n unweighted L U → Flat (residues p prime) n lanes unweighted (words p prime input at blockWords) column
       → InSpan (polynomials (residues p prime)) n n U column → left ≡ 0
   pub divides : (prime : Prime p) (n : ℕ) (U : Slots (Polynomial (residues p prime))) (column : ℕ → Polynomial (residues p prime))
-      → HoldsSlots p prime n unweighted L U → Flat (residues p prime) n 8 unweighted (words p prime input at blockWords) column
+      → HoldsSlots p prime n unweighted L U → Flat (residues p prime) n lanes unweighted (words p prime input at blockWords) column
       → HoldsLeft p prime n U column rest factors
 
 -- 128 words of the input, copied to a block of zeros
@@ -58,7 +58,7 @@ module _ (p : ℕ) (input : List ℕ) (at : ℕ) (zeros : List ℕ) (long : leng
       let empty : getD zeros (0 + i) 0 ≡ 0 = omega (arith, none (0 + i)) in
       ap (λ w. w % p) (stored-outside (λ i. getD input (at + i) 0) zeros 0 blockWords (0 + i) (inr (omega arith)) ∙ empty) ∙ zero-mod p
 
-  pub copied-sums : ((i : ℕ) → getD input i 0 < p) → Sums p 2112 (stored (λ i. getD input (at + i) 0) zeros 0 blockWords)
+  pub copied-sums : ((i : ℕ) → getD input i 0 < p) → Sums p mostPlaces (stored (λ i. getD input (at + i) 0) zeros 0 blockWords)
   copied-sums below i = omega (
     arith,
     at-most-stored p (λ i. getD input (at + i) 0) zeros 0 blockWords (λ k lt. omega (arith, below (at + k)))
@@ -88,7 +88,7 @@ module _ (p : ℕ) (input : List ℕ) (at : ℕ) (zeros : List ℕ) (long : leng
     few = ends-most rest 0 productWords left blockWords (done .ends) nothing
 
     dividend : (prime : Prime p) (n : ℕ) (U : Slots (Polynomial (residues p prime))) (column : ℕ → Polynomial (residues p prime))
-        → HoldsSlots p prime n unweighted L U → Flat (residues p prime) n 8 unweighted (words p prime input at blockWords) column
+        → HoldsSlots p prime n unweighted L U → Flat (residues p prime) n lanes unweighted (words p prime input at blockWords) column
         → Dividend p prime n unweighted L block₀
     dividend prime n U column slots flat = record {
       slots = U;
@@ -98,7 +98,7 @@ module _ (p : ℕ) (input : List ℕ) (at : ℕ) (zeros : List ℕ) (long : leng
     }
 
     left-of : (prime : Prime p) (n : ℕ) (U : Slots (Polynomial (residues p prime))) (column : ℕ → Polynomial (residues p prime))
-        → HoldsSlots p prime n unweighted L U → Flat (residues p prime) n 8 unweighted (words p prime input at blockWords) column
+        → HoldsSlots p prime n unweighted L U → Flat (residues p prime) n lanes unweighted (words p prime input at blockWords) column
         → HoldsLeft p prime n U column rest factors
     unfolding dividend
     left-of prime n U column slots flat = record {

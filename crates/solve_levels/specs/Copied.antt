@@ -6,7 +6,7 @@ use native.Mathlib.Omega.{arith}
 use native.Mathlib.Decide.{ℕ-discrete}
 use lib.ListN.{length, getD, set, length-set}
 use lib.Seq.{getD-set-same, getD-set-other}
-use Rattle.solve_lattice.specs.Room.{levelWords, inversesFrom, tailSizesFrom, sizesFrom, blockWords, slotWords}
+use Rattle.solve_lattice.specs.Room.{levelWords, inversesFrom, tailSizesFrom, sizesFrom, blockWords, slotWords, lanes}
 use Rattle.vector.specs.Bound.{AtMost}
 use Rattle.vector.specs.Stored.{stored, length-stored, stored-inside, stored-outside, below-or-not}
 use Rattle.solve_lattice.specs.Memory.{Level, slotSize, tailSize, slotInverse}
@@ -15,9 +15,9 @@ use Rattle.solve_lattice.specs.Memory.{Level, slotSize, tailSize, slotInverse}
 pub record Copied (L : Level) (n : ℕ) (L′ : Level) : Type 0 where
   pub room : length L′ ≡ levelWords
   pub blocks : (q j : ℕ) → q < n → j < slotSize L q → getD L′ (slotWords * q + j) 0 ≡ getD L (slotWords * q + j) 0
-  pub others : (q j : ℕ) → q < 8 → j < slotWords → (q < n → slotSize L q ≤ j) → getD L′ (slotWords * q + j) 0 ≡ 0
+  pub others : (q j : ℕ) → q < lanes → j < slotWords → (q < n → slotSize L q ≤ j) → getD L′ (slotWords * q + j) 0 ≡ 0
   pub sizes : (q : ℕ) → q < n → slotSize L′ q ≡ slotSize L q
-  pub tail-sizes : (q : ℕ) → q < 8 → tailSize L′ q ≡ 0
+  pub tail-sizes : (q : ℕ) → q < lanes → tailSize L′ q ≡ 0
   pub inverses : (q : ℕ) → q < n → slotInverse L′ q ≡ slotInverse L q
 
 pub copied-start : (L next : Level) → length next ≡ levelWords → AtMost 0 next → Copied L 0 next
@@ -31,8 +31,8 @@ copied-start L next room zero = record {
 }
 
 -- a turn
-module _ {L : Level} {n : ℕ} {next : Level} (so-far : Copied L n next) (inside : n < 8)
-    (fits : (q : ℕ) → q < 8 → slotSize L q ≤ blockWords) where
+module _ {L : Level} {n : ℕ} {next : Level} (so-far : Copied L n next) (inside : n < lanes)
+    (fits : (q : ℕ) → q < lanes → slotSize L q ≤ blockWords) where
   here : slotSize L n ≤ blockWords
   here = fits n inside
 
@@ -58,7 +58,7 @@ module _ {L : Level} {n : ℕ} {next : Level} (so-far : Copied L n next) (inside
         → getD after x 0 ≡ getD next x 0
     kept x a b out = word-set x a b ∙ stored-outside block next (slotWords * n) (slotSize L n) x out
 
-    apart : (q j : ℕ) → q < 8 → j < slotWords → ¬ (q ≡ n) → getD after (slotWords * q + j) 0 ≡ getD next (slotWords * q + j) 0
+    apart : (q j : ℕ) → q < lanes → j < slotWords → ¬ (q ≡ n) → getD after (slotWords * q + j) 0 ≡ getD next (slotWords * q + j) 0
     apart q j h lt other = kept (slotWords * q + j) (λ x. omega arith) (λ x. omega arith)
         (⊎-elim (λ less. inl (omega (arith, here))) (λ more. inr (omega (arith, here))) (below-or-not q n))
 
@@ -74,7 +74,7 @@ module _ {L : Level} {n : ℕ} {next : Level} (so-far : Copied L n next) (inside
         subst (λ x. j < slotSize L x → getD after (slotWords * x + j) 0 ≡ getD L (slotWords * x + j) 0) (sym same) (inside-block j) lt
     blocks q j h lt le (no other) = apart q j (omega arith) (omega arith) other ∙ so-far .blocks q j (omega arith) lt
 
-    others : (q j : ℕ) → q < 8 → j < slotWords → (q < n + 1 → slotSize L q ≤ j) → Dec (q ≡ n) → getD after (slotWords * q + j) 0 ≡ 0
+    others : (q j : ℕ) → q < lanes → j < slotWords → (q < n + 1 → slotSize L q ≤ j) → Dec (q ≡ n) → getD after (slotWords * q + j) 0 ≡ 0
     others q j l lt h (yes same) =
         subst (λ x. slotSize L x ≤ j → getD after (slotWords * x + j) 0 ≡ 0) (sym same)
         (λ ge. kept (slotWords * n + j) (λ x. omega arith) (λ x. omega arith) (inr (omega arith))

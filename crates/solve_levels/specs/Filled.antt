@@ -20,7 +20,7 @@ use Rattle.reduction.specs.Holds.{read, read-holds}
 use Rattle.reduction.specs.Flat.{Flat}
 use Rattle.reduction.specs.Held.{Held}
 use Rattle.solve_lattice.specs.Word.{words, words-behind}
-use Rattle.solve_lattice.specs.Room.{lanes, blockWords, slotWords, sizesFrom, inversesFrom, levelWords, tailSizesFrom}
+use Rattle.solve_lattice.specs.Room.{lanes, blockWords, slotWords, sizesFrom, inversesFrom, levelWords, tailSizesFrom, mostCoefficients}
 use Rattle.solve_lattice.specs.Memory.{row, height, Ends, Level, slotSize, tailSize, slotInverse, ValidSlot, ValidLevel}
 use Rattle.solve_lattice.specs.Holding.{HoldsSlots}
 use Rattle.solve_lattice.specs.Range.{words-same}
@@ -39,7 +39,7 @@ module _ (L : Level) (q k i : ℕ) where
   renumbered-other x a b =
       getD-set-other (set L (sizesFrom + q) k) (inversesFrom + q) x i 0 b ∙ getD-set-other L (sizesFrom + q) x k 0 a
 
-  module _ (inside : q < 8) (room : levelWords ≤ length L) where
+  module _ (inside : q < lanes) (room : levelWords ≤ length L) where
     renumbered-size : slotSize (renumbered L q k i) q ≡ k
     renumbered-size =
         getD-set-other (set L (sizesFrom + q) k) (inversesFrom + q) (sizesFrom + q) i 0 (λ e. omega arith)
@@ -112,11 +112,11 @@ module _ {p : ℕ} {L : Level} (valid : ValidLevel p L) (q : ℕ) (inside : q < 
   size-here : slotSize F q ≡ size
   size-here = renumbered-size W q size inverse inside room
 
-  size-other : (i : ℕ) → i < 8 → ¬ (i ≡ q) → slotSize F i ≡ slotSize L i
+  size-other : (i : ℕ) → i < lanes → ¬ (i ≡ q) → slotSize F i ≡ slotSize L i
   size-other i h other = number-other (sizesFrom + i) (omega arith) (λ e. other (omega arith)) (λ e. omega arith)
 
   -- the words of other slots, and tails
-  apart : (i j : ℕ) → i < 8 → j < slotWords → (i ≡ q → blockWords ≤ j) → getD F (slotWords * i + j) 0 ≡ getD L (slotWords * i + j) 0
+  apart : (i j : ℕ) → i < lanes → j < slotWords → (i ≡ q → blockWords ≤ j) → getD F (slotWords * i + j) 0 ≡ getD L (slotWords * i + j) 0
   apart i j h lt tail = slot-word (slotWords * i + j) (omega arith)
       ∙ stored-outside word L (slotWords * q) size (slotWords * i + j) (go (ℕ-discrete i q))
     where
@@ -124,12 +124,12 @@ module _ {p : ℕ} {L : Level} (valid : ValidLevel p L) (q : ℕ) (inside : q < 
       go (yes e) = inr (omega (arith, tail e, ends .within))
       go (no e) = ⊎-elim (λ less. inl (omega arith)) (λ more. inr (omega (arith, ends .within))) (below-or-not i q)
 
-  tail-apart : (i j : ℕ) → i < 8 → j < blockWords → getD F (slotWords * i + blockWords + j) 0 ≡ getD L (slotWords * i + blockWords + j) 0
+  tail-apart : (i j : ℕ) → i < lanes → j < blockWords → getD F (slotWords * i + blockWords + j) 0 ≡ getD L (slotWords * i + blockWords + j) 0
   tail-apart i j h lt =
       let place : slotWords * i + blockWords + j ≡ slotWords * i + (blockWords + j) = omega arith in
       ap (λ x. getD F x 0) place ∙ apart i (blockWords + j) h (omega arith) (λ e. omega arith) ∙ ap (λ x. getD L x 0) (sym place)
 
-  tail-kept : (i : ℕ) → i < 8 → ValidSlot p L i → (tailSize F i ≤ 121)
+  tail-kept : (i : ℕ) → i < lanes → ValidSlot p L i → (tailSize F i ≤ mostCoefficients)
       × ((j : ℕ) → tailSize F i ≤ j → j < blockWords → getD F (slotWords * i + blockWords + j) 0 % p ≡ 0)
   tail-kept i h old =
       let same : tailSize F i ≡ tailSize L i = number-other (tailSizesFrom + i) (omega arith) (λ e. omega arith) (λ e. omega arith) in
@@ -150,7 +150,7 @@ module _ {p : ℕ} {L : Level} (valid : ValidLevel p L) (q : ℕ) (inside : q < 
     tail = tail-kept q inside (valid .slot q inside) .1;
   }
 
-  slot-other : (i : ℕ) → i < 8 → ¬ (i ≡ q) → ValidSlot p F i
+  slot-other : (i : ℕ) → i < lanes → ¬ (i ≡ q) → ValidSlot p F i
   slot-other i h other =
       let old = valid .slot i h in
       let same : slotSize F i ≡ slotSize L i = size-other i h other in
@@ -190,7 +190,7 @@ module _ {p : ℕ} {L : Level} (valid : ValidLevel p L) (q : ℕ) (inside : q < 
             mod-lt (getD block (x - slotWords * q) 0) positive,
           )
 
-      go : (i : ℕ) → i < 8 → Dec (i ≡ q) → ValidSlot p F i
+      go : (i : ℕ) → i < lanes → Dec (i ≡ q) → ValidSlot p F i
       go i h (yes e) = subst (ValidSlot p F) (sym e) (slot-here some at)
       go i h (no e) = slot-other i h e
 
@@ -250,7 +250,7 @@ module _ {p : ℕ} {L : Level} (valid : ValidLevel p L) (q : ℕ) (inside : q < 
     abbrev U′ : Slots (Polynomial (residues p prime))
     U′ = put U q (extend n a (tailOf p prime L q)) (height size)
 
-    pub filled-holds : HoldsSlots p prime n ω L U → Flat (residues p prime) n 8 ω (words p prime block 0 blockWords) a
+    pub filled-holds : HoldsSlots p prime n ω L U → Flat (residues p prime) n lanes ω (words p prime block 0 blockWords) a
         → HoldsSlots p prime n ω (filled p L q block size)
         (put U q (extend n a (tailOf p prime L q)) (height size))
     filled-holds holds A = record {
@@ -258,7 +258,7 @@ module _ {p : ℕ} {L : Level} (valid : ValidLevel p L) (q : ℕ) (inside : q < 
       vector = λ i h f. vector i h f (ℕ-discrete i q);
     }
       where
-        low : (i : ℕ) → i < n → i < 8
+        low : (i : ℕ) → i < n → i < lanes
         low i h = omega (arith, A .lanes)
 
         sizes : (i : ℕ) → i < n → Dec (i ≡ q) → U′ .size i ≡ height (slotSize F i)
@@ -267,11 +267,11 @@ module _ {p : ℕ} {L : Level} (valid : ValidLevel p L) (q : ℕ) (inside : q < 
         sizes i h (no e) =
             replace-other (U .size) q (height size) i e ∙ holds .size i h ∙ ap height (sym (size-other i (low i h) e))
 
-        tails : (i : ℕ) → i < 8 → (x : ℕ) → words p prime L (slotWords * i + blockWords) blockWords x ≡ words p prime F (slotWords * i + blockWords) blockWords x
+        tails : (i : ℕ) → i < lanes → (x : ℕ) → words p prime L (slotWords * i + blockWords) blockWords x ≡ words p prime F (slotWords * i + blockWords) blockWords x
         tails i h x = words-same p prime L F (slotWords * i + blockWords) (slotWords * i + blockWords) blockWords x
             (λ lt. ap (λ w. w % p) (sym (tail-apart i x h lt)))
 
-        new : Held (residues p prime) n 8 ω (words p prime F (slotWords * q) blockWords) (words p prime F (slotWords * q + blockWords) blockWords)
+        new : Held (residues p prime) n lanes ω (words p prime F (slotWords * q) blockWords) (words p prime F (slotWords * q + blockWords) blockWords)
             new-vector
         new = held-extend
             (flat-same (λ x. words-same p prime block F 0 (slotWords * q) blockWords x (same-residue x)) A)
@@ -281,13 +281,13 @@ module _ {p : ℕ} {L : Level} (valid : ValidLevel p L) (q : ℕ) (inside : q < 
             })
 
         vector : (i : ℕ) → i < n → 0 < U′ .size i → Dec (i ≡ q)
-            → Held (residues p prime) n 8 ω (words p prime F (slotWords * i) blockWords) (words p prime F (slotWords * i + blockWords) blockWords)
+            → Held (residues p prime) n lanes ω (words p prime F (slotWords * i) blockWords) (words p prime F (slotWords * i + blockWords) blockWords)
             (U′ .at i)
-        vector i h f (yes e) = subst (λ x. Held (residues p prime) n 8 ω (words p prime F (slotWords * x) blockWords)
+        vector i h f (yes e) = subst (λ x. Held (residues p prime) n lanes ω (words p prime F (slotWords * x) blockWords)
             (words p prime F (slotWords * x + blockWords) blockWords) (U′ .at x)) (sym e)
-            (subst (Held (residues p prime) n 8 ω (words p prime F (slotWords * q) blockWords)
+            (subst (Held (residues p prime) n lanes ω (words p prime F (slotWords * q) blockWords)
             (words p prime F (slotWords * q + blockWords) blockWords)) (sym (replace-here (U .at) q new-vector)) new)
-        vector i h f (no e) = subst (Held (residues p prime) n 8 ω (words p prime F (slotWords * i) blockWords)
+        vector i h f (no e) = subst (Held (residues p prime) n lanes ω (words p prime F (slotWords * i) blockWords)
             (words p prime F (slotWords * i + blockWords) blockWords)) (sym (replace-other (U .at) q new-vector i e))
             (held-same (λ x. words-same p prime L F (slotWords * i) (slotWords * i) blockWords x
             (λ lt. ap (λ w. w % p) (sym (apart i x (low i h) (omega arith) (λ r. absurd (e r)))))) (tails i (low i h))

@@ -24,7 +24,7 @@ use Rattle.solve_lattice.specs.Range.{words-zero}
 use Rattle.solve_lattice.specs.Reading.{holds-zero, holds-pivot}
 use Rattle.solve_lattice.specs.Lanes.{stateOf, stateOf-held}
 use Rattle.solve_lattice.specs.Insertion.{Inserts}
-use Rattle.solve_lattice.specs.Room.{blockWords}
+use Rattle.solve_lattice.specs.Room.{blockWords, blockDegrees, lanes}
 use Rattle.solve_levels.specs.Settled.{Stopped, Settled}
 
 -- after a column a, memory holds slots and a kernel that are linked to U
@@ -54,11 +54,11 @@ inserts-stopped {p} prime {M} {M′} valid small done = record {
   tail = done .tail;
 }
   where
-    R : Reached p prime 8 unweighted (stateOf p prime M) M′
-    R = done .leads prime 8 unweighted (stateOf p prime M) (stateOf-held p prime M)
+    R : Reached p prime lanes unweighted (stateOf p prime M) M′
+    R = done .leads prime lanes unweighted (stateOf p prime M) (stateOf-held p prime M)
 
-    under : Under 8 16 (R .now)
-    under = trace-under 16 (record {
+    under : Under lanes blockDegrees (R .now)
+    under = trace-under blockDegrees (record {
       slots = λ q h. omega (arith, valid .level .slot q h .block .within);
       hand = omega arith;
     }) (R .trace)

@@ -19,7 +19,7 @@ use Rattle.solve_lattice.specs.Word.{words}
 use Rattle.solve_lattice.specs.Memory.{row, height, Ends, Level, ValidLevel, Memory}
 use Rattle.solve_lattice.specs.Holding.{HoldsSlots, HoldsState}
 use Rattle.solve_lattice.specs.Reading.{ends-pivot, holds-filled}
-use Rattle.solve_lattice.specs.Room.{blockWords}
+use Rattle.solve_lattice.specs.Room.{blockWords, lanes}
 use Rattle.solve_levels.specs.Linked.{Linked, AfterColumn}
 use Rattle.solve_levels.specs.Started.{Started}
 
@@ -29,7 +29,7 @@ pub record NextLevel (p : ℕ) (L : Level) (column : List ℕ) (L′ : Level) (k
   pub ends : Ends p kernel 0 blockWords found
   pub linked : (prime : Prime p) (n δ : ℕ) (U : Slots (Polynomial (residues p prime))) (a : ℕ → Polynomial (residues p prime))
       → ((i : ℕ) → i < n → size (residues p prime) (a i) ≤ suc δ) → HoldsSlots p prime n unweighted L U
-      → Flat (residues p prime) n 8 unweighted (words p prime column 0 blockWords) a → Linked p prime n δ a U L′ kernel
+      → Flat (residues p prime) n lanes unweighted (words p prime column 0 blockWords) a → Linked p prime n δ a U L′ kernel
 
 module _ {p : ℕ} {L : Level} {M : Memory} (started : Started p L M) (valid : ValidLevel p L) where
   -- the hand is no higher than the column

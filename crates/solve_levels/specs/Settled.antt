@@ -6,7 +6,7 @@ use mathlib.Core.List.{List}
 use native.Mathlib.Nat.{zero-add, zero-mod, mod-lt}
 use native.Mathlib.Omega.{arith}
 use lib.ListN.{length, getD}
-use Rattle.solve_lattice.specs.Room.{blockWords, tailWords}
+use Rattle.solve_lattice.specs.Room.{blockWords, tailWords, mostCoefficients}
 use Rattle.algebra.specs.Polynomial.{Polynomial}
 use Rattle.modular.specs.Prime.{Prime}
 use Rattle.modular.specs.Residue.{residues}
@@ -25,7 +25,7 @@ use Rattle.solve_lattice.specs.Range.{words-slot, ends-same}
 pub record Stopped (p : ℕ) (M : Memory) : Type 0 where
   pub stops : 0 < M .hand .size → slotSize (M .level) (row (M .hand .size)) ≡ 0
   pub block : M .hand .size ≤ blockWords
-  pub tail : ZeroFrom p (M .tail) 0 tailWords 121
+  pub tail : ZeroFrom p (M .tail) 0 tailWords mostCoefficients
 
 pub stopped-room : {p : ℕ} {M : Memory} → Stopped p M → 0 < M .hand .size → HasRoom p M
 stopped-room stopped some = record { some = some; block = stopped .block; tail = stopped .tail }

@@ -15,7 +15,7 @@ use Rattle.solve_lattice.specs.declared.hand.Hand.{Hand}
 use Rattle.solve_lattice.specs.Memory.{height, Level, ValidLevel, Memory, memory, Valid}
 use Rattle.solve_lattice.specs.Holding.{HoldsSlots, HoldsState}
 use Rattle.solve_lattice.specs.Insertion.{Starts}
-use Rattle.solve_lattice.specs.Room.{blockWords, tailWords}
+use Rattle.solve_lattice.specs.Room.{blockWords, tailWords, lanes}
 use Rattle.solve_levels.specs.Copied.{Copied}
 use Rattle.solve_levels.specs.Cleared.{Copies, copied-copies, copies-valid, copies-holds}
 use Rattle.solve_levels.specs.Begun.{ValidColumn, begun, begun-valid, begun-starts, begun-holds}
@@ -26,11 +26,11 @@ pub record Started (p : ℕ) (L : Level) (M : Memory) : Type 0 where
   pub starts : Starts p M
   pub low : M .hand .size ≤ blockWords
   pub holds : (prime : Prime p) (n : ℕ) (U : Slots (Polynomial (residues p prime))) (a : ℕ → Polynomial (residues p prime))
-      → HoldsSlots p prime n unweighted L U → Flat (residues p prime) n 8 unweighted (words p prime (M .block) 0 blockWords) a
+      → HoldsSlots p prime n unweighted L U → Flat (residues p prime) n lanes unweighted (words p prime (M .block) 0 blockWords) a
       → HoldsState p prime n unweighted M (begin (polynomials (residues p prime)) n U a (height (M .hand .size)))
 
 -- the level copied, and the hand laid
-pub started : {p : ℕ} → Prime p → {L L′ : Level} → ValidLevel p L → Copied L 8 L′ → {column : List ℕ} {size : ℕ}
+pub started : {p : ℕ} → Prime p → {L L′ : Level} → ValidLevel p L → Copied L lanes L′ → {column : List ℕ} {size : ℕ}
     → ValidColumn p column size → (tail : List ℕ) → length tail ≡ tailWords → AtMost 0 tail → {tail′ : List ℕ} {hand : Hand}
     → (tail′ ≡ set tail 0 1) × (hand ≡ begun p column size) → Started p L (memory L′ column tail′ hand)
 started {p} prime₀ {L} {L′} level copied {column} {size} valid tail room none {tail′} {hand} (et, eh) =

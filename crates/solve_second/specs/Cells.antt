@@ -8,7 +8,7 @@ use lib.ListN.{getD}
 use Rattle.reduction.specs.Flat.{flat}
 use Rattle.reduction.specs.Transpose.{back}
 use Rattle.solve_lattice.specs.Memory.{height, Level, slotSize}
-use Rattle.solve_lattice.specs.Room.{blockWords, slotWords}
+use Rattle.solve_lattice.specs.Room.{blockWords, slotWords, blockDegrees, lanes, lastLane, productDegrees}
 use Rattle.solve_second.specs.Greatest.{greatest}
 use Rattle.solve_second.specs.Words.{reversed, lift, transposedSize, blockWord, tailWord}
 use Rattle.solve_second.specs.Words.{transposedWord, transposed-beyond, transposed-beside}
@@ -28,31 +28,31 @@ module _ (L : Level) (n : ℕ) where
   lift-weight i = ap (λ q. greatest L n - height (slotSize L q)) (same i)
 
   -- slot k, coordinate i, degree e of the transposed slots
-  module _ {T : Level} (laid : SlotsLaid n L T) (k i e : ℕ) (slot : k < 8) (lane : i < 8) (degree : e < 16) where
+  module _ {T : Level} (laid : SlotsLaid n L T) (k i e : ℕ) (slot : k < lanes) (lane : i < lanes) (degree : e < blockDegrees) where
     abbrev x : ℕ
-    x = slotWords * k + flat 8 i e
+    x = slotWords * k + flat lanes i e
 
     at-slot : x / slotWords ≡ k
     at-slot = omega arith
 
-    at-lane : 7 - x % 8 ≡ i
+    at-lane : lastLane - x % lanes ≡ i
     at-lane = omega arith
 
-    at-degree : x % slotWords / 8 ≡ e
+    at-degree : x % slotWords / lanes ≡ e
     at-degree = omega arith
 
-    in-block : e < greatest L n → x % slotWords < 8 * greatest L n
+    in-block : e < greatest L n → x % slotWords < lanes * greatest L n
     in-block under = omega arith
 
-    stored-word : getD T (slotWords * k + flat 8 i e) 0 ≡ transposedWord L n x
+    stored-word : getD T (slotWords * k + flat lanes i e) 0 ≡ transposedWord L n x
     stored-word = laid .words x (omega arith)
 
-    pub cell-beside : 0 < transposedSize L n k → n ≤ i → getD T (slotWords * k + flat 8 i e) 0 ≡ 0
+    pub cell-beside : 0 < transposedSize L n k → n ≤ i → getD T (slotWords * k + flat lanes i e) 0 ≡ 0
     cell-beside h out = stored-word
         ∙ transposed-beside L n x (subst (λ m. 0 < transposedSize L n m) (sym at-slot) h)
-        (λ (g : 7 - x % 8 < n). omega (arith, at-lane))
+        (λ (g : lastLane - x % lanes < n). omega (arith, at-lane))
 
-    pub cell-empty : transposedSize L n k ≡ 0 → getD T (slotWords * k + flat 8 i e) 0 ≡ 0
+    pub cell-empty : transposedSize L n k ≡ 0 → getD T (slotWords * k + flat lanes i e) 0 ≡ 0
     cell-empty none = stored-word
         ∙ transposed-beyond L n x (λ (g : 0 < transposedSize L n (x / slotWords)). omega (arith, ap (transposedSize L n) at-slot))
 
@@ -60,49 +60,49 @@ module _ (L : Level) (n : ℕ) where
       at-filled : 0 < transposedSize L n (x / slotWords)
       at-filled = subst (λ m. 0 < transposedSize L n m) (sym at-slot) h
 
-      pub cell-low : e < weight L n i → getD T (slotWords * k + flat 8 i e) 0 ≡ 0
+      pub cell-low : e < weight L n i → getD T (slotWords * k + flat lanes i e) 0 ≡ 0
       cell-low low = stored-word
           ∙ transposed-low L n x at-filled (omega (arith, at-lane)) (in-block (omega arith))
-          (λ (g : lift L n (7 - x % 8) ≤ x % slotWords / 8).
+          (λ (g : lift L n (lastLane - x % lanes) ≤ x % slotWords / lanes).
           let g′ : lift L n i ≤ e = subst₂ (λ j m. lift L n j ≤ m) at-lane at-degree g in
           omega (arith, lift-weight i))
 
-      pub cell-value : weight L n i ≤ e → e < greatest L n → getD T (slotWords * k + flat 8 i e) 0
-          ≡ getD L (slotWords * back n i + flat 8 (back n k) (e - weight L n i)) 0
+      pub cell-value : weight L n i ≤ e → e < greatest L n → getD T (slotWords * k + flat lanes i e) 0
+          ≡ getD L (slotWords * back n i + flat lanes (back n k) (e - weight L n i)) 0
       cell-value here under =
           stored-word
           ∙ transposed-value L n x at-filled (omega (arith, at-lane)) (in-block under)
           (subst₂ (λ j m. lift L n j ≤ m) (sym at-lane) (sym at-degree) (omega (arith, lift-weight i)))
-          ∙ ap (λ j. blockWord L (reversed n j) (reversed n (x / slotWords)) (x % slotWords / 8 - lift L n j)) at-lane
-          ∙ ap (λ m. blockWord L (reversed n i) (reversed n m) (x % slotWords / 8 - lift L n i)) at-slot
+          ∙ ap (λ j. blockWord L (reversed n j) (reversed n (x / slotWords)) (x % slotWords / lanes - lift L n j)) at-lane
+          ∙ ap (λ m. blockWord L (reversed n i) (reversed n m) (x % slotWords / lanes - lift L n i)) at-slot
           ∙ ap (λ m. blockWord L (reversed n i) (reversed n k) (m - lift L n i)) at-degree
           ∙ ap (λ m. blockWord L (reversed n i) (reversed n k) (e - m)) (lift-weight i)
           ∙ ap (λ y. getD L y 0) place
         where
-          place : slotWords * reversed n i + 8 * (e - weight L n i) + (7 - reversed n k)
-              ≡ slotWords * back n i + flat 8 (back n k) (e - weight L n i)
+          place : slotWords * reversed n i + lanes * (e - weight L n i) + (lastLane - reversed n k)
+              ≡ slotWords * back n i + flat lanes (back n k) (e - weight L n i)
           place = places (same i) (same k)
             where
               places : {a b c d : ℕ} → a ≡ b → c ≡ d
-                  → slotWords * a + 8 * (e - weight L n i) + (7 - c) ≡ slotWords * b + flat 8 d (e - weight L n i)
+                  → slotWords * a + lanes * (e - weight L n i) + (lastLane - c) ≡ slotWords * b + flat lanes d (e - weight L n i)
               places u v = omega arith
 
   -- behind the greatest height all words are 0
-  pub cell-behind : {T : Level} → SlotsLaid n L T → (k j : ℕ) → k < 8 → 8 * greatest L n ≤ j → j < slotWords
+  pub cell-behind : {T : Level} → SlotsLaid n L T → (k j : ℕ) → k < lanes → lanes * greatest L n ≤ j → j < slotWords
       → getD T (slotWords * k + j) 0 ≡ 0
   cell-behind laid k j h past lt =
-      laid .words y (omega arith) ∙ go (decLt 0 (transposedSize L n (y / slotWords))) (decLt (7 - y % 8) n)
+      laid .words y (omega arith) ∙ go (decLt 0 (transposedSize L n (y / slotWords))) (decLt (lastLane - y % lanes) n)
     where
       y : ℕ
       y = slotWords * k + j
 
-      go : Dec (0 < transposedSize L n (y / slotWords)) → Dec (7 - y % 8 < n) → transposedWord L n y ≡ 0
-      go (yes f) (yes l) = transposed-tail L n y f l (λ (g : y % slotWords < 8 * greatest L n). omega arith)
+      go : Dec (0 < transposedSize L n (y / slotWords)) → Dec (lastLane - y % lanes < n) → transposedWord L n y ≡ 0
+      go (yes f) (yes l) = transposed-tail L n y f l (λ (g : y % slotWords < lanes * greatest L n). omega arith)
       go (yes f) (no l) = transposed-beside L n y f l
       go (no f) l = transposed-beyond L n y f
 
   -- so the tails of the transposed slots are 0
-  pub cell-tail : greatest L n ≤ 16 → {T : Level} → SlotsLaid n L T → (k j : ℕ) → k < 8 → j < blockWords
+  pub cell-tail : greatest L n ≤ blockDegrees → {T : Level} → SlotsLaid n L T → (k j : ℕ) → k < lanes → j < blockWords
       → getD T (slotWords * k + blockWords + j) 0 ≡ 0
   cell-tail low {T} laid k j h lt =
       let here : slotWords * k + blockWords + j ≡ slotWords * k + (blockWords + j) = omega arith in
@@ -110,64 +110,64 @@ module _ (L : Level) (n : ℕ) where
       ∙ cell-behind laid k (blockWords + j) h (omega arith) (omega arith)
 
   -- coordinate i, degree e of the right side
-  module _ {T : Level} {b : List ℕ} (laid : Laid n L T b) (i e : ℕ) (lane : i < 8) (degree : e < 136) where
+  module _ {T : Level} {b : List ℕ} (laid : Laid n L T b) (i e : ℕ) (lane : i < lanes) (degree : e < productDegrees) where
     abbrev y : ℕ
-    y = flat 8 i e
+    y = flat lanes i e
 
-    right-lane : 7 - y % 8 ≡ i
+    right-lane : lastLane - y % lanes ≡ i
     right-lane = omega arith
 
-    right-degree : y / 8 ≡ e
+    right-degree : y / lanes ≡ e
     right-degree = omega arith
 
-    right-stored : getD b (flat 8 i e) 0 ≡ rightWord L n y
+    right-stored : getD b (flat lanes i e) 0 ≡ rightWord L n y
     right-stored = laid .right y (omega arith)
 
-    slot-at : slotSize L (reversed n (7 - y % 8)) ≡ slotSize L (back n i)
+    slot-at : slotSize L (reversed n (lastLane - y % lanes)) ≡ slotSize L (back n i)
     slot-at = ap (λ j. slotSize L (reversed n j)) right-lane ∙ ap (λ q. slotSize L q) (same i)
 
-    weight-at : lift L n (7 - y % 8) ≡ weight L n i
+    weight-at : lift L n (lastLane - y % lanes) ≡ weight L n i
     weight-at = ap (lift L n) right-lane ∙ lift-weight i
 
-    pub right-cell-beside : n ≤ i → getD b (flat 8 i e) 0 ≡ 0
-    right-cell-beside out = right-stored ∙ right-beside L n y (λ (g : 7 - y % 8 < n). omega (arith, right-lane))
+    pub right-cell-beside : n ≤ i → getD b (flat lanes i e) 0 ≡ 0
+    right-cell-beside out = right-stored ∙ right-beside L n y (λ (g : lastLane - y % lanes < n). omega (arith, right-lane))
 
     module _ (l : i < n) where
-      inside : 7 - y % 8 < n
+      inside : lastLane - y % lanes < n
       inside = omega (arith, right-lane)
 
-      pub right-cell-empty : slotSize L (back n i) ≡ 0 → getD b (flat 8 i e) 0 ≡ 0
+      pub right-cell-empty : slotSize L (back n i) ≡ 0 → getD b (flat lanes i e) 0 ≡ 0
       right-cell-empty none = right-stored
-          ∙ right-empty L n y inside (λ (g : 0 < slotSize L (reversed n (7 - y % 8))). omega (arith, slot-at))
+          ∙ right-empty L n y inside (λ (g : 0 < slotSize L (reversed n (lastLane - y % lanes))). omega (arith, slot-at))
 
       module _ (some : 0 < slotSize L (back n i)) where
-        filled : 0 < slotSize L (reversed n (7 - y % 8))
+        filled : 0 < slotSize L (reversed n (lastLane - y % lanes))
         filled = omega (arith, slot-at)
 
-        pub right-cell-low : e < weight L n i → getD b (flat 8 i e) 0 ≡ 0
+        pub right-cell-low : e < weight L n i → getD b (flat lanes i e) 0 ≡ 0
         right-cell-low low = right-stored
             ∙ right-low L n y inside filled
-            (λ (g : lift L n (7 - y % 8) ≤ y / 8).
+            (λ (g : lift L n (lastLane - y % lanes) ≤ y / lanes).
             let g′ : weight L n i ≤ e = subst₂ (λ a b. a ≤ b) weight-at right-degree g in
             omega arith)
 
         module _ (here : weight L n i ≤ e) where
-          from : lift L n (7 - y % 8) ≤ y / 8
+          from : lift L n (lastLane - y % lanes) ≤ y / lanes
           from = subst₂ (λ a b. a ≤ b) (sym weight-at) (sym right-degree) here
 
-          pub right-cell-far : blockWords ≤ e - weight L n i → getD b (flat 8 i e) 0 ≡ 0
+          pub right-cell-far : blockWords ≤ e - weight L n i → getD b (flat lanes i e) 0 ≡ 0
           right-cell-far far = right-stored
               ∙ right-far L n y inside filled from
-              (λ (g : y / 8 - lift L n (7 - y % 8) < blockWords).
+              (λ (g : y / lanes - lift L n (lastLane - y % lanes) < blockWords).
               let g′ : e - weight L n i < blockWords = subst₂ (λ a b. b - a < blockWords) weight-at right-degree g in
               omega arith)
 
-          pub right-cell-value : e - weight L n i < blockWords → getD b (flat 8 i e) 0
+          pub right-cell-value : e - weight L n i < blockWords → getD b (flat lanes i e) 0
               ≡ getD L (slotWords * back n i + blockWords + (e - weight L n i)) 0
           right-cell-value near =
               right-stored
               ∙ right-value L n y inside filled from
               (subst₂ (λ a b. b - a < blockWords) (sym weight-at) (sym right-degree) near)
-              ∙ ap (λ q. tailWord L q (y / 8 - lift L n (7 - y % 8))) (ap (reversed n) right-lane ∙ same i)
-              ∙ ap (λ a. tailWord L (back n i) (y / 8 - a)) weight-at
+              ∙ ap (λ q. tailWord L q (y / lanes - lift L n (lastLane - y % lanes))) (ap (reversed n) right-lane ∙ same i)
+              ∙ ap (λ a. tailWord L (back n i) (y / lanes - a)) weight-at
               ∙ ap (λ b. tailWord L (back n i) (b - weight L n i)) right-degree

@@ -22,7 +22,7 @@ use Rattle.solve_lattice.specs.Memory.{Ends, Sums, Level, ValidLevel, Memory, p
 use Rattle.solve_lattice.specs.Sums.{sums-fewer}
 use Rattle.solve_lattice.specs.Holding.{HoldsSlots}
 use Rattle.solve_lattice.specs.Insertion.{Inserts}
-use Rattle.solve_lattice.specs.Room.{productWords, blockWords}
+use Rattle.solve_lattice.specs.Room.{productWords, blockWords, lanes}
 use Rattle.solve_second.specs.Monic.{MadeMonic}
 use Rattle.solve_second.specs.Greatest.{greatest}
 use Rattle.solve_second.specs.RightInserted.{InsertedRight, RightInserted, right-inserted}
@@ -69,7 +69,7 @@ denominator-found {p} {n} {L} {M} {w} {count} done made = record {
 }
 
 -- w, where the second system is laid out and its right side inserted
-pub laid-denominator : (p : ℕ) → Prime p → {n : ℕ} → n ≤ 8 → {L : Level} → ValidLevel p L → {T : Level} {b : List ℕ} → Laid n L T b
+pub laid-denominator : (p : ℕ) → Prime p → {n : ℕ} → n ≤ lanes → {L : Level} → ValidLevel p L → {T : Level} {b : List ℕ} → Laid n L T b
     → (found : Leading) → found .size ≡ length (polynomial p b 0 productWords) → found .value ≡ leading (modulo p) (polynomial p b 0 productWords)
     → {w : List ℕ} {count : ℕ} → TailFound p (startingMemory T b found) w count → DenominatorFound p n L w count
 laid-denominator p prime small valid laid found size last tail =

@@ -15,6 +15,7 @@ use Rattle.solve_second.specs.Greatest.{greatest}
 use Rattle.solve_second.specs.Transposed.{transposed-slots}
 use Rattle.solve_second.specs.ValidTransposed.{transposed-valid}
 use Rattle.solve_second.specs.Laid.{Laid}
+use Rattle.solve_lattice.specs.Room.{lanes}
 
 pub record DividedSecond (p n : ℕ) (L : Level) (block quotients : List ℕ) : Type 0 where
   pub slots : Level
@@ -25,7 +26,7 @@ pub record DividedSecond (p n : ℕ) (L : Level) (block quotients : List ℕ) : 
       → HoldsSlots p prime n (weights (polynomials (residues p prime)) n (greatest L n) U) slots
       (cleared (polynomials (residues p prime)) n (transposed (polynomials (residues p prime)) n (greatest L n) U))
 
-module _ {p n : ℕ} (small : n ≤ 8) {L : Level} (valid : ValidLevel p L) {T : Level} {b : List ℕ} (laid : Laid n L T b) where
+module _ {p n : ℕ} (small : n ≤ lanes) {L : Level} (valid : ValidLevel p L) {T : Level} {b : List ℕ} (laid : Laid n L T b) where
   pub laid-valid : ValidLevel p T
   laid-valid = transposed-valid p (omega (arith, valid .below 0 (omega arith))) small valid (laid .slots)
 

@@ -7,6 +7,7 @@ use native.Mathlib.Decide.{decLt, ℕ-discrete}
 use lib.ListN.{length, getD}
 use Rattle.solve_second.specs.Words.{when, when-yes, when-no}
 use Rattle.solve_second.specs.Spread.{Spread}
+use Rattle.solve_lattice.specs.Room.{lanes}
 
 -- of the first N words of w those of the turns below r are there, and the others are 0; behind them stands what stood in o
 pub record Filling (rank : ℕ → ℕ) (f : ℕ → ℕ) (N : ℕ) (o w : List ℕ) (r : ℕ) : Type 0 where
@@ -17,8 +18,8 @@ pub record Filling (rank : ℕ → ℕ) (f : ℕ → ℕ) (N : ℕ) (o w : List 
 
 -- the word of f at x is the one that a lane has there, or it is 0 and no place of the lane
 pub data LaneWord (f g : ℕ → ℕ) (to count x : ℕ) : Type 0 where
-  stored-at : (e : ℕ) → e < count → x ≡ to + 8 * e → f x ≡ g e → LaneWord f g to count x
-  left-out : ((e : ℕ) → e < count → ¬ (x ≡ to + 8 * e)) → f x ≡ 0 → LaneWord f g to count x
+  stored-at : (e : ℕ) → e < count → x ≡ to + lanes * e → f x ≡ g e → LaneWord f g to count x
+  left-out : ((e : ℕ) → e < count → ¬ (x ≡ to + lanes * e)) → f x ≡ 0 → LaneWord f g to count x
 
 module _ {rank : ℕ → ℕ} {f : ℕ → ℕ} {N : ℕ} where
   pub filling-start : (o : List ℕ) → N ≤ length o → ((x : ℕ) → x < N → getD o x 0 ≡ 0) → Filling rank f N o o 0
@@ -46,7 +47,7 @@ module _ {rank : ℕ → ℕ} {f : ℕ → ℕ} {N : ℕ} where
 
     -- turn r: the words of a lane, and no others but zeros
     pub filling-lane : {g : ℕ → ℕ} {to count : ℕ} {w′ : List ℕ} → Spread g to count w w′
-        → ((e : ℕ) → e < count → (to + 8 * e < N) × (rank (to + 8 * e) ≡ r))
+        → ((e : ℕ) → e < count → (to + lanes * e < N) × (rank (to + lanes * e) ≡ r))
         → ((x : ℕ) → x < N → rank x ≡ r → LaneWord f g to count x) → Filling rank f N o w′ (r + 1)
     filling-lane {g} {to} {count} {w′} spread places all = record {
       room = omega (arith, spread .same-length, so-far .room);

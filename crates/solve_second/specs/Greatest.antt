@@ -3,7 +3,7 @@ use Prim.Native.Nat.{ℕ, zero, suc, _+_, _<_, _≤_, max}
 use mathlib.Core.Path.{_≡_, refl, _∙_, ap, ap₂}
 use native.Mathlib.Omega.{arith}
 use native.Mathlib.Decide.{ℕ-discrete}
-use Rattle.solve_lattice.specs.Room.{blockWords}
+use Rattle.solve_lattice.specs.Room.{blockWords, blockDegrees, lanes}
 use Rattle.solve_lattice.specs.Memory.{height, Level, slotSize}
 
 unfoldable pub greatest : Level → ℕ → ℕ
@@ -12,7 +12,7 @@ greatest L (suc n) = max (greatest L n) (height (slotSize L n))
 
 -- no block has more than 128 words
 abbrev pub Low : Level → Type 0
-Low L = (q : ℕ) → q < 8 → slotSize L q ≤ blockWords
+Low L = (q : ℕ) → q < lanes → slotSize L q ≤ blockWords
 
 module _ (L : Level) where
   pub greatest-none : greatest L 0 ≡ 0
@@ -38,8 +38,8 @@ module _ (L : Level) where
   greatest-low zero b low = omega (arith, greatest-none)
   greatest-low (suc n) b low = omega (arith, greatest-next n, greatest-low n b (λ q h. low q (omega arith)), low n (omega arith))
 
-  pub greatest-small : (n : ℕ) → n ≤ 8 → Low L → greatest L n ≤ 16
-  greatest-small n small low = greatest-low n 16 (λ q h. omega (arith, low q (omega arith)))
+  pub greatest-small : (n : ℕ) → n ≤ lanes → Low L → greatest L n ≤ blockDegrees
+  greatest-small n small low = greatest-low n blockDegrees (λ q h. omega (arith, low q (omega arith)))
 
   pub greatest-positive : (n q : ℕ) → q < n → 0 < slotSize L q → 0 < greatest L n
   greatest-positive n q h some = omega (arith, greatest-high n q h)

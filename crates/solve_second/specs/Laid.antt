@@ -5,14 +5,14 @@ use mathlib.Core.List.{List}
 use lib.ListN.{length, getD, set, replicate}
 use Rattle.vector.specs.declared.leading.Leading.{Leading}
 use Rattle.solve_lattice.specs.Memory.{Level, slotSize, tailSize, slotInverse, Memory, memory}
-use Rattle.solve_lattice.specs.Room.{levelWords, sizesFrom, productWords, tailWords}
+use Rattle.solve_lattice.specs.Room.{levelWords, sizesFrom, productWords, tailWords, lanes}
 use Rattle.solve_second.specs.Words.{reversed, transposedWord, transposedSize, rightWord}
 
 pub record SlotsLaid (n : ℕ) (L T : Level) : Type 0 where
   pub room : length T ≡ levelWords
   pub words : (x : ℕ) → x < sizesFrom → getD T x 0 ≡ transposedWord L n x
-  pub sizes : (k : ℕ) → k < 8 → slotSize T k ≡ transposedSize L n k
-  pub tails : (k : ℕ) → k < 8 → tailSize T k ≡ 0
+  pub sizes : (k : ℕ) → k < lanes → slotSize T k ≡ transposedSize L n k
+  pub tails : (k : ℕ) → k < lanes → tailSize T k ≡ 0
   -- those of slots that are filled
   pub inverses : (k : ℕ) → k < n → 0 < slotSize L (reversed n k) → slotInverse T k ≡ slotInverse L (reversed n k)
 

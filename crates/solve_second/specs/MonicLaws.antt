@@ -31,7 +31,7 @@ use Rattle.solve_lattice.specs.Word.{residue, residue-mod, residue-mul, residue
 use Rattle.solve_lattice.specs.Word.{words, words-inside, words-behind, words-first}
 use Rattle.solve_lattice.specs.Range.{words-zero}
 use Rattle.solve_lattice.specs.Found.{found-within, found-ends, found-leading}
-use Rattle.solve_lattice.specs.Room.{blockWords, tailWords}
+use Rattle.solve_lattice.specs.Room.{blockWords, tailWords, mostCoefficients}
 use Rattle.solve_second.specs.Monic.{MadeMonic}
 use Rattle.solve_second.specs.ProductLaws.{cleared-length, cleared-none}
 
@@ -59,16 +59,16 @@ module _ {K : Type 0} (F : Field K) (x : Polynomial F) (some : 0 < size F x) whe
       (divides-trans up (divides-monic F x)) (divides-trans (monic-divides F x) (record { cofactor = A .unit; product = refl }))
       ∙ monic-scale F x
 
-module _ {p : ℕ} (prime₀ : Prime p) (tail : List ℕ) (zero : ZeroFrom p tail 0 tailWords 121) (found : ℕ)
-    (found-is : found ≡ length (polynomial p tail 0 121)) where
+module _ {p : ℕ} (prime₀ : Prime p) (tail : List ℕ) (zero : ZeroFrom p tail 0 tailWords mostCoefficients) (found : ℕ)
+    (found-is : found ≡ length (polynomial p tail 0 mostCoefficients)) where
   positive : 0 < p
   positive = omega (arith, prime₀ .large)
 
   tail-ends : Ends p tail 0 tailWords found
-  tail-ends = found-ends p positive tail tailWords 121 (omega arith) zero found found-is
+  tail-ends = found-ends p positive tail tailWords mostCoefficients (omega arith) zero found found-is
 
-  pub found-most : found ≤ 121
-  found-most = found-within p positive tail tailWords 121 (omega arith) zero found found-is
+  pub found-most : found ≤ mostCoefficients
+  found-most = found-within p positive tail tailWords mostCoefficients (omega arith) zero found found-is
 
   -- a tail that is zero
   pub monic-empty : (out out′ : List ℕ) → length out ≡ blockWords → found ≡ 0 → out′ ≡ stored (λ j. 0) out 0 blockWords → MadeMonic p tail out′ 0
@@ -92,9 +92,9 @@ module _ {p : ℕ} (prime₀ : Prime p) (tail : List ℕ) (zero : ZeroFrom p tai
       clear = cleared-none blockWords out out′ clears length-is
 
   -- one that is not
-  module _ (value : ℕ) (value-is : value ≡ lists.leading (modulo p) (polynomial p tail 0 121)) (some : 0 < found) where
+  module _ (value : ℕ) (value-is : value ≡ lists.leading (modulo p) (polynomial p tail 0 mostCoefficients)) (some : 0 < found) where
     last-is : value ≡ getD tail (found - 1) 0 % p
-    last-is = found-leading p positive tail tailWords 121 (omega arith) zero found found-is value value-is some
+    last-is = found-leading p positive tail tailWords mostCoefficients (omega arith) zero found found-is value value-is some
 
     pub value-positive : 0 < value
     value-positive = subst (λ w. 0 < w) (sym last-is)
@@ -195,7 +195,7 @@ module _ {p : ℕ} (prime₀ : Prime p) (tail : List ℕ) (zero : ZeroFrom p tai
                   ∙ ap₂ (λ u v. F .ring .mul u (F .inverse v)) (A .at j ∙ words-first p prime tail tailWords j (omega arith)) leading-is
                   ∙ sym (words-inside p prime out′ 0 blockWords j lt ∙ quotient j lt)
               go j (no ge) =
-                  ap (F .ring .mul (F .inverse (leading F x))) (A .at j ∙ words-zero p prime tail 0 tailWords 121 zero j (omega arith))
+                  ap (F .ring .mul (F .inverse (leading F x))) (A .at j ∙ words-zero p prime tail 0 tailWords mostCoefficients zero j (omega arith))
                   ∙ mul-zero (F .ring) (F .inverse (leading F x))
                   ∙ sym (words-behind p prime out′ 0 blockWords j (omega arith))
 

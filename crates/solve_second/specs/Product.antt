@@ -3,7 +3,7 @@ use Prim.Native.Nat.{ℕ, _*_, _<_}
 use mathlib.Core.Path.{_≡_}
 use mathlib.Core.List.{List}
 use lib.ListN.{length, getD}
-use Rattle.solve_lattice.specs.Room.{productWords, blockWords}
+use Rattle.solve_lattice.specs.Room.{productWords, blockWords, lanes}
 use Rattle.algebra.specs.Polynomial.{Polynomial, polynomials}
 use Rattle.modular.specs.Prime.{Prime}
 use Rattle.modular.specs.Residue.{residues}
@@ -17,8 +17,8 @@ pub record BlockMultiplied (p : ℕ) (f : List ℕ) (n : ℕ) (block : List ℕ)
   pub room : length out ≡ productWords
   pub bound : AtMost (blockWords * (p * p)) out
   pub holds : (prime : Prime p) (rows : ℕ) (ω : ℕ → ℕ) (x : Polynomial (residues p prime)) (v : ℕ → Polynomial (residues p prime))
-      → Holds (residues p prime) (words p prime f 0 n) x → Flat (residues p prime) rows 8 ω (words p prime block 0 m) v
-      → Flat (residues p prime) rows 8 ω (words p prime out 0 productWords) (λ i. polynomials (residues p prime) .mul x (v i))
+      → Holds (residues p prime) (words p prime f 0 n) x → Flat (residues p prime) rows lanes ω (words p prime block 0 m) v
+      → Flat (residues p prime) rows lanes ω (words p prime out 0 productWords) (λ i. polynomials (residues p prime) .mul x (v i))
 
 -- f in its first n words, g in its first m
 pub record Multiplied (p : ℕ) (f : List ℕ) (n : ℕ) (g : List ℕ) (m : ℕ) (out : List ℕ) : Type 0 where

@@ -23,7 +23,7 @@ use Rattle.solve_lattice.specs.Memory.{Sums}
 use Rattle.solve_lattice.specs.Range.{words-zero}
 use Rattle.solve_descent.specs.Held.{one-lane}
 use Rattle.solve_descent.specs.Product.{less, TakesProduct}
-use Rattle.solve_lattice.specs.Room.{productWords, blockWords}
+use Rattle.solve_lattice.specs.Room.{productWords, blockWords, lanes, mostPlaces}
 use Rattle.solve_second.specs.Product.{BlockMultiplied, Multiplied}
 use Rattle.solve_second.specs.Negated.{negated-read}
 use Rattle.solve_second.specs.Reduced.{reduced-below, reduced-words}
@@ -59,7 +59,7 @@ product-reducible p n N t few most =
     at-most-reducible (0 + n * (p * p)) p t N (omega (arith, mul-le-mul-right (p * p) few)) most
 
 pub product-sums : {p : ℕ} {f : List ℕ} {n : ℕ} {block : List ℕ} {m : ℕ} {out : List ℕ} → BlockMultiplied p f n block m out
-    → Sums p 2112 out
+    → Sums p mostPlaces out
 product-sums {p} done i = omega (arith, done .bound i)
 
 -- f, its first n words, negated in `minus`; t is clear, t₁ what is left when the product is taken off
@@ -105,14 +105,14 @@ module _ {p : ℕ} (prime₀ : Prime p) (w : ℕ) (h minus f : List ℕ) (n : �
   }
 
 pub block-multiplied : {p : ℕ} → Prime p → (h minus f : List ℕ) (n : ℕ) (s : List ℕ) (m : ℕ) (t t₁ : List ℕ) → n ≤ blockWords
-    → n ≤ length h → n * 8 + m ≤ 1096 → length t ≡ productWords → AtMost 0 t
-    → minus ≡ stored (λ j. modulo p .neg (getD f j 0 % p)) h 0 n → TakesProduct p 8 t minus 0 1 n s 0 m t₁
+    → n ≤ length h → n * lanes + m ≤ 1096 → length t ≡ productWords → AtMost 0 t
+    → minus ≡ stored (λ j. modulo p .neg (getD f j 0 % p)) h 0 n → TakesProduct p lanes t minus 0 1 n s 0 m t₁
     → BlockMultiplied p f n s m t₁
 block-multiplied {p} prime₀ h minus f n s m t t₁ few room fits length-is clear stores T = record {
   room = T .same-length ∙ length-is;
   bound = λ i. omega (arith, T .bound 0 clear i, mul-le-mul-right (p * p) few);
   holds = λ prime rows ω x v A B.
-      product-flat prime₀ 8 h minus f n s m productWords t t₁ room fits length-is clear stores T prime x A rows ω v B;
+      product-flat prime₀ lanes h minus f n s m productWords t t₁ room fits length-is clear stores T prime x A rows ω v B;
 }
 
 -- of one lane, t₁ reduced as far as the product reaches

@@ -8,38 +8,38 @@ use lib.ListN.{length, getD, List·getD-eq-default}
 use Rattle.reduction.specs.Flat.{flat}
 use Rattle.reduction.specs.Transpose.{back}
 use Rattle.vector.specs.Stored.{stored, stored-first, stored-all-first}
-use Rattle.solve_lattice.specs.Room.{rowsWords, blockWords}
+use Rattle.solve_lattice.specs.Room.{rowsWords, blockWords, lanes, lastLane}
 use Rattle.solve_second.specs.Words.{when, when-yes, when-no, reversed}
 use Rattle.solve_second.specs.ValidTransposed.{when-below}
 
 -- the word at x of the rows
 abbrev pub quotientWord : (l : List ℕ) (n x : ℕ) → ℕ
-quotientWord l n x = when (decLt (x / blockWords) n) (getD l (8 * (x % blockWords) + (7 - reversed n (x / blockWords))) 0)
+quotientWord l n x = when (decLt (x / blockWords) n) (getD l (lanes * (x % blockWords) + (lastLane - reversed n (x / blockWords))) 0)
 
 module _ (l : List ℕ) (n x : ℕ) where
   quotient-beyond : ¬ (x / blockWords < n) → quotientWord l n x ≡ 0
   quotient-beyond out = when-no (decLt (x / blockWords) n) _ out
 
-  quotient-value : x / blockWords < n → quotientWord l n x ≡ getD l (8 * (x % blockWords) + (7 - reversed n (x / blockWords))) 0
+  quotient-value : x / blockWords < n → quotientWord l n x ≡ getD l (lanes * (x % blockWords) + (lastLane - reversed n (x / blockWords))) 0
   quotient-value inside = when-yes (decLt (x / blockWords) n) _ inside
 
 -- lane 7 - (n - 1 - k) is row k, and the rows from the n-th on are zero
 module _ (l : List ℕ) (n : ℕ) where
-  pub lane-row : (k e : ℕ) → k < n → e < blockWords → getD l (8 * e + (7 - reversed n k)) 0 ≡ quotientWord l n (blockWords * k + e)
+  pub lane-row : (k e : ℕ) → k < n → e < blockWords → getD l (lanes * e + (lastLane - reversed n k)) 0 ≡ quotientWord l n (blockWords * k + e)
   lane-row k e h lt =
       let y : ℕ = blockWords * k + e in
       let slot : y / blockWords ≡ k = omega arith in
       let degree : y % blockWords ≡ e = omega arith in
       sym (quotient-value l n y (omega (arith, slot))
-      ∙ ap₂ (λ a b. getD l (8 * a + (7 - reversed n b)) 0) degree slot)
+      ∙ ap₂ (λ a b. getD l (lanes * a + (lastLane - reversed n b)) 0) degree slot)
 
   pub no-row : (i : ℕ) → 0 ≡ quotientWord l n (blockWords * n + i)
   no-row i = sym (quotient-beyond l n (blockWords * n + i) (λ h. omega arith))
 
-module _ (l : List ℕ) (n : ℕ) (small : n ≤ 8) (o : List ℕ) (room : rowsWords ≤ length o) where
+module _ (l : List ℕ) (n : ℕ) (small : n ≤ lanes) (o : List ℕ) (room : rowsWords ≤ length o) where
   -- coefficient e of row k
   pub row-cell : (k e : ℕ) → k < n → e < blockWords
-      → getD (stored (quotientWord l n) o 0 rowsWords) (blockWords * k + e) 0 ≡ getD l (flat 8 (back n k) e) 0
+      → getD (stored (quotientWord l n) o 0 rowsWords) (blockWords * k + e) 0 ≡ getD l (flat lanes (back n k) e) 0
   row-cell k e h lt =
       stored-first (quotientWord l n) o rowsWords (blockWords * k + e) (omega arith) (omega arith)
       ∙ sym (lane-row l n k e h lt)

@@ -8,7 +8,7 @@ use native.Mathlib.Nat.{mod-eq-of-lt}
 use lib.ListN.{length, getD}
 use Rattle.vector.specs.Bound.{AtMost}
 use Rattle.solve_lattice.specs.Memory.{height, Level, slotSize, tailSize, ValidLevel}
-use Rattle.solve_lattice.specs.Room.{productWords, blockWords, slotWords}
+use Rattle.solve_lattice.specs.Room.{productWords, blockWords, slotWords, blockDegrees, lanes, lastLane, mostCoefficients}
 use Rattle.solve_second.specs.Greatest.{greatest}
 use Rattle.solve_second.specs.Words.{reversed, lift, tailWord, rightWord, right-beside, right-empty}
 use Rattle.solve_second.specs.Words.{right-low, right-far, right-value}
@@ -18,8 +18,8 @@ use Rattle.solve_second.specs.Filling.{filling-skip, filling-lane, filli
 
 -- behind their sizes the tails of a level are 0
 pub record TailsEnd (L : Level) : Type 0 where
-  pub short : (q : ℕ) → q < 8 → tailSize L q ≤ 121
-  pub zero : (q j : ℕ) → q < 8 → tailSize L q ≤ j → j < blockWords → tailWord L q j ≡ 0
+  pub short : (q : ℕ) → q < lanes → tailSize L q ≤ mostCoefficients
+  pub zero : (q j : ℕ) → q < lanes → tailSize L q ≤ j → j < blockWords → tailWord L q j ≡ 0
 
 pub tails-end : {p : ℕ} {L : Level} → ValidLevel p L → TailsEnd L
 tails-end {p} {L} valid = record {
@@ -29,7 +29,7 @@ tails-end {p} {L} valid = record {
 
 -- a lane a turn
 abbrev pub rightRank : ℕ → ℕ
-rightRank x = 7 - x % 8
+rightRank x = lastLane - x % lanes
 
 abbrev pub Righting : (L : Level) (n : ℕ) (o w : List ℕ) (r : ℕ) → Type 0
 Righting L n = Filling rightRank (rightWord L n) productWords
@@ -43,39 +43,39 @@ righting-same n same {o} {w} {r} so-far = subst (λ l. Righting l n o w r) same 
 
 -- the words of lane i, where its slot is filled
 module _ (L : Level) (n i : ℕ) (lane : i < n) (some : 0 < slotSize L (reversed n i)) where
-  filled : (x : ℕ) → 7 - x % 8 ≡ i → 0 < slotSize L (reversed n (7 - x % 8))
+  filled : (x : ℕ) → lastLane - x % lanes ≡ i → 0 < slotSize L (reversed n (lastLane - x % lanes))
   filled x here = subst (λ j. 0 < slotSize L (reversed n j)) (sym here) some
 
   -- the word of degree lift + e
-  module _ (x e : ℕ) (here : 7 - x % 8 ≡ i) (degree : x / 8 ≡ lift L n i + e) where
-    from : lift L n (7 - x % 8) ≤ x / 8
+  module _ (x e : ℕ) (here : lastLane - x % lanes ≡ i) (degree : x / lanes ≡ lift L n i + e) where
+    from : lift L n (lastLane - x % lanes) ≤ x / lanes
     from = subst₂ (λ j m. lift L n j ≤ m) (sym here) (sym degree) (omega arith)
 
-    behind : x / 8 - lift L n (7 - x % 8) ≡ e
-    behind = ap (λ j. x / 8 - lift L n j) here ∙ omega (arith, degree)
+    behind : x / lanes - lift L n (lastLane - x % lanes) ≡ e
+    behind = ap (λ j. x / lanes - lift L n j) here ∙ omega (arith, degree)
 
     word-far : blockWords ≤ e → rightWord L n x ≡ 0
     word-far far = right-far L n x (omega arith) (filled x here) from
-        (λ (g : x / 8 - lift L n (7 - x % 8) < blockWords). omega (arith, behind))
+        (λ (g : x / lanes - lift L n (lastLane - x % lanes) < blockWords). omega (arith, behind))
 
     word-near : e < blockWords → rightWord L n x ≡ tailWord L (reversed n i) e
     word-near near =
         right-value L n x (omega arith) (filled x here) from (omega (arith, behind))
-        ∙ ap (λ j. tailWord L (reversed n j) (x / 8 - lift L n (7 - x % 8))) here
+        ∙ ap (λ j. tailWord L (reversed n j) (x / lanes - lift L n (lastLane - x % lanes))) here
         ∙ ap (tailWord L (reversed n i)) behind
 
 -- slot n - 1 - i of the level is empty
 none-there : (L : Level) (n i : ℕ) → i < n → ¬ (0 < slotSize L (reversed n i)) → (x : ℕ) → rightRank x ≡ i → rightWord L n x ≡ 0
 none-there L n i lane none x here = right-empty L n x (omega arith)
-    (λ (g : 0 < slotSize L (reversed n (7 - x % 8))). none (subst (λ j. 0 < slotSize L (reversed n j)) here g))
+    (λ (g : 0 < slotSize L (reversed n (lastLane - x % lanes))). none (subst (λ j. 0 < slotSize L (reversed n j)) here g))
 
 module _ (L : Level) (n : ℕ) {o w : List ℕ} where
   -- the lanes from n on are 0
-  pub righting-end : Righting L n o w n → n ≤ 8 → (x : ℕ) → x < productWords → getD w x 0 ≡ rightWord L n x
-  righting-end so-far small = filling-end (filling-skip so-far 8 small rest) (λ x h. omega arith)
+  pub righting-end : Righting L n o w n → n ≤ lanes → (x : ℕ) → x < productWords → getD w x 0 ≡ rightWord L n x
+  righting-end so-far small = filling-end (filling-skip so-far lanes small rest) (λ x h. omega arith)
     where
-      rest : (x : ℕ) → x < productWords → n ≤ rightRank x → rightRank x < 8 → rightWord L n x ≡ 0
-      rest x h low high = right-beside L n x (λ (g : 7 - x % 8 < n). omega arith)
+      rest : (x : ℕ) → x < productWords → n ≤ rightRank x → rightRank x < lanes → rightWord L n x ≡ 0
+      rest x h low high = right-beside L n x (λ (g : lastLane - x % lanes < n). omega arith)
 
   module _ (i : ℕ) (lane : i < n) where
     pub righting-empty : ¬ (0 < slotSize L (reversed n i)) → Righting L n o w i → Righting L n o w (i + 1)
@@ -83,33 +83,33 @@ module _ (L : Level) (n : ℕ) {o w : List ℕ} where
         filling-skip so-far (i + 1) (omega arith) (λ x h low high. none-there L n i lane none x (omega arith))
 
     -- lane i: below the lift and behind the count it is 0
-    pub righting-lane : 0 < slotSize L (reversed n i) → n ≤ 8 → greatest L n ≤ 16 → {count : ℕ} → count ≤ 121
+    pub righting-lane : 0 < slotSize L (reversed n i) → n ≤ lanes → greatest L n ≤ blockDegrees → {count : ℕ} → count ≤ mostCoefficients
         → ((j : ℕ) → count ≤ j → j < blockWords → tailWord L (reversed n i) j ≡ 0) → Righting L n o w i → {t : ℕ}
         → t ≡ greatest L n → {w′ : List ℕ} → Spread (λ e. tailWord L (reversed n i) e)
-        (7 - i + 8 * (t - height (slotSize L (reversed n i)))) count w w′ → Righting L n o w′ (i + 1)
+        (lastLane - i + lanes * (t - height (slotSize L (reversed n i)))) count w w′ → Righting L n o w′ (i + 1)
     righting-lane some small top {count} short behind so-far et {w′} spread =
         filling-lane so-far (spread-same spread (λ e. tailWord L (reversed n i) e) (λ e lt. refl)
-        (ap (λ t. 7 - i + 8 * (t - height (slotSize L (reversed n i)))) et) refl) places word
+        (ap (λ t. lastLane - i + lanes * (t - height (slotSize L (reversed n i)))) et) refl) places word
       where
-        places : (e : ℕ) → e < count → (7 - i + 8 * lift L n i + 8 * e < productWords) × (rightRank (7 - i + 8 * lift L n i + 8 * e) ≡ i)
+        places : (e : ℕ) → e < count → (lastLane - i + lanes * lift L n i + lanes * e < productWords) × (rightRank (lastLane - i + lanes * lift L n i + lanes * e) ≡ i)
         places e lt = (omega arith, omega arith)
 
         word : (x : ℕ) → x < productWords → rightRank x ≡ i
-            → LaneWord (rightWord L n) (λ e. tailWord L (reversed n i) e) (7 - i + 8 * lift L n i) count x
-        word x h here = go (decLt (x / 8) (lift L n i)) (decLt (x / 8 - lift L n i) count) (decLt (x / 8 - lift L n i) blockWords)
+            → LaneWord (rightWord L n) (λ e. tailWord L (reversed n i) e) (lastLane - i + lanes * lift L n i) count x
+        word x h here = go (decLt (x / lanes) (lift L n i)) (decLt (x / lanes - lift L n i) count) (decLt (x / lanes - lift L n i) blockWords)
           where
-            go : Dec (x / 8 < lift L n i) → Dec (x / 8 - lift L n i < count) → Dec (x / 8 - lift L n i < blockWords)
-                → LaneWord (rightWord L n) (λ e. tailWord L (reversed n i) e) (7 - i + 8 * lift L n i) count x
+            go : Dec (x / lanes < lift L n i) → Dec (x / lanes - lift L n i < count) → Dec (x / lanes - lift L n i < blockWords)
+                → LaneWord (rightWord L n) (λ e. tailWord L (reversed n i) e) (lastLane - i + lanes * lift L n i) count x
             go (yes low) d d′ = left-out (λ e lt same. omega arith)
                 (right-low L n x (omega arith) (filled L n i lane some x here)
-                (λ (g : lift L n (7 - x % 8) ≤ x / 8). omega (arith, ap (lift L n) here)))
-            go (no from) (yes more) d = stored-at (x / 8 - lift L n i) more (omega arith)
-                (word-near L n i lane some x (x / 8 - lift L n i) here (omega arith) (omega arith))
+                (λ (g : lift L n (lastLane - x % lanes) ≤ x / lanes). omega (arith, ap (lift L n) here)))
+            go (no from) (yes more) d = stored-at (x / lanes - lift L n i) more (omega arith)
+                (word-near L n i lane some x (x / lanes - lift L n i) here (omega arith) (omega arith))
             go (no from) (no past) (yes near) = left-out (λ e lt same. omega arith)
-                (word-near L n i lane some x (x / 8 - lift L n i) here (omega arith) near
-                ∙ behind (x / 8 - lift L n i) (omega arith) near)
+                (word-near L n i lane some x (x / lanes - lift L n i) here (omega arith) near
+                ∙ behind (x / lanes - lift L n i) (omega arith) near)
             go (no from) (no past) (no far) = left-out (λ e lt same. omega arith)
-                (word-far L n i lane some x (x / 8 - lift L n i) here (omega arith) (omega arith))
+                (word-far L n i lane some x (x / lanes - lift L n i) here (omega arith) (omega arith))
 
     -- nothing is put where nothing is
     pub righting-none : ¬ (0 < slotSize L (reversed n i)) → Righting L n o w i → {g : ℕ → ℕ} {to : ℕ} {w′ : List ℕ}

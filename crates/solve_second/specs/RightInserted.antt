@@ -36,7 +36,7 @@ use Rattle.solve_lattice.specs.Range.{words-zero}
 use Rattle.solve_lattice.specs.Reading.{holds-filled}
 use Rattle.solve_lattice.specs.Found.{found-ends, found-leading}
 use Rattle.solve_lattice.specs.Insertion.{Starts, Inserts, inserts-inserted}
-use Rattle.solve_lattice.specs.Room.{productWords, blockWords, slotWords, tailWords}
+use Rattle.solve_lattice.specs.Room.{productWords, blockWords, slotWords, tailWords, blockDegrees, lanes, mostCoefficients}
 use Rattle.solve_second.specs.Greatest.{greatest, greatest-high}
 use Rattle.solve_second.specs.Laid.{Laid, startingMemory}
 use Rattle.solve_second.specs.Transposed.{transposed-slots, right-held}
@@ -51,7 +51,7 @@ pub record InsertedRight (p : ℕ) (prime : Prime p) (n D : ℕ) (U : Slots (Pol
 
 pub record RightInserted (p n : ℕ) (L : Level) (M : Memory) : Type 0 where
   pub valid : Valid p M
-  pub tail : ZeroFrom p (M .tail) 0 tailWords 121
+  pub tail : ZeroFrom p (M .tail) 0 tailWords mostCoefficients
   pub inserted : (prime : Prime p) (U : Slots (Polynomial (residues p prime))) → HoldsSlots p prime n unweighted L U
       → InsertedRight p prime n (greatest L n) U M
 
@@ -81,7 +81,7 @@ tail-small : {p : ℕ} → Prime p → AtMost p tailOne
 tail-small prime zero = omega (arith, one, prime .large)
 tail-small prime (suc j) = omega (arith, rest (suc j) (omega arith))
 
-module _ (p : ℕ) (prime : Prime p) {n : ℕ} (small : n ≤ 8) {L : Level} (valid : ValidLevel p L) {T : Level} {b : List ℕ}
+module _ (p : ℕ) (prime : Prime p) {n : ℕ} (small : n ≤ lanes) {L : Level} (valid : ValidLevel p L) {T : Level} {b : List ℕ}
     (laid : Laid n L T b) where
   positive : 0 < p
   positive = omega (arith, prime .large)
@@ -93,7 +93,7 @@ module _ (p : ℕ) (prime : Prime p) {n : ℕ} (small : n ≤ 8) {L : Level} (va
   pub block-reducible : Reducible p b productWords
   block-reducible = at-most-reducible p p b productWords (residue-small p p positive (omega arith)) block-small
 
-module _ (p : ℕ) (prime : Prime p) {n : ℕ} (small : n ≤ 8) {L : Level} (valid : ValidLevel p L) {T : Level} {b : List ℕ}
+module _ (p : ℕ) (prime : Prime p) {n : ℕ} (small : n ≤ lanes) {L : Level} (valid : ValidLevel p L) {T : Level} {b : List ℕ}
     (laid : Laid n L T b) (found : Leading) (found-size : found .size ≡ length (polynomial p b 0 productWords))
     (found-value : found .value ≡ leading (modulo p) (polynomial p b 0 productWords)) where
   behind-none : ZeroFrom p b 0 productWords productWords
@@ -144,7 +144,7 @@ module _ (p : ℕ) (prime : Prime p) {n : ℕ} (small : n ≤ 8) {L : Level} (va
       hand = record {
         block = record {
           lanes = B .lanes;
-          lane = λ i h. subst (λ v. Holds (residues p prime) (λ e. words p prime b 0 productWords (flat 8 i e))
+          lane = λ i h. subst (λ v. Holds (residues p prime) (λ e. words p prime b 0 productWords (flat lanes i e))
               (shift (residues p prime) (weights (polynomials (residues p prime)) n (greatest L n) U i) v))
               (sym (extend-below n g (polynomials (residues p prime) .one) i h)) (B .lane i h);
           beside = B .beside;
@@ -154,11 +154,11 @@ module _ (p : ℕ) (prime : Prime p) {n : ℕ} (small : n ≤ 8) {L : Level} (va
       size = refl;
     }
       where
-        B : Flat (residues p prime) n 8 (weights (polynomials (residues p prime)) n (greatest L n) U) (words p prime b 0 productWords) g
+        B : Flat (residues p prime) n lanes (weights (polynomials (residues p prime)) n (greatest L n) U) (words p prime b 0 productWords) g
         B = right-held p prime small valid holds laid
 
     -- some bound on the tails is always there: they have at most 121 coefficients
-    low : (q : ℕ) → q < n → U .size q ≤ 16
+    low : (q : ℕ) → q < n → U .size q ≤ blockDegrees
     low q h = omega (arith, holds .size q h, valid .slot q (omega arith) .block .within)
 
     tops : Tops (sized (residues p prime)) n 241 (greatest L n) U
@@ -172,8 +172,8 @@ module _ (p : ℕ) (prime : Prime p) {n : ℕ} (small : n ≤ 8) {L : Level} (va
         degrees-small =
             omega (arith, total-le n (λ q. U .size q - 1) (λ q. 15) (λ q h. omega (arith, low q h)), total-constant n 15)
 
-        tail-size : (q : ℕ) → q < n → 0 < U .size q → size (residues p prime) (U .at q n) ≤ 121
-        tail-size q h f = holds-size (residues p prime) (holds .vector q h f .tail) 121
+        tail-size : (q : ℕ) → q < n → 0 < U .size q → size (residues p prime) (U .at q n) ≤ mostCoefficients
+        tail-size q h f = holds-size (residues p prime) (holds .vector q h f .tail) mostCoefficients
             (λ j l. words-zero p prime L (slotWords * q + blockWords) blockWords (tailSize L q) (valid .slot q (omega arith) .tail) j
             (omega (arith, valid .slot q (omega arith) .tail-within)))
 
@@ -197,7 +197,7 @@ module _ (p : ℕ) (prime : Prime p) {n : ℕ} (small : n ≤ 8) {L : Level} (va
     pub right-ends : {M′ : Memory} → Inserts p (startingMemory T b found) M′ → InsertedRight p prime n (greatest L n) U M′
     right-ends done = ended (inserts-inserted p prime done first-holds)
 
-pub right-inserted : (p : ℕ) → Prime p → {n : ℕ} → n ≤ 8 → {L : Level} → ValidLevel p L → {T : Level} {b : List ℕ} → Laid n L T b
+pub right-inserted : (p : ℕ) → Prime p → {n : ℕ} → n ≤ lanes → {L : Level} → ValidLevel p L → {T : Level} {b : List ℕ} → Laid n L T b
     → (found : Leading) → found .size ≡ length (polynomial p b 0 productWords) → found .value ≡ leading (modulo p) (polynomial p b 0 productWords)
     → {M′ : Memory} → Inserts p (startingMemory T b found) M′ → RightInserted p n L M′
 right-inserted p prime small valid laid found found-size found-value done = record {

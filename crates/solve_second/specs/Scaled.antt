@@ -23,7 +23,7 @@ use Rattle.solve_lattice.specs.Holding.{HoldsSlots}
 use Rattle.solve_lattice.specs.Range.{words-zero, words-shorter, zero-word}
 use Rattle.solve_lattice.specs.Reading.{flat-same, ends-pivot}
 use Rattle.solve_lattice.specs.Found.{found-ends}
-use Rattle.solve_lattice.specs.Room.{productWords}
+use Rattle.solve_lattice.specs.Room.{productWords, lanes}
 use Rattle.solve_second.specs.Product.{BlockMultiplied}
 use Rattle.solve_second.specs.Greatest.{greatest, greatest-small}
 use Rattle.solve_second.specs.Transposed.{right-held}
@@ -35,7 +35,7 @@ use Rattle.solve_second.specs.Denominator.{FoundDenominator, Denominator
 pub record RightScaled (p n : ℕ) (L : Level) (w : List ℕ) (count : ℕ) (out : List ℕ) : Type 0 where
   pub holds : (prime : Prime p) (U : Slots (Polynomial (residues p prime))) (x : Polynomial (residues p prime))
       → ValidLevel p L → HoldsSlots p prime n unweighted L U → Holds (residues p prime) (words p prime w 0 count) x
-      → Flat (residues p prime) n 8 (weights (polynomials (residues p prime)) n (greatest L n) U) (words p prime out 0 productWords)
+      → Flat (residues p prime) n lanes (weights (polynomials (residues p prime)) n (greatest L n) U) (words p prime out 0 productWords)
       (λ i. polynomials (residues p prime) .mul x (rightSide (polynomials (residues p prime)) n (greatest L n) U i))
 
 -- an array of so many words up to the last that is not 0 holds a polynomial of that size
@@ -49,7 +49,7 @@ ends-size p prime {l} {N} {k} {x} ends some holds =
     nonzero e = omega (arith, ends .last some, zero-word p prime l 0 N (k - 1) (omega (arith, ends .within)) e)
 
 -- the right side as it is laid out, of m words
-module _ {p n : ℕ} (small : n ≤ 8) {L T : Level} {b : List ℕ} (laid : Laid n L T b) (valid : ValidLevel p L) {w : List ℕ}
+module _ {p n : ℕ} (small : n ≤ lanes) {L T : Level} {b : List ℕ} (laid : Laid n L T b) (valid : ValidLevel p L) {w : List ℕ}
     {count : ℕ}
     (found : DenominatorFound p n L w count) (m : ℕ) (m-is : m ≡ length (polynomial p b 0 productWords)) where
   positive : 0 < p
@@ -92,7 +92,7 @@ module _ {p n : ℕ} (small : n ≤ 8) {L T : Level} {b : List ℕ} (laid : Laid
       long : size (residues p (has .prime)) x ≡ count
       long = ends-size p (has .prime) (found .ends) nonzero (F .holds)
 
-      filled-room : count * 8 + m ≤ 1096
+      filled-room : count * lanes + m ≤ 1096
       filled-room = omega (
         arith,
         long,
@@ -106,10 +106,10 @@ module _ {p n : ℕ} (small : n ≤ 8) {L T : Level} {b : List ℕ} (laid : Laid
       )
 
     -- w times the right side has at most 136 degrees
-    pub product-room : count * 8 + m ≤ 1096
+    pub product-room : count * lanes + m ≤ 1096
     product-room = go (ℕ-discrete m 0) (ℕ-discrete count 0)
       where
-        go : Dec (m ≡ 0) → Dec (count ≡ 0) → count * 8 + m ≤ 1096
+        go : Dec (m ≡ 0) → Dec (count ≡ 0) → count * lanes + m ≤ 1096
         go (yes none) d = omega (arith, found .ends .within)
         go (no some) (yes none) = omega (arith, right-within)
         go (no some) (no many) = filled-room (omega arith) (omega arith)

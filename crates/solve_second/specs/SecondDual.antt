@@ -25,7 +25,7 @@ use Rattle.solve_lattice.specs.Memory.{Level, Memory}
 use Rattle.solve_lattice.specs.Holding.{HoldsSlots}
 use Rattle.solve_lattice.specs.Reading.{ends-zero}
 use Rattle.solve_lattice.specs.Quotients.{HoldsQuotient, Dividend, Divides, Divided}
-use Rattle.solve_lattice.specs.Room.{productWords}
+use Rattle.solve_lattice.specs.Room.{productWords, lanes}
 use Rattle.solve_second.specs.RightInserted.{InsertedRight}
 
 -- tails do not matter for the span of blocks
@@ -75,7 +75,7 @@ module _ (p : ℕ) (prime : Prime p) {n B D : ℕ} {U : Slots (Polynomial (resid
   pub divided-dual : {L : Level} {block block′ quotients : List ℕ} {left : ℕ}
       → HoldsSlots p prime n (weights (polynomials (residues p prime)) n D U) L (cleared (polynomials (residues p prime)) n
       (transposed (polynomials (residues p prime)) n D U))
-      → Flat (residues p prime) n 8 (weights (polynomials (residues p prime)) n D U) (words p prime block 0 productWords) product
+      → Flat (residues p prime) n lanes (weights (polynomials (residues p prime)) n D U) (words p prime block 0 productWords) product
       → Divided p L block block′ quotients left
       → HoldsDual p prime n B D U (polynomials (residues p prime) .mul (m .unit) (I .run .now .hand n)) quotients
   divided-dual {L} {block} {block′} {quotients} {left} slots flat done = record {

@@ -22,7 +22,7 @@ use Rattle.solve_lattice.specs.Memory.{Level, ValidLevel}
 use Rattle.solve_lattice.specs.Holding.{HoldsSlots}
 use Rattle.solve_lattice.specs.Range.{words-shorter}
 use Rattle.solve_lattice.specs.Quotients.{HoldsQuotient}
-use Rattle.solve_lattice.specs.Room.{productWords, rowsWords, blockWords}
+use Rattle.solve_lattice.specs.Room.{productWords, rowsWords, blockWords, blockDegrees, lanes, mostCoefficients}
 use Rattle.solve_second.specs.Greatest.{greatest}
 use Rattle.solve_second.specs.RightInserted.{tops-lower}
 use Rattle.solve_second.specs.SecondDual.{HoldsDual, divided-dual}
@@ -32,19 +32,19 @@ use Rattle.solve_second.specs.Scaled.{RightScaled}
 use Rattle.solve_second.specs.DividedSecond.{DividedSecond}
 use Rattle.solve_second.specs.QuotientRows.{quotientWord, row-cell, rows-below}
 
-module _ {p n : ℕ} (small : n ≤ 8) {L : Level} (valid : ValidLevel p L) {w : List ℕ} {count : ℕ}
+module _ {p n : ℕ} (small : n ≤ lanes) {L : Level} (valid : ValidLevel p L) {w : List ℕ} {count : ℕ}
     (found : DenominatorFound p n L w count) {block : List ℕ} (scaled : RightScaled p n L w count block)
     {quotients : List ℕ} (divided : DividedSecond p n L block quotients) (o : List ℕ) (room : rowsWords ≤ length o)
     (behind : (i : ℕ) → rowsWords ≤ i → getD o i 0 < p) (rows : List ℕ) (er : rows ≡ stored (quotientWord quotients n) o 0 rowsWords) where
   -- a quotient of at most 121 coefficients is in the 128 words of its row
-  row-holds : (prime : Prime p) (k : ℕ) → k < n → (y : Polynomial (residues p prime)) → size (residues p prime) y ≤ 121
+  row-holds : (prime : Prime p) (k : ℕ) → k < n → (y : Polynomial (residues p prime)) → size (residues p prime) y ≤ mostCoefficients
       → HoldsQuotient p prime quotients (back n k) y → Holds (residues p prime) (words p prime rows (blockWords * k) blockWords) y
   row-holds prime k h y short holds = record { at = λ e. ⊎-elim (near e) (far e) (below-or-not e blockWords) }
     where
       near : (e : ℕ) → e < blockWords → coefficients (residues p prime) y e ≡ words p prime rows (blockWords * k) blockWords e
       near e lt =
           holds .at e
-          ∙ words-first p prime quotients productWords (flat 8 (back n k) e) (omega arith)
+          ∙ words-first p prime quotients productWords (flat lanes (back n k) e) (omega arith)
           ∙ ap (residue p prime) (sym (ap (λ l. getD l (blockWords * k + e) 0) er ∙ row-cell quotients n small o room k e h lt))
           ∙ sym (words-inside p prime rows (blockWords * k) blockWords e lt)
 
@@ -52,7 +52,7 @@ module _ {p n : ℕ} (small : n ≤ 8) {L : Level} (valid : ValidLevel p L) {w :
       far e ge = coefficients-beyond (residues p prime) y e (omega arith) ∙ sym (words-behind p prime rows (blockWords * k) blockWords e ge)
 
   module _ (prime : Prime p) (B : ℕ) (U : Slots (Polynomial (residues p prime))) (bound : B ≤ 120)
-      (holds : HoldsSlots p prime n unweighted L U) (tops : Tops (sized (residues p prime)) n B 16 U) where
+      (holds : HoldsSlots p prime n unweighted L U) (tops : Tops (sized (residues p prime)) n B blockDegrees U) where
     F : FoundDenominator p prime n (greatest L n) U w
     F = found .found prime B U holds (tops-lower holds tops)
 

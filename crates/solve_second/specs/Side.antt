@@ -6,6 +6,7 @@ use Rattle.solve_second.specs.Same.{SameBlocks}
 use Rattle.solve_second.specs.WithRow.{withRow, row-blocks, row-valid}
 use Rattle.solve_second.specs.declared.right.Side.{Side}
 use Rattle.solve_second.specs.declared.right.Side.the-variants.{Tails, Row}
+use Rattle.solve_lattice.specs.Room.{lanes}
 
 abbrev pub sided : Side → Level → Level
 sided Tails L = L
@@ -20,6 +21,6 @@ pub side-blocks : (side : Side) (L : Level) → SameBlocks L (sided side L)
 side-blocks Tails L = record { words = λ q j l lt. refl; sizes = λ q l. refl; inverses = λ q l. refl }
 side-blocks (Row h) L = row-blocks h L
 
-pub side-valid : {p : ℕ} (side : Side) → sideRow side < 8 → {L : Level} → ValidLevel p L → ValidLevel p (sided side L)
+pub side-valid : {p : ℕ} (side : Side) → sideRow side < lanes → {L : Level} → ValidLevel p L → ValidLevel p (sided side L)
 side-valid Tails lane valid = valid
 side-valid (Row h) lane valid = row-valid h valid lane

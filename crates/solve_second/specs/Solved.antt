@@ -3,7 +3,7 @@ use Prim.Native.Nat.{ℕ, _*_, _<_, _≤_}
 use mathlib.Core.Path.{_≡_}
 use mathlib.Core.List.{List}
 use lib.ListN.{length, getD}
-use Rattle.solve_lattice.specs.Room.{blockWords}
+use Rattle.solve_lattice.specs.Room.{blockWords, blockDegrees}
 use Rattle.algebra.specs.Polynomial.{Polynomial}
 use Rattle.algebra.specs.Size.{sized}
 use Rattle.algebra.specs.Monic.{Monic}
@@ -24,7 +24,7 @@ pub record HasTops (p : ℕ) (n : ℕ) (L : Level) : Type 0 where
   pub small : bound ≤ 120
   pub slots : Slots (Polynomial (residues p prime))
   pub holds : HoldsSlots p prime n unweighted L slots
-  pub tops : Tops (sized (residues p prime)) n bound 16 slots
+  pub tops : Tops (sized (residues p prime)) n bound blockDegrees slots
 
 -- w in 128 words, Y k in the 128 words from 128·k on
 pub record HoldsSecond (p : ℕ) (prime : Prime p) (n B : ℕ) (U : Slots (Polynomial (residues p prime))) (w rows : List ℕ) : Type 0
@@ -41,4 +41,4 @@ pub record SecondSolved (p n : ℕ) (L : Level) (w rows : List ℕ) : Type 0 whe
   pub w-below : (i : ℕ) → getD w i 0 < p
   pub rows-below : (i : ℕ) → getD rows i 0 < p
   pub solved : (prime : Prime p) (B : ℕ) (U : Slots (Polynomial (residues p prime))) → B ≤ 120
-      → HoldsSlots p prime n unweighted L U → Tops (sized (residues p prime)) n B 16 U → HoldsSecond p prime n B U w rows
+      → HoldsSlots p prime n unweighted L U → Tops (sized (residues p prime)) n B blockDegrees U → HoldsSecond p prime n B U w rows

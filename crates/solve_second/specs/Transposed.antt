@@ -23,7 +23,7 @@ use Rattle.solve_lattice.specs.Word.{residue, residue-zero, words, words-inside
 use Rattle.solve_lattice.specs.Memory.{height, Level, slotSize, tailSize, ValidLevel}
 use Rattle.solve_lattice.specs.Holding.{HoldsSlots}
 use Rattle.solve_lattice.specs.Range.{words-zero}
-use Rattle.solve_lattice.specs.Room.{productWords, blockWords, slotWords}
+use Rattle.solve_lattice.specs.Room.{productWords, blockWords, slotWords, blockDegrees, lanes, productDegrees}
 use Rattle.solve_descent.specs.Held.{none-held}
 use Rattle.solve_second.specs.Greatest.{greatest, greatest-high, greatest-small, greatest-positive}
 use Rattle.solve_second.specs.Words.{reversed, transposedSize, size-empty, size-filled}
@@ -42,7 +42,7 @@ module _ (p : ℕ) (prime : Prime p) where
       go (yes h) = words-inside p prime l b n j h ∙ residue-zero p prime _ (ap (λ w. w % p) (e h) ∙ zero-mod p)
       go (no h) = words-behind p prime l b n j (omega arith)
 
-  module _ {n : ℕ} (small : n ≤ 8) {L : Level} (valid : ValidLevel p L) {U : Slots (Polynomial (residues p prime))}
+  module _ {n : ℕ} (small : n ≤ lanes) {L : Level} (valid : ValidLevel p L) {U : Slots (Polynomial (residues p prime))}
       (holds : HoldsSlots p prime n unweighted L U) where
     abbrev ω : ℕ → ℕ
     ω = weights (polynomials (residues p prime)) n (greatest L n) U
@@ -54,28 +54,28 @@ module _ (p : ℕ) (prime : Prime p) where
     weight-is i h = ap (λ d. greatest L n - d) (size-of i h)
 
     -- the greatest height
-    top-low : greatest L n ≤ 16
+    top-low : greatest L n ≤ blockDegrees
     top-low = greatest-small L n small (λ q h. valid .slot q h .block .within)
 
     -- coordinate r of slot q of the level, with no weight
     lane-of : (q r : ℕ) → q < n → r < n → 0 < U .size q
-        → Holds (residues p prime) (λ e. words p prime L (slotWords * q) blockWords (flat 8 r e)) (U .at q r)
-    lane-of q r h l f = subst (Holds F (λ e. words p prime L (slotWords * q) blockWords (flat 8 r e))) (shift-zero F (U .at q r))
+        → Holds (residues p prime) (λ e. words p prime L (slotWords * q) blockWords (flat lanes r e)) (U .at q r)
+    lane-of q r h l f = subst (Holds F (λ e. words p prime L (slotWords * q) blockWords (flat lanes r e))) (shift-zero F (U .at q r))
         (holds .vector q h f .block .lane r l)
 
     module _ {T : Level} (laid : SlotsLaid n L T) where
       module _ (k : ℕ) (h : k < n) (f : 0 < transposedSize L n k) where
-        cell-zero : (i e : ℕ) → i < 8 → (e < 16 → getD T (slotWords * k + flat 8 i e) 0 ≡ 0)
-            → words p prime T (slotWords * k) blockWords (flat 8 i e) ≡ residues p prime .ring .zero
-        cell-zero i e l g = zero-inside T (slotWords * k) blockWords (flat 8 i e) (λ lt. g (omega arith))
+        cell-zero : (i e : ℕ) → i < lanes → (e < blockDegrees → getD T (slotWords * k + flat lanes i e) 0 ≡ 0)
+            → words p prime T (slotWords * k) blockWords (flat lanes i e) ≡ residues p prime .ring .zero
+        cell-zero i e l g = zero-inside T (slotWords * k) blockWords (flat lanes i e) (λ lt. g (omega arith))
 
-        cell-past : (i e : ℕ) → i < 8 → greatest L n ≤ e → words p prime T (slotWords * k) blockWords (flat 8 i e) ≡ residues p prime .ring .zero
-        cell-past i e l past = zero-inside T (slotWords * k) blockWords (flat 8 i e)
-            (λ lt. cell-behind L n laid k (flat 8 i e) (omega arith) (omega arith) (omega arith))
+        cell-past : (i e : ℕ) → i < lanes → greatest L n ≤ e → words p prime T (slotWords * k) blockWords (flat lanes i e) ≡ residues p prime .ring .zero
+        cell-past i e l past = zero-inside T (slotWords * k) blockWords (flat lanes i e)
+            (λ lt. cell-behind L n laid k (flat lanes i e) (omega arith) (omega arith) (omega arith))
 
         lifted : (i : ℕ) → i < n → 0 < U .size (back n i) → (j : ℕ)
-            → words p prime L (slotWords * back n i) blockWords (flat 8 (back n k) j)
-            ≡ words p prime T (slotWords * k) blockWords (flat 8 i (ω i + j))
+            → words p prime L (slotWords * back n i) blockWords (flat lanes (back n k) j)
+            ≡ words p prime T (slotWords * k) blockWords (flat lanes i (ω i + j))
         lifted i l g j = go (decLt (ω i + j) (greatest L n))
           where
             q : ℕ
@@ -88,25 +88,25 @@ module _ (p : ℕ) (prime : Prime p) where
             high = greatest-high L n (back n i) (omega arith)
 
             go : Dec (ω i + j < greatest L n)
-                → words p prime L (slotWords * back n i) blockWords (flat 8 (back n k) j) ≡ words p prime T (slotWords * k) blockWords (flat 8 i (ω i + j))
+                → words p prime L (slotWords * back n i) blockWords (flat lanes (back n k) j) ≡ words p prime T (slotWords * k) blockWords (flat lanes i (ω i + j))
             go (yes lt) =
-                let less : j < 16 = omega (arith, top-low) in
+                let less : j < blockDegrees = omega (arith, top-low) in
                 let same : ω i + j - weight L n i ≡ j = omega (arith, weight-is i l) in
-                words-inside p prime L (slotWords * back n i) blockWords (flat 8 (back n k) j) (omega arith)
-                ∙ ap (λ m. residue p prime (getD L (slotWords * back n i + flat 8 (back n k) m) 0)) (sym same)
+                words-inside p prime L (slotWords * back n i) blockWords (flat lanes (back n k) j) (omega arith)
+                ∙ ap (λ m. residue p prime (getD L (slotWords * back n i + flat lanes (back n k) m) 0)) (sym same)
                 ∙ ap (residue p prime) (sym (cell-value L n laid k i (ω i + j) (omega arith) (omega arith) (omega (arith, top-low))
                 f l
                 (omega (arith, weight-is i l)) lt))
-                ∙ sym (words-inside p prime T (slotWords * k) blockWords (flat 8 i (ω i + j)) (omega (arith, top-low)))
+                ∙ sym (words-inside p prime T (slotWords * k) blockWords (flat lanes i (ω i + j)) (omega (arith, top-low)))
             go (no ge) =
                 let above : d ≤ j = omega (arith, size-of i l, high) in
                 words-zero p prime L (slotWords * back n i) blockWords (slotSize L (back n i))
                 (valid .slot (back n i) (omega arith) .block .behind)
-                (flat 8 (back n k) j) (omega arith)
+                (flat lanes (back n k) j) (omega arith)
                 ∙ sym (cell-past i (ω i + j) (omega arith) (omega arith))
 
         coordinate : (i : ℕ) → i < n → Dec (U .size (back n i) ≡ 0)
-            → Holds (residues p prime) (λ j. words p prime T (slotWords * k) blockWords (flat 8 i (ω i + j)))
+            → Holds (residues p prime) (λ j. words p prime T (slotWords * k) blockWords (flat lanes i (ω i + j)))
             (transposed (polynomials (residues p prime)) n (greatest L n) U .at k i)
         coordinate i l (yes none) = subst (Holds F _) (sym (masked-empty (U .size (back n i)) _ (U .at (back n i) (back n k)) none))
             (none-held p prime (λ j. cell-past i (ω i + j) (omega arith) (omega arith)))
@@ -117,14 +117,14 @@ module _ (p : ℕ) (prime : Prime p) where
                   (omega arith) j;
             })
 
-        transposed-held : Held (residues p prime) n 8 (weights (polynomials (residues p prime)) n (greatest L n) U)
+        transposed-held : Held (residues p prime) n lanes (weights (polynomials (residues p prime)) n (greatest L n) U)
             (words p prime T (slotWords * k) blockWords)
             (words p prime T (slotWords * k + blockWords) blockWords)
             (cleared (polynomials (residues p prime)) n (transposed (polynomials (residues p prime)) n (greatest L n) U) .at k)
         transposed-held = record {
           block = record {
             lanes = small;
-            lane = λ i l. subst (λ v. Holds F (λ e. words p prime T (slotWords * k) blockWords (flat 8 i e)) (shift F (ω i) v))
+            lane = λ i l. subst (λ v. Holds F (λ e. words p prime T (slotWords * k) blockWords (flat lanes i e)) (shift F (ω i) v))
                 (sym (extend-below n (C .at k) (polynomials F .zero) i l))
                 (holds-shift F (ω i) (coordinate i l (ℕ-discrete (U .size (back n i)) 0))
                 (λ e low. cell-zero i e (omega arith)
@@ -158,7 +158,7 @@ module _ (p : ℕ) (prime : Prime p) where
               ∙ size-empty L n k h (λ (g : 0 < slotSize L (reversed n k)). omega (arith, same k, size-of k h))))
           size k h (no some) =
               let tall : 0 < greatest L n = greatest-positive L n (back n k) (omega arith) (omega (arith, size-of k h)) in
-              let high : height (8 * greatest L n - k) ≡ greatest L n = omega arith in
+              let high : height (lanes * greatest L n - k) ≡ greatest L n = omega arith in
               masked-filled (U .size (back n k)) 0 (greatest L n) (omega arith)
               ∙ sym (ap height (laid .sizes k (omega arith) ∙ size-filled L n k h (omega (arith, same k, size-of k h))) ∙ high)
 
@@ -169,30 +169,30 @@ module _ (p : ℕ) (prime : Prime p) where
 
     -- the right side
     module _ {T : Level} {b : List ℕ} (laid : Laid n L T b) where
-      right-zero : (i e : ℕ) → i < 8 → (e < 136 → getD b (flat 8 i e) 0 ≡ 0) → words p prime b 0 productWords (flat 8 i e) ≡ residues p
+      right-zero : (i e : ℕ) → i < lanes → (e < productDegrees → getD b (flat lanes i e) 0 ≡ 0) → words p prime b 0 productWords (flat lanes i e) ≡ residues p
           prime .ring .zero
-      right-zero i e l g = zero-inside b 0 productWords (flat 8 i e)
-          (λ lt. ap (λ x. getD b x 0) (zero-add (flat 8 i e)) ∙ g (omega arith))
+      right-zero i e l g = zero-inside b 0 productWords (flat lanes i e)
+          (λ lt. ap (λ x. getD b x 0) (zero-add (flat lanes i e)) ∙ g (omega arith))
 
       module _ (i : ℕ) (l : i < n) where
         filled : 0 < U .size (back n i) → 0 < slotSize L (back n i)
         filled f = omega (arith, size-of i l)
 
         lifted-tail : 0 < U .size (back n i) → (j : ℕ)
-            → words p prime L (slotWords * back n i + blockWords) blockWords j ≡ words p prime b 0 productWords (flat 8 i (ω i + j))
-        lifted-tail f j = go (decLt (ω i + j) 136) (decLt j blockWords)
+            → words p prime L (slotWords * back n i + blockWords) blockWords j ≡ words p prime b 0 productWords (flat lanes i (ω i + j))
+        lifted-tail f j = go (decLt (ω i + j) productDegrees) (decLt j blockWords)
           where
             same : ω i + j - weight L n i ≡ j
             same = omega (arith, weight-is i l)
 
-            go : Dec (ω i + j < 136) → Dec (j < blockWords)
-                → words p prime L (slotWords * back n i + blockWords) blockWords j ≡ words p prime b 0 productWords (flat 8 i (ω i + j))
+            go : Dec (ω i + j < productDegrees) → Dec (j < blockWords)
+                → words p prime L (slotWords * back n i + blockWords) blockWords j ≡ words p prime b 0 productWords (flat lanes i (ω i + j))
             go (yes lt) (yes near) =
                 words-inside p prime L (slotWords * back n i + blockWords) blockWords j near
                 ∙ ap (λ m. residue p prime (getD L (slotWords * back n i + blockWords + m) 0)) (sym same)
                 ∙ ap (residue p prime) (sym (right-cell-value L n laid i (ω i + j) (omega arith) lt l (filled f)
                 (omega (arith, weight-is i l)) (omega (arith, same))))
-                ∙ sym (words-first p prime b productWords (flat 8 i (ω i + j)) (omega arith))
+                ∙ sym (words-first p prime b productWords (flat lanes i (ω i + j)) (omega arith))
             go (yes lt) (no far) =
                 words-behind p prime L (slotWords * back n i + blockWords) blockWords j (omega arith)
                 ∙ sym (right-zero i (ω i + j) (omega arith) (λ g. right-cell-far L n laid i (ω i + j) (omega arith) lt l (filled f)
@@ -201,10 +201,10 @@ module _ (p : ℕ) (prime : Prime p) where
                 words-zero p prime L (slotWords * back n i + blockWords) blockWords (tailSize L (back n i))
                 (valid .slot (back n i) (omega arith) .tail) j
                 (omega (arith, top-low, valid .slot (back n i) (omega arith) .tail-within))
-                ∙ sym (words-behind p prime b 0 productWords (flat 8 i (ω i + j)) (omega arith))
+                ∙ sym (words-behind p prime b 0 productWords (flat lanes i (ω i + j)) (omega arith))
 
         right-coordinate : Dec (U .size (back n i) ≡ 0) → Holds (residues p prime)
-            (λ j. words p prime b 0 productWords (flat 8 i (ω i + j)))
+            (λ j. words p prime b 0 productWords (flat lanes i (ω i + j)))
             (rightSide (polynomials (residues p prime)) n (greatest L n) U i)
         right-coordinate (yes none) = subst (Holds F _) (sym (masked-empty (U .size (back n i)) _ (U .at (back n i) n) none))
             (none-held p prime (λ j. right-zero i (ω i + j) (omega arith)
@@ -213,14 +213,14 @@ module _ (p : ℕ) (prime : Prime p) where
             subst (Holds F _) (sym (masked-filled (U .size (back n i)) _ (U .at (back n i) n) (omega arith)))
             (record { at = λ j. holds .vector (back n i) (omega arith) (omega arith) .tail .at j ∙ lifted-tail (omega arith) j })
 
-        right-below : (e : ℕ) → e < ω i → words p prime b 0 productWords (flat 8 i e) ≡ residues p prime .ring .zero
+        right-below : (e : ℕ) → e < ω i → words p prime b 0 productWords (flat lanes i e) ≡ residues p prime .ring .zero
         right-below e low = right-zero i e (omega arith) (λ lt. go (ℕ-discrete (slotSize L (back n i)) 0) lt)
           where
-            go : Dec (slotSize L (back n i) ≡ 0) → e < 136 → getD b (flat 8 i e) 0 ≡ 0
+            go : Dec (slotSize L (back n i) ≡ 0) → e < productDegrees → getD b (flat lanes i e) 0 ≡ 0
             go (yes none) lt = right-cell-empty L n laid i e (omega arith) lt l none
             go (no some) lt = right-cell-low L n laid i e (omega arith) lt l (omega arith) (omega (arith, weight-is i l))
 
-      pub right-held : Flat (residues p prime) n 8 (weights (polynomials (residues p prime)) n (greatest L n) U)
+      pub right-held : Flat (residues p prime) n lanes (weights (polynomials (residues p prime)) n (greatest L n) U)
           (words p prime b 0 productWords) (rightSide (polynomials (residues p prime)) n (greatest L n) U)
       right-held = record {
         lanes = small;

@@ -12,7 +12,7 @@ use Rattle.reduction.specs.Flat.{flat}
 use Rattle.reduction.specs.Transpose.{back}
 use Rattle.vector.specs.Stored.{below-or-not}
 use Rattle.solve_lattice.specs.Memory.{row, height, ZeroFrom, Level, slotSize, tailSize, slotInverse, ValidSlot, ValidLevel}
-use Rattle.solve_lattice.specs.Room.{sizesFrom, productWords, blockWords, slotWords}
+use Rattle.solve_lattice.specs.Room.{sizesFrom, productWords, blockWords, slotWords, blockDegrees, lanes, lastLane}
 use Rattle.solve_second.specs.Greatest.{greatest, greatest-high, greatest-small, greatest-positive}
 use Rattle.solve_second.specs.Words.{when, when-yes, when-no, reversed, transposedWord, transposedSize, rightWord}
 use Rattle.solve_second.specs.Words.{size-beyond, size-empty, size-filled}
@@ -21,36 +21,36 @@ use Rattle.solve_second.specs.Cells.{weight, cell-empty, cell-low, cell-
 
 -- the last word of a block, and the words of its highest degree in the lanes of coordinates before its pivot
 last-place : (top size q : ℕ) → 0 < size → height size ≤ top → row size ≡ q
-    → flat 8 q (top - 1 - (top - height size)) ≡ size - 1
+    → flat lanes q (top - 1 - (top - height size)) ≡ size - 1
 last-place top size q some most pivot =
-    let e : top - 1 - (top - height size) ≡ (size - 1) / 8 = omega arith in
-    ap (flat 8 q) e ∙ omega arith
+    let e : top - 1 - (top - height size) ≡ (size - 1) / lanes = omega arith in
+    ap (flat lanes q) e ∙ omega arith
 
-later-place : (top size q r : ℕ) → 0 < size → height size ≤ top → row size ≡ q → q < 8 → r < q
-    → size ≤ flat 8 r (top - 1 - (top - height size))
+later-place : (top size q r : ℕ) → 0 < size → height size ≤ top → row size ≡ q → q < lanes → r < q
+    → size ≤ flat lanes r (top - 1 - (top - height size))
 later-place top size q r some most pivot lane before =
     let e = last-place top size q some most pivot in
     let m : ℕ = top - 1 - (top - height size) in
     go m e
   where
-    go : (m : ℕ) → flat 8 q m ≡ size - 1 → size ≤ flat 8 r m
+    go : (m : ℕ) → flat lanes q m ≡ size - 1 → size ≤ flat lanes r m
     go m e = omega arith
 
 -- a place in a block
-place-below : (q e d r : ℕ) → q ≤ 7 → e < 16 → slotWords * q + 8 * (e - d) + (7 - r) < sizesFrom
+place-below : (q e d r : ℕ) → q ≤ lastLane → e < blockDegrees → slotWords * q + lanes * (e - d) + (lastLane - r) < sizesFrom
 place-below q e d r in-level degree = omega arith
 
 pub when-below : {P : Type 0} (p : ℕ) → 0 < p → (d : Dec P) (v : ℕ) → (P → v < p) → when d v < p
 when-below p positive (yes h) v lt = subst (λ w. w < p) (sym (when-yes (yes h) v h)) (lt h)
 when-below p positive (no h) v lt = subst (λ w. w < p) (sym (when-no (no h) v h)) positive
 
-module _ (p : ℕ) (positive : 0 < p) {n : ℕ} (small : n ≤ 8) {L : Level} (valid : ValidLevel p L) {T : Level}
+module _ (p : ℕ) (positive : 0 < p) {n : ℕ} (small : n ≤ lanes) {L : Level} (valid : ValidLevel p L) {T : Level}
     (laid : SlotsLaid n L T) where
   -- the height of the transposed slots
   abbrev high : ℕ
   high = greatest L n
 
-  low : greatest L n ≤ 16
+  low : greatest L n ≤ blockDegrees
   low = greatest-small L n small (λ q h. valid .slot q h .block .within)
 
   word-below : (x : ℕ) → x < sizesFrom → transposedWord L n x < p
@@ -58,7 +58,7 @@ module _ (p : ℕ) (positive : 0 < p) {n : ℕ} (small : n ≤ 8) {L : Level} (v
       (λ inside. when-below p positive _ _ (λ _. valid .below _
       (place-below _ _ _ _ (omega arith) (omega (arith, low)))))))
 
-  module _ (k : ℕ) (in-level : k < 8) where
+  module _ (k : ℕ) (in-level : k < lanes) where
     size-at : slotSize T k ≡ transposedSize L n k
     size-at = laid .sizes k in-level
 
@@ -72,9 +72,9 @@ module _ (p : ℕ) (positive : 0 < p) {n : ℕ} (small : n ≤ 8) {L : Level} (v
     module _ (none : transposedSize L n k ≡ 0) where
       word-zero : (j : ℕ) → j < blockWords → getD T (slotWords * k + j) 0 ≡ 0
       word-zero j lt =
-          let here : j ≡ flat 8 (7 - j % 8) (j / 8) = omega arith in
+          let here : j ≡ flat lanes (lastLane - j % lanes) (j / lanes) = omega arith in
           ap (λ m. getD T (slotWords * k + m) 0) here
-          ∙ cell-empty L n laid k (7 - j % 8) (j / 8) in-level (omega arith) (omega arith) none
+          ∙ cell-empty L n laid k (lastLane - j % lanes) (j / lanes) in-level (omega arith) (omega arith) none
 
       slot-empty : ValidSlot p T k
       slot-empty = record {
@@ -97,7 +97,7 @@ module _ (p : ℕ) (positive : 0 < p) {n : ℕ} (small : n ≤ 8) {L : Level} (v
       same : slotSize L (reversed n k) ≡ slotSize L (back n k)
       same = ap (λ m. slotSize L m) (omega arith)
 
-      size-is : transposedSize L n k ≡ 8 * high - k
+      size-is : transposedSize L n k ≡ lanes * high - k
       size-is = size-filled L n k h some
 
       tall : 0 < high
@@ -119,12 +119,12 @@ module _ (p : ℕ) (positive : 0 < p) {n : ℕ} (small : n ≤ 8) {L : Level} (v
       top : weight L n k ≤ high - 1
       top = omega (arith, filled)
 
-      leading-place : flat 8 (back n k) (high - 1 - weight L n k) ≡ slotSize L (back n k) - 1
+      leading-place : flat lanes (back n k) (high - 1 - weight L n k) ≡ slotSize L (back n k) - 1
       leading-place = last-place high (slotSize L (back n k)) (back n k) filled within (slot .pivot filled)
 
       leading-word : getD T (slotWords * k + (slotSize T k - 1)) 0 ≡ getD L (slotWords * back n k + (slotSize L (back n k) - 1)) 0
       leading-word =
-          let here : slotSize T k - 1 ≡ flat 8 k (high - 1) = omega (arith, size-at, size-is, tall) in
+          let here : slotSize T k - 1 ≡ flat lanes k (high - 1) = omega (arith, size-at, size-is, tall) in
           ap (λ m. getD T (slotWords * k + m) 0) here
           ∙ cell-value L n laid k k (high - 1) in-level in-level (omega (arith, low)) full h top (omega (arith, tall))
           ∙ ap (λ m. getD L (slotWords * back n k + m) 0) leading-place
@@ -133,13 +133,13 @@ module _ (p : ℕ) (positive : 0 < p) {n : ℕ} (small : n ≤ 8) {L : Level} (v
       behind : ZeroFrom p T (slotWords * k) blockWords (slotSize T k)
       behind j ge lt = ⊎-elim
           (λ near.
-          let here : j ≡ flat 8 (8 * high - 1 - j) (high - 1) = omega (arith, size-at, size-is, tall) in
+          let here : j ≡ flat lanes (lanes * high - 1 - j) (high - 1) = omega (arith, size-at, size-is, tall) in
           ap (λ m. getD T (slotWords * k + m) 0 % p) here
-          ∙ go (8 * high - 1 - j) (omega (arith, size-at, size-is)) (decLt (high - 1) (weight L n (8 * high - 1 - j))))
+          ∙ go (lanes * high - 1 - j) (omega (arith, size-at, size-is)) (decLt (high - 1) (weight L n (lanes * high - 1 - j))))
           (λ past. ap (λ w. w % p) (cell-behind L n laid k j in-level past (omega arith)) ∙ zero-mod p)
-          (below-or-not j (8 * high))
+          (below-or-not j (lanes * high))
         where
-          go : (i : ℕ) → i < k → Dec (high - 1 < weight L n i) → getD T (slotWords * k + flat 8 i (high - 1)) 0 % p ≡ 0
+          go : (i : ℕ) → i < k → Dec (high - 1 < weight L n i) → getD T (slotWords * k + flat lanes i (high - 1)) 0 % p ≡ 0
           go i l (yes short) =
               ap (λ w. w % p)
               (cell-low L n laid k i (high - 1) in-level (omega arith) (omega (arith, low)) full (omega arith) short)
@@ -148,12 +148,12 @@ module _ (p : ℕ) (positive : 0 < p) {n : ℕ} (small : n ≤ 8) {L : Level} (v
               let other = valid .slot (back n i) (omega arith) in
               let most : height (slotSize L (back n i)) ≤ high = greatest-high L n (back n i) (omega arith) in
               let some-there : 0 < slotSize L (back n i) = omega (arith, tall) in
-              let place : slotSize L (back n i) ≤ flat 8 (back n k) (high - 1 - weight L n i) =
+              let place : slotSize L (back n i) ≤ flat lanes (back n k) (high - 1 - weight L n i) =
               later-place high (slotSize L (back n i)) (back n i) (back n k) some-there most (other .pivot some-there)
               (omega arith) (omega arith) in
               ap (λ w. w % p) (cell-value L n laid k i (high - 1) in-level (omega arith) (omega (arith, low)) full (omega arith)
               (omega arith) (omega (arith, tall)))
-              ∙ other .block .behind (flat 8 (back n k) (high - 1 - weight L n i)) place (omega (arith, low))
+              ∙ other .block .behind (flat lanes (back n k) (high - 1 - weight L n i)) place (omega (arith, low))
 
       slot-filled : ValidSlot p T k
       slot-filled = record {
@@ -183,7 +183,7 @@ module _ (p : ℕ) (positive : 0 < p) {n : ℕ} (small : n ≤ 8) {L : Level} (v
   }
 
 -- and the words of the right side are residues
-module _ (p : ℕ) {n : ℕ} (small : n ≤ 8) {L : Level} (valid : ValidLevel p L) {T : Level} {b : List ℕ} (laid : Laid n L T b) where
+module _ (p : ℕ) {n : ℕ} (small : n ≤ lanes) {L : Level} (valid : ValidLevel p L) {T : Level} {b : List ℕ} (laid : Laid n L T b) where
   positive : 0 < p
   positive = omega (arith, valid .below 0 (omega arith))
 

@@ -23,14 +23,14 @@ use Rattle.solve_lattice.specs.Memory.{row, height, ZeroFrom, Ends, Level, slot
 use Rattle.solve_lattice.specs.Holding.{HoldsSlots}
 use Rattle.solve_lattice.specs.Range.{words-same, words-zero}
 use Rattle.solve_lattice.specs.Reading.{flat-same}
-use Rattle.solve_lattice.specs.Room.{levelWords, inversesFrom, tailSizesFrom, sizesFrom, blockWords, slotWords}
+use Rattle.solve_lattice.specs.Room.{levelWords, inversesFrom, tailSizesFrom, sizesFrom, blockWords, slotWords, blockDegrees, lanes, lastLane}
 use Rattle.solve_second.specs.Words.{either, either-yes, either-no, when, when-yes, when-no, blockWord}
 use Rattle.solve_second.specs.ValidTransposed.{when-below}
 use Rattle.solve_second.specs.Same.{SameBlocks}
 
 -- coefficient e of row h in the block of slot q, which has 16
 abbrev pub rowWord : Level → (h q e : ℕ) → ℕ
-rowWord L h q e = when (decLt e 16) (blockWord L q h e)
+rowWord L h q e = when (decLt e blockDegrees) (blockWord L q h e)
 
 -- the words of the slots
 abbrev rowedWord : Level → (h x : ℕ) → ℕ
@@ -54,7 +54,7 @@ module _ (h : ℕ) (L : Level) where
   rowed-number : (x : ℕ) → sizesFrom ≤ x → x < levelWords → getD (withRow h L) x 0 ≡ rowedNumber L x
   rowed-number x ge lt = rowed x lt ∙ either-no (decLt x sizesFrom) _ _ (λ (g : x < sizesFrom). omega arith)
 
-  pub row-tail : (q j : ℕ) → q < 8 → j < blockWords → getD (withRow h L) (slotWords * q + blockWords + j) 0 ≡ rowWord L h q j
+  pub row-tail : (q j : ℕ) → q < lanes → j < blockWords → getD (withRow h L) (slotWords * q + blockWords + j) 0 ≡ rowWord L h q j
   row-tail q j l lt =
       let x : ℕ = slotWords * q + blockWords + j in
       let slot : x / slotWords ≡ q = omega arith in
@@ -63,7 +63,7 @@ module _ (h : ℕ) (L : Level) where
       ∙ either-no (decLt (x % slotWords) blockWords) _ _ (λ (g : x % slotWords < blockWords). omega arith)
       ∙ ap₂ (rowWord L h) slot place
 
-  pub row-tail-size : (q : ℕ) → q < 8 → tailSize (withRow h L) q ≡ height (slotSize L q)
+  pub row-tail-size : (q : ℕ) → q < lanes → tailSize (withRow h L) q ≡ height (slotSize L q)
   row-tail-size q l =
       rowed-number (tailSizesFrom + q) (omega arith) (omega arith)
       ∙ either-no (decLt (tailSizesFrom + q) tailSizesFrom) _ _ (λ (g : tailSizesFrom + q < tailSizesFrom). omega arith)
@@ -84,38 +84,38 @@ module _ (h : ℕ) (L : Level) where
   unfolding withRow
   row-length = length-stored _ (replicate levelWords 0) 0 levelWords ∙ length-replicate {A = ℕ} levelWords 0
 
-  row-below : (p : ℕ) → h < 8 → ((i : ℕ) → i < sizesFrom → getD L i 0 < p) → (i : ℕ) → i < sizesFrom → getD (withRow h L) i 0 < p
+  row-below : (p : ℕ) → h < lanes → ((i : ℕ) → i < sizesFrom → getD L i 0 < p) → (i : ℕ) → i < sizesFrom → getD (withRow h L) i 0 < p
   row-below p lane small i lt = subst (λ w. w < p) (sym (rowed-word i lt)) (word (decLt (i % slotWords) blockWords))
     where
       word : (d : Dec (i % slotWords < blockWords)) → either d (getD L i 0) (rowWord L h (i / slotWords) (i % slotWords - blockWords)) < p
       word (yes l) =
           subst (λ w. w < p) (sym (either-yes (yes l) (getD L i 0) (rowWord L h (i / slotWords) (i % slotWords - blockWords)) l)) (small i lt)
       word (no l) = subst (λ w. w < p) (sym (either-no (no l) (getD L i 0) (rowWord L h (i / slotWords) (i % slotWords - blockWords)) l))
-          (when-below p (omega (arith, small 0 (omega arith))) (decLt (i % slotWords - blockWords) 16) _ (λ near. small _ (omega arith)))
+          (when-below p (omega (arith, small 0 (omega arith))) (decLt (i % slotWords - blockWords) blockDegrees) _ (λ near. small _ (omega arith)))
 
 -- behind the height of a block its rows are 0
-row-behind : {p : ℕ} {L : Level} → ValidLevel p L → (h q j : ℕ) → q < 8 → height (slotSize L q) ≤ j
+row-behind : {p : ℕ} {L : Level} → ValidLevel p L → (h q j : ℕ) → q < lanes → height (slotSize L q) ≤ j
     → rowWord L h q j % p ≡ 0
-row-behind {p} {L} valid h q j l past = go (decLt j 16)
+row-behind {p} {L} valid h q j l past = go (decLt j blockDegrees)
   where
-    go : (d : Dec (j < 16)) → when d (blockWord L q h j) % p ≡ 0
+    go : (d : Dec (j < blockDegrees)) → when d (blockWord L q h j) % p ≡ 0
     go (yes near) =
-        let place : slotWords * q + 8 * j + (7 - h) ≡ slotWords * q + (8 * j + (7 - h)) = omega arith in
+        let place : slotWords * q + lanes * j + (lastLane - h) ≡ slotWords * q + (lanes * j + (lastLane - h)) = omega arith in
         ap (λ w. w % p) (when-yes (yes near) (blockWord L q h j) near ∙ ap (λ x. getD L x 0) place)
-        ∙ valid .slot q l .block .behind (8 * j + (7 - h)) (omega arith) (omega arith)
+        ∙ valid .slot q l .block .behind (lanes * j + (lastLane - h)) (omega arith) (omega arith)
     go (no far) = ap (λ w. w % p) (when-no (no far) (blockWord L q h j) far) ∙ zero-mod p
 
 module _ (h : ℕ) {p : ℕ} {L : Level} (valid : ValidLevel p L) where
   abbrev L′ : Level
   L′ = withRow h L
 
-  blocks : (q j : ℕ) → q < 8 → j < blockWords → getD L′ (slotWords * q + j) 0 ≡ getD L (slotWords * q + j) 0
+  blocks : (q j : ℕ) → q < lanes → j < blockWords → getD L′ (slotWords * q + j) 0 ≡ getD L (slotWords * q + j) 0
   blocks = row-blocks h L .words
 
-  tails : (q j : ℕ) → q < 8 → j < blockWords → getD L′ (slotWords * q + blockWords + j) 0 ≡ rowWord L h q j
+  tails : (q j : ℕ) → q < lanes → j < blockWords → getD L′ (slotWords * q + blockWords + j) 0 ≡ rowWord L h q j
   tails = row-tail h L
 
-  slot : (q : ℕ) → q < 8 → ValidSlot p L′ q
+  slot : (q : ℕ) → q < lanes → ValidSlot p L′ q
   slot q l =
       let old = valid .slot q l in
       let k : ℕ = slotSize L q in
@@ -137,32 +137,32 @@ module _ (h : ℕ) {p : ℕ} {L : Level} (valid : ValidLevel p L) where
         tail = λ j ge lt. ap (λ w. w % p) (tails q j l lt) ∙ row-behind valid h q j l (omega (arith, long));
       }
 
-  pub row-valid : h < 8 → ValidLevel p (withRow h L)
+  pub row-valid : h < lanes → ValidLevel p (withRow h L)
   row-valid lane = record { room = omega (arith, row-length h L); below = row-below h L p lane (valid .below); slot = slot }
 
-  module _ (prime : Prime p) {n : ℕ} {U : Slots (Polynomial (residues p prime))} (small : n ≤ 8) (inside : h < n)
+  module _ (prime : Prime p) {n : ℕ} {U : Slots (Polynomial (residues p prime))} (small : n ≤ lanes) (inside : h < n)
       (holds : HoldsSlots p prime n unweighted L U) where
     module _ (q : ℕ) (l : q < n) (f : 0 < U .size q) where
-      far-zero : ZeroFrom p L′ (slotWords * q + blockWords) blockWords 16
+      far-zero : ZeroFrom p L′ (slotWords * q + blockWords) blockWords blockDegrees
       far-zero j ge lt =
-          ap (λ w. w % p) (tails q j (omega arith) lt ∙ when-no (decLt j 16) _ (λ (less : j < 16). omega arith)) ∙ zero-mod p
+          ap (λ w. w % p) (tails q j (omega arith) lt ∙ when-no (decLt j blockDegrees) _ (λ (less : j < blockDegrees). omega arith)) ∙ zero-mod p
 
       -- lane 7 - h of the block, and the tail
-      lane-word : (e : ℕ) → words p prime L (slotWords * q) blockWords (flat 8 h e) ≡ words p prime L′ (slotWords * q + blockWords) blockWords e
+      lane-word : (e : ℕ) → words p prime L (slotWords * q) blockWords (flat lanes h e) ≡ words p prime L′ (slotWords * q + blockWords) blockWords e
       lane-word e =
           ⊎-elim
           (λ near.
-          let place : slotWords * q + flat 8 h e ≡ slotWords * q + 8 * e + (7 - h) = omega arith in
-          words-inside p prime L (slotWords * q) blockWords (flat 8 h e) (omega arith)
+          let place : slotWords * q + flat lanes h e ≡ slotWords * q + lanes * e + (lastLane - h) = omega arith in
+          words-inside p prime L (slotWords * q) blockWords (flat lanes h e) (omega arith)
           ∙ ap (λ x. residue p prime (getD L x 0)) place
-          ∙ ap (residue p prime) (sym (tails q e (omega arith) (omega arith) ∙ when-yes (decLt e 16) _ near))
+          ∙ ap (residue p prime) (sym (tails q e (omega arith) (omega arith) ∙ when-yes (decLt e blockDegrees) _ near))
           ∙ sym (words-inside p prime L′ (slotWords * q + blockWords) blockWords e (omega arith)))
           (λ more.
-          words-behind p prime L (slotWords * q) blockWords (flat 8 h e) (omega arith)
-          ∙ sym (words-zero p prime L′ (slotWords * q + blockWords) blockWords 16 far-zero e more))
-          (below-or-not e 16)
+          words-behind p prime L (slotWords * q) blockWords (flat lanes h e) (omega arith)
+          ∙ sym (words-zero p prime L′ (slotWords * q + blockWords) blockWords blockDegrees far-zero e more))
+          (below-or-not e blockDegrees)
 
-      row-held : Held (residues p prime) n 8 unweighted (words p prime L′ (slotWords * q) blockWords) (words p prime L′ (slotWords * q + blockWords) blockWords)
+      row-held : Held (residues p prime) n lanes unweighted (words p prime L′ (slotWords * q) blockWords) (words p prime L′ (slotWords * q + blockWords) blockWords)
           (tailed n U (λ q. U .at q h) .at q)
       row-held =
           let B = holds .vector q l f .block in
@@ -170,14 +170,14 @@ module _ (h : ℕ) {p : ℕ} {L : Level} (valid : ValidLevel p L) where
           (λ lt. ap (λ w. w % p) (sym (blocks q x (omega arith) lt)))) B in record {
             block = record {
               lanes = B′ .lanes;
-              lane = λ j g. subst (λ v. Holds (residues p prime) (λ e. words p prime L′ (slotWords * q) blockWords (flat 8 j e))
+              lane = λ j g. subst (λ v. Holds (residues p prime) (λ e. words p prime L′ (slotWords * q) blockWords (flat lanes j e))
                   (shift (residues p prime) 0 v)) (sym (extend-below n (U .at q) (U .at q h) j g)) (B′ .lane j g);
               beside = B′ .beside;
             };
             tail = subst (Holds (residues p prime) (words p prime L′ (slotWords * q + blockWords) blockWords))
                 (sym (extend-at n (U .at q) (U .at q h)))
                 (record {
-                  at = λ e. subst (Holds (residues p prime) (λ d. words p prime L (slotWords * q) blockWords (flat 8 h d)))
+                  at = λ e. subst (Holds (residues p prime) (λ d. words p prime L (slotWords * q) blockWords (flat lanes h d)))
                       (shift-zero (residues p prime) (U .at q h)) (B .lane h inside) .at e ∙ lane-word e;
                 });
           }

@@ -5,7 +5,7 @@ use mathlib.Core.Path.{_≡_, refl, _∙_}
 use native.Mathlib.Decide.{decLt, decLe}
 use lib.ListN.{getD}
 use Rattle.solve_lattice.specs.Memory.{height, Level, slotSize}
-use Rattle.solve_lattice.specs.Room.{blockWords, slotWords}
+use Rattle.solve_lattice.specs.Room.{blockWords, slotWords, lanes, lastLane}
 use Rattle.solve_second.specs.Greatest.{greatest}
 
 -- a where d holds, else b
@@ -48,11 +48,11 @@ lift L n i = greatest L n - height (slotSize L (reversed n i))
 
 -- coefficient e of row r in the block of slot q
 abbrev pub blockWord : Level → (q r e : ℕ) → ℕ
-blockWord L q r e = getD L (slotWords * q + 8 * e + (7 - r)) 0
+blockWord L q r e = getD L (slotWords * q + lanes * e + (lastLane - r)) 0
 
 -- the size of slot k, in words: it is empty where slot n - 1 - k of the level is, else as high as the highest block, its pivot at k
 abbrev pub transposedSize : (L : Level) (n k : ℕ) → ℕ
-transposedSize L n k = when (decLt k n) (when (decLt 0 (slotSize L (reversed n k))) (8 * greatest L n - k))
+transposedSize L n k = when (decLt k n) (when (decLt 0 (slotSize L (reversed n k))) (lanes * greatest L n - k))
 
 module _ (L : Level) (n k : ℕ) where
   pub size-beyond : ¬ (k < n) → transposedSize L n k ≡ 0
@@ -60,50 +60,50 @@ module _ (L : Level) (n k : ℕ) where
 
   module _ (slot : k < n) where
     pub size-empty : ¬ (0 < slotSize L (reversed n k)) → transposedSize L n k ≡ 0
-    size-empty out = when-yes (decLt k n) _ slot ∙ when-no (decLt 0 (slotSize L (reversed n k))) (8 * greatest L n - k) out
+    size-empty out = when-yes (decLt k n) _ slot ∙ when-no (decLt 0 (slotSize L (reversed n k))) (lanes * greatest L n - k) out
 
-    pub size-filled : 0 < slotSize L (reversed n k) → transposedSize L n k ≡ 8 * greatest L n - k
-    size-filled some = when-yes (decLt k n) _ slot ∙ when-yes (decLt 0 (slotSize L (reversed n k))) (8 * greatest L n - k) some
+    pub size-filled : 0 < slotSize L (reversed n k) → transposedSize L n k ≡ lanes * greatest L n - k
+    size-filled some = when-yes (decLt k n) _ slot ∙ when-yes (decLt 0 (slotSize L (reversed n k))) (lanes * greatest L n - k) some
 
 -- slot k has at coordinate i what slot n - 1 - i of the level has at coordinate n - 1 - k; empty slots and tails are 0
 abbrev pub transposedWord : (L : Level) (n x : ℕ) → ℕ
 transposedWord L n x =
     when (decLt 0 (transposedSize L n (x / slotWords)))
-    (when (decLt (7 - x % 8) n)
-    (when (decLt (x % slotWords) (8 * greatest L n))
-    (when (decLe (lift L n (7 - x % 8)) (x % slotWords / 8))
-    (blockWord L (reversed n (7 - x % 8)) (reversed n (x / slotWords)) (x % slotWords / 8 - lift L n (7 - x % 8))))))
+    (when (decLt (lastLane - x % lanes) n)
+    (when (decLt (x % slotWords) (lanes * greatest L n))
+    (when (decLe (lift L n (lastLane - x % lanes)) (x % slotWords / lanes))
+    (blockWord L (reversed n (lastLane - x % lanes)) (reversed n (x / slotWords)) (x % slotWords / lanes - lift L n (lastLane - x % lanes))))))
 
 module _ (L : Level) (n x : ℕ) where
   abbrev value : ℕ
-  value = blockWord L (reversed n (7 - x % 8)) (reversed n (x / slotWords)) (x % slotWords / 8 - lift L n (7 - x % 8))
+  value = blockWord L (reversed n (lastLane - x % lanes)) (reversed n (x / slotWords)) (x % slotWords / lanes - lift L n (lastLane - x % lanes))
 
-  abbrev lifted : Dec (lift L n (7 - x % 8) ≤ x % slotWords / 8)
-  lifted = decLe (lift L n (7 - x % 8)) (x % slotWords / 8)
+  abbrev lifted : Dec (lift L n (lastLane - x % lanes) ≤ x % slotWords / lanes)
+  lifted = decLe (lift L n (lastLane - x % lanes)) (x % slotWords / lanes)
 
   pub transposed-beyond : ¬ (0 < transposedSize L n (x / slotWords)) → transposedWord L n x ≡ 0
   transposed-beyond out = when-no (decLt 0 (transposedSize L n (x / slotWords))) _ out
 
   module _ (slot : 0 < transposedSize L n (x / slotWords)) where
-    pub transposed-beside : ¬ (7 - x % 8 < n) → transposedWord L n x ≡ 0
-    transposed-beside out = when-yes (decLt 0 (transposedSize L n (x / slotWords))) _ slot ∙ when-no (decLt (7 - x % 8) n) _ out
+    pub transposed-beside : ¬ (lastLane - x % lanes < n) → transposedWord L n x ≡ 0
+    transposed-beside out = when-yes (decLt 0 (transposedSize L n (x / slotWords))) _ slot ∙ when-no (decLt (lastLane - x % lanes) n) _ out
 
-    module _ (lane : 7 - x % 8 < n) where
-      inside : (v : ℕ) → when (decLt 0 (transposedSize L n (x / slotWords))) (when (decLt (7 - x % 8) n) v) ≡ v
-      inside v = when-yes (decLt 0 (transposedSize L n (x / slotWords))) _ slot ∙ when-yes (decLt (7 - x % 8) n) _ lane
+    module _ (lane : lastLane - x % lanes < n) where
+      inside : (v : ℕ) → when (decLt 0 (transposedSize L n (x / slotWords))) (when (decLt (lastLane - x % lanes) n) v) ≡ v
+      inside v = when-yes (decLt 0 (transposedSize L n (x / slotWords))) _ slot ∙ when-yes (decLt (lastLane - x % lanes) n) _ lane
 
-      pub transposed-tail : ¬ (x % slotWords < 8 * greatest L n) → transposedWord L n x ≡ 0
-      transposed-tail out = inside _ ∙ when-no (decLt (x % slotWords) (8 * greatest L n)) (when lifted value) out
+      pub transposed-tail : ¬ (x % slotWords < lanes * greatest L n) → transposedWord L n x ≡ 0
+      transposed-tail out = inside _ ∙ when-no (decLt (x % slotWords) (lanes * greatest L n)) (when lifted value) out
 
-      module _ (block : x % slotWords < 8 * greatest L n) where
-        pub transposed-low : ¬ (lift L n (7 - x % 8) ≤ x % slotWords / 8) → transposedWord L n x ≡ 0
+      module _ (block : x % slotWords < lanes * greatest L n) where
+        pub transposed-low : ¬ (lift L n (lastLane - x % lanes) ≤ x % slotWords / lanes) → transposedWord L n x ≡ 0
         transposed-low out =
-            inside _ ∙ when-yes (decLt (x % slotWords) (8 * greatest L n)) (when lifted value) block ∙ when-no lifted value out
+            inside _ ∙ when-yes (decLt (x % slotWords) (lanes * greatest L n)) (when lifted value) block ∙ when-no lifted value out
 
-        pub transposed-value : lift L n (7 - x % 8) ≤ x % slotWords / 8 → transposedWord L n x
-            ≡ blockWord L (reversed n (7 - x % 8)) (reversed n (x / slotWords)) (x % slotWords / 8 - lift L n (7 - x % 8))
+        pub transposed-value : lift L n (lastLane - x % lanes) ≤ x % slotWords / lanes → transposedWord L n x
+            ≡ blockWord L (reversed n (lastLane - x % lanes)) (reversed n (x / slotWords)) (x % slotWords / lanes - lift L n (lastLane - x % lanes))
         transposed-value here =
-            inside _ ∙ when-yes (decLt (x % slotWords) (8 * greatest L n)) (when lifted value) block ∙ when-yes lifted value here
+            inside _ ∙ when-yes (decLt (x % slotWords) (lanes * greatest L n)) (when lifted value) block ∙ when-yes lifted value here
 
 -- coefficient e of the tail of slot q
 abbrev pub tailWord : Level → (q e : ℕ) → ℕ
@@ -112,43 +112,43 @@ tailWord L q e = getD L (slotWords * q + blockWords + e) 0
 -- the right side: at coordinate i the tail of slot n - 1 - i of the level, where that is filled
 abbrev pub rightWord : (L : Level) (n x : ℕ) → ℕ
 rightWord L n x =
-    when (decLt (7 - x % 8) n)
-    (when (decLt 0 (slotSize L (reversed n (7 - x % 8))))
-    (when (decLe (lift L n (7 - x % 8)) (x / 8))
-    (when (decLt (x / 8 - lift L n (7 - x % 8)) blockWords)
-    (tailWord L (reversed n (7 - x % 8)) (x / 8 - lift L n (7 - x % 8))))))
+    when (decLt (lastLane - x % lanes) n)
+    (when (decLt 0 (slotSize L (reversed n (lastLane - x % lanes))))
+    (when (decLe (lift L n (lastLane - x % lanes)) (x / lanes))
+    (when (decLt (x / lanes - lift L n (lastLane - x % lanes)) blockWords)
+    (tailWord L (reversed n (lastLane - x % lanes)) (x / lanes - lift L n (lastLane - x % lanes))))))
 
 module _ (L : Level) (n x : ℕ) where
   abbrev tail : ℕ
-  tail = tailWord L (reversed n (7 - x % 8)) (x / 8 - lift L n (7 - x % 8))
+  tail = tailWord L (reversed n (lastLane - x % lanes)) (x / lanes - lift L n (lastLane - x % lanes))
 
-  abbrev near : Dec (x / 8 - lift L n (7 - x % 8) < blockWords)
-  near = decLt (x / 8 - lift L n (7 - x % 8)) blockWords
+  abbrev near : Dec (x / lanes - lift L n (lastLane - x % lanes) < blockWords)
+  near = decLt (x / lanes - lift L n (lastLane - x % lanes)) blockWords
 
-  abbrev high : Dec (lift L n (7 - x % 8) ≤ x / 8)
-  high = decLe (lift L n (7 - x % 8)) (x / 8)
+  abbrev high : Dec (lift L n (lastLane - x % lanes) ≤ x / lanes)
+  high = decLe (lift L n (lastLane - x % lanes)) (x / lanes)
 
-  abbrev filled : Dec (0 < slotSize L (reversed n (7 - x % 8)))
-  filled = decLt 0 (slotSize L (reversed n (7 - x % 8)))
+  abbrev filled : Dec (0 < slotSize L (reversed n (lastLane - x % lanes)))
+  filled = decLt 0 (slotSize L (reversed n (lastLane - x % lanes)))
 
-  pub right-beside : ¬ (7 - x % 8 < n) → rightWord L n x ≡ 0
-  right-beside out = when-no (decLt (7 - x % 8) n) _ out
+  pub right-beside : ¬ (lastLane - x % lanes < n) → rightWord L n x ≡ 0
+  right-beside out = when-no (decLt (lastLane - x % lanes) n) _ out
 
-  module _ (lane : 7 - x % 8 < n) where
-    pub right-empty : ¬ (0 < slotSize L (reversed n (7 - x % 8))) → rightWord L n x ≡ 0
-    right-empty out = when-yes (decLt (7 - x % 8) n) _ lane ∙ when-no filled (when high (when near tail)) out
+  module _ (lane : lastLane - x % lanes < n) where
+    pub right-empty : ¬ (0 < slotSize L (reversed n (lastLane - x % lanes))) → rightWord L n x ≡ 0
+    right-empty out = when-yes (decLt (lastLane - x % lanes) n) _ lane ∙ when-no filled (when high (when near tail)) out
 
-    module _ (some : 0 < slotSize L (reversed n (7 - x % 8))) where
-      of-slot : (v : ℕ) → when (decLt (7 - x % 8) n) (when filled v) ≡ v
-      of-slot v = when-yes (decLt (7 - x % 8) n) _ lane ∙ when-yes filled v some
+    module _ (some : 0 < slotSize L (reversed n (lastLane - x % lanes))) where
+      of-slot : (v : ℕ) → when (decLt (lastLane - x % lanes) n) (when filled v) ≡ v
+      of-slot v = when-yes (decLt (lastLane - x % lanes) n) _ lane ∙ when-yes filled v some
 
-      pub right-low : ¬ (lift L n (7 - x % 8) ≤ x / 8) → rightWord L n x ≡ 0
+      pub right-low : ¬ (lift L n (lastLane - x % lanes) ≤ x / lanes) → rightWord L n x ≡ 0
       right-low out = of-slot _ ∙ when-no high (when near tail) out
 
-      module _ (here : lift L n (7 - x % 8) ≤ x / 8) where
-        pub right-far : ¬ (x / 8 - lift L n (7 - x % 8) < blockWords) → rightWord L n x ≡ 0
+      module _ (here : lift L n (lastLane - x % lanes) ≤ x / lanes) where
+        pub right-far : ¬ (x / lanes - lift L n (lastLane - x % lanes) < blockWords) → rightWord L n x ≡ 0
         right-far out = of-slot _ ∙ when-yes high (when near tail) here ∙ when-no near tail out
 
-        pub right-value : x / 8 - lift L n (7 - x % 8) < blockWords
-            → rightWord L n x ≡ tailWord L (reversed n (7 - x % 8)) (x / 8 - lift L n (7 - x % 8))
+        pub right-value : x / lanes - lift L n (lastLane - x % lanes) < blockWords
+            → rightWord L n x ≡ tailWord L (reversed n (lastLane - x % lanes)) (x / lanes - lift L n (lastLane - x % lanes))
         right-value within = of-slot _ ∙ when-yes high (when near tail) here ∙ when-yes near tail within

@@ -8,7 +8,7 @@ ghost use mathlib.Core.Path.{_≡_};
 ghost use Prim.Native.Nat.{_<_, _≤_};
 ghost use lib.ListN.{length};
 ghost use Rattle.vector.specs.Bound.{AtMost};
-ghost use Rattle.solve_lattice.specs.Room.{levelWords, productWords};
+ghost use Rattle.solve_lattice.specs.Room.{levelWords, productWords, lanes};
 ghost use Rattle.solve_second.specs.Greatest.{Low};
 ghost use Rattle.solve_second.specs.Laid.{Laid};
 ghost use Rattle.solve_second.specs.RightFilling.{TailsEnd};
@@ -16,7 +16,7 @@ ghost use Rattle.solve_second.specs.Side.{sided, sideRow};
 
 // Lays out the second system of a level of n rows, with `side` for its right side, in `transposed` and `right`, which are 0.
 pub fn lay_second(transposed: &mut Level, right: &mut Product, level: &Level, n: usize, side: Side)
-    requires { ⌜ Low (now level) × TailsEnd (sided side (now level)) × (sideRow side < 8) × (n ≤ 8) ⌝ }
+    requires { ⌜ Low (now level) × TailsEnd (sided side (now level)) × (sideRow side < lanes) × (n ≤ lanes) ⌝ }
     requires room { ⌜ (length (now transposed) ≡ levelWords) × (length (now right) ≡ productWords) ⌝ }
     requires zeros { ⌜ AtMost 0 (now transposed) × AtMost 0 (now right) ⌝ }
     ensures { λ _. ⌜ Laid n (sided side (now (level .entry))) (now (transposed .exit)) (now (right .exit)) ⌝ }

@@ -2,6 +2,7 @@
 use residue::modulus::Modulus;
 use solve_lattice::BLOCK;
 use solve_lattice::Block;
+use solve_lattice::COEFFICIENTS;
 use solve_lattice::Tail;
 use vector::clear;
 use vector::find_leading;
@@ -13,7 +14,7 @@ ghost use Rattle.residue.specs.Modulus.{ValidModulus};
 ghost use Rattle.vector.specs.Bound.{Reducible};
 ghost use Rattle.vector.specs.Stored.{stored};
 ghost use Rattle.solve_lattice.specs.Memory.{ZeroFrom, Sums};
-ghost use Rattle.solve_lattice.specs.Room.{tailWords};
+ghost use Rattle.solve_lattice.specs.Room.{tailWords, mostCoefficients};
 ghost use Rattle.solve_second.specs.Monic.{MadeMonic};
 
 // Stores y[j] times `factor`, modulo p, at h[j] for j below n.
@@ -34,10 +35,10 @@ fn store_scaled(h: &mut [u64], y: &[u64], n: usize, factor: u64, modulus: Modulu
 // that is zero has none, and zero is stored.
 pub fn make_monic(d: &mut Block, tail: &Tail, modulus: Modulus) -> usize
     requires { ⌜ ValidModulus modulus ⌝ }
-    requires tail { ⌜ ZeroFrom (modulus .p) (now tail) 0 tailWords 121 × Sums (modulus .p) 0 (now tail) ⌝ }
+    requires tail { ⌜ ZeroFrom (modulus .p) (now tail) 0 tailWords mostCoefficients × Sums (modulus .p) 0 (now tail) ⌝ }
     ensures { λ r. ⌜ MadeMonic (modulus .p) (now (tail .entry)) (now (d .exit)) r ⌝ }
 {
-    let found = find_leading(tail, 121, modulus);
+    let found = find_leading(tail, COEFFICIENTS, modulus);
     clear(d, 0, BLOCK);
     if found.size == 0 {
         return 0;

@@ -4,6 +4,8 @@ use crate::height::slot_height;
 use crate::lane::copy_lane;
 use crate::lane::transpose_lane;
 use solve_lattice::BLOCK;
+use solve_lattice::LANES;
+use solve_lattice::LAST_LANE;
 use solve_lattice::Level;
 use solve_lattice::Product;
 use solve_lattice::SIZES;
@@ -13,7 +15,7 @@ ghost use mathlib.Core.Path.{_≡_};
 ghost use Prim.Native.Nat.{ℕ, _+_, _<_, _≤_};
 ghost use lib.ListN.{length, getD};
 ghost use Rattle.vector.specs.Bound.{AtMost};
-ghost use Rattle.solve_lattice.specs.Room.{productWords};
+ghost use Rattle.solve_lattice.specs.Room.{productWords, lanes};
 ghost use Rattle.solve_second.specs.Greatest.{Low, greatest};
 ghost use Rattle.solve_second.specs.RightFilling.{TailsEnd, Righting};
 ghost use Rattle.solve_second.specs.Side.{sided, sideRow};
@@ -29,7 +31,7 @@ pub enum Side {
 
 // Stores the tail of slot n - 1 - i of the level into lane i, where the slot is filled.
 fn tail_lane(right: &mut Product, level: &Level, n: usize, top: usize, i: usize)
-    requires { ⌜ Low (now level) × TailsEnd (now level) × (n ≤ 8) × (i < n) ⌝ }
+    requires { ⌜ Low (now level) × TailsEnd (now level) × (n ≤ lanes) × (i < n) ⌝ }
     requires height { ⌜ top ≡ greatest (now level) n ⌝ }
     requires before { ⌜ Righting (now level) n (now right) (now right) i ⌝ }
     ensures { λ _. ⌜ Righting (now (level .entry)) n (now (right .entry)) (now (right .exit)) (i + 1) ⌝ }
@@ -40,25 +42,32 @@ fn tail_lane(right: &mut Product, level: &Level, n: usize, top: usize, i: usize)
     }
     let lift = top - slot_height(level, q);
     let size = level[TAIL_SIZES + q] as usize;
-    copy_lane(right, 7 - i + 8 * lift, level, SLOT * q + BLOCK, 1, size);
+    copy_lane(
+        right,
+        LAST_LANE - i + LANES * lift,
+        level,
+        SLOT * q + BLOCK,
+        1,
+        size,
+    );
 }
 
 // Stores lane i of the right side.
 fn side_lane(right: &mut Product, level: &Level, n: usize, side: Side, top: usize, i: usize)
-    requires { ⌜ Low (now level) × TailsEnd (sided side (now level)) × (sideRow side < 8) × (n ≤ 8) × (i < n) ⌝ }
+    requires { ⌜ Low (now level) × TailsEnd (sided side (now level)) × (sideRow side < lanes) × (n ≤ lanes) × (i < n) ⌝ }
     requires height { ⌜ top ≡ greatest (now level) n ⌝ }
     requires before { ⌜ Righting (sided side (now level)) n (now right) (now right) i ⌝ }
     ensures { λ _. ⌜ Righting (sided side (now (level .entry))) n (now (right .entry)) (now (right .exit)) (i + 1) ⌝ }
 {
     match side {
         Side::Tails => tail_lane(right, level, n, top, i),
-        Side::Row(h) => transpose_lane(right, 7 - i, level, n - 1 - i, h, top),
+        Side::Row(h) => transpose_lane(right, LAST_LANE - i, level, n - 1 - i, h, top),
     }
 }
 
 // Stores the right side in `right`, which is 0; `top` is the height of the transposed slots.
 pub fn lay_side(right: &mut Product, level: &Level, n: usize, side: Side, top: usize)
-    requires { ⌜ Low (now level) × TailsEnd (sided side (now level)) × (sideRow side < 8) × (n ≤ 8) ⌝ }
+    requires { ⌜ Low (now level) × TailsEnd (sided side (now level)) × (sideRow side < lanes) × (n ≤ lanes) ⌝ }
     requires height { ⌜ top ≡ greatest (now level) n ⌝ }
     requires zeros { ⌜ (length (now right) ≡ productWords) × AtMost 0 (now right) ⌝ }
     ensures { λ _. ⌜ (length (now (right .exit)) ≡ productWords)

@@ -14,7 +14,7 @@ use vector::find_leading;
 ghost use Prim.Native.Nat.{ℕ, _<_, _≤_};
 ghost use lib.ListN.{length, getD};
 ghost use Rattle.residue.specs.Modulus.{ValidModulus};
-ghost use Rattle.solve_lattice.specs.Room.{rowsWords};
+ghost use Rattle.solve_lattice.specs.Room.{rowsWords, lanes};
 ghost use Rattle.solve_lattice.specs.Memory.{ValidLevel};
 ghost use Rattle.solve_second.specs.Side.{sided, sideRow};
 ghost use Rattle.solve_second.specs.Solved.{HasTops, SecondSolved};
@@ -30,7 +30,7 @@ pub fn solve_second(
     side: Side,
     modulus: Modulus,
 )
-    requires { ⌜ ValidModulus modulus × (n ≤ 8) × (sideRow side < 8) × ValidLevel (modulus .p) (now level) ⌝ }
+    requires { ⌜ ValidModulus modulus × (n ≤ lanes) × (sideRow side < lanes) × ValidLevel (modulus .p) (now level) ⌝ }
     requires tops { ⌜ HasTops (modulus .p) n (sided side (now level)) ⌝ }
     requires room { ⌜ (rowsWords ≤ length (now rows)) × ((i : ℕ) → rowsWords ≤ i → getD (now rows) i 0 < modulus .p) ⌝ }
     ensures { λ _. ⌜ SecondSolved (modulus .p) n (sided side (now (level .entry))) (now (w .exit)) (now (rows .exit)) ⌝ }

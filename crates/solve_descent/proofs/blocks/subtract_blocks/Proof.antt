@@ -6,7 +6,7 @@ use native.Mathlib.Omega.{arith}
 use borrow.Author.Needs.{needs}
 use lib.ListN.{length}
 use Rattle.solve_lattice.specs.Memory.{slotSize}
-use Rattle.solve_lattice.specs.Room.{productWords, slotWords}
+use Rattle.solve_lattice.specs.Room.{productWords, slotWords, lanes}
 use Rattle.solve_descent.specs.Combination.{TakesCombination}
 use Rattle.solve_descent.specs.Blocks.{blockTerms}
 use Rattle.solve_descent.proofs.Combinations.{combination-start, combination-small, combination-turn}
@@ -17,7 +17,7 @@ use Rattle.solve_descent.proofs.blocks.subtract_blocks.Tie as tie
 abbrev Inv-loop : tie.InvT-loop
 Inv-loop t₀ quotients degrees level rows modulus q₀ t q =
     (q ≤ rows)
-    × TakesCombination (modulus .p) 8 productWords quotients (λ r. blockTerms degrees (slotSize level r)) level (λ r. slotWords * r) q t₀ t
+    × TakesCombination (modulus .p) lanes productWords quotients (λ r. blockTerms degrees (slotSize level r)) level (λ r. slotWords * r) q t₀ t
 
 abbrev μ-loop : tie.MeasureT-loop
 μ-loop t₀ quotients degrees level rows modulus q₀ t q = rows - q
@@ -68,7 +68,7 @@ returns c =
     let S = c .before .before in
     let L = c .before .loop in
     let end : L .q ≡ S .args .rows = omega arith in
-    subst (λ q. TakesCombination (S .args .modulus .p) 8 productWords (S .args .quotients .now)
+    subst (λ q. TakesCombination (S .args .modulus .p) lanes productWords (S .args .quotients .now)
     (λ r. blockTerms (S .args .degrees) (slotSize (S .args .level .now) r)) (S .args .level .now) (λ r. slotWords * r) q (S .args .t .now)
     (L .t)) end (L .inv .1)
 

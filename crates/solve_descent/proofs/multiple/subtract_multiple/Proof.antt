@@ -7,7 +7,7 @@ use lib.ListN.{length}
 use borrow.Author.Needs.{needs}
 use Rattle.residue.specs.Modulus.{ValidModulus}
 use Rattle.vector.specs.Bound.{below-reducible}
-use Rattle.solve_lattice.specs.Room.{productWords, blockWords}
+use Rattle.solve_lattice.specs.Room.{productWords, blockWords, mostCoefficients}
 use Rattle.solve_descent.proofs.Multiples.{nothing-taken, multiple-taken}
 use Rattle.solve_descent.proofs.multiple.subtract_multiple.Statement.{statement}
 use Rattle.solve_descent.proofs.multiple.subtract_multiple.Tie as tie
@@ -50,7 +50,7 @@ reduce-range-requires c κs =
     let m : ValidModulus (S .args .modulus) = S .pre .0 .0 in
     let positive : 1 ≤ S .args .modulus .p = omega (arith, m .prime .large) in
     let square = mul-le-mul-right (S .args .modulus .p) positive in
-    let few : M .min .result ≤ 121 = omega (arith, M .min .ensures) in
+    let few : M .min .result ≤ mostCoefficients = omega (arith, M .min .ensures) in
     let products = mul-le-mul-right (S .args .modulus .p * S .args .modulus .p) few in
     let quotients : length (S .args .quotients .now) ≡ productWords = search needs in
     let T = P .subtract-product .ensures in (

@@ -5,6 +5,7 @@ use native.Mathlib.Omega.{arith}
 use Rattle.solve_descent.proofs.Coordinates.{coordinate-found}
 use Rattle.solve_descent.proofs.search.find_coordinate.Statement.{statement}
 use Rattle.solve_descent.proofs.search.find_coordinate.Tie as tie
+use Rattle.solve_lattice.specs.Room.{productDegrees}
 
 subtract-combination-requires : tie.Need-subtract-combination-requires
 subtract-combination-requires c κs =
@@ -15,7 +16,7 @@ reduce-by-kernel-requires : tie.Need-reduce-by-kernel-requires
 reduce-by-kernel-requires c κs =
     let C = c .before in
     let S = C .before .before in
-    let products = mul-le-mul-right (136 * (S .args .modulus .p * S .args .modulus .p)) (S .pre .0 .1) in
+    let products = mul-le-mul-right (productDegrees * (S .args .modulus .p * S .args .modulus .p)) (S .pre .0 .1) in
     let bound = C .subtract-combination .ensures .bound 0 (S .pre .1 .1 .1 .1) in
     ((S .pre .0 .0, S .pre .1 .0), λ i. omega (arith, bound i))
 

@@ -6,7 +6,7 @@ use native.Mathlib.Nat.{le-of-lt, le-trans, le-add-right, pos-of-ne-zero}
 use native.Mathlib.Omega.{arith}
 use borrow.Author.Needs.{needs}
 use Rattle.residue.specs.Modulus.{ValidModulus}
-use Rattle.solve_lattice.specs.Room.{productWords, slotPlaces}
+use Rattle.solve_lattice.specs.Room.{productWords, slotPlaces, mostPlaces}
 use Rattle.solve_lattice.specs.Found.{found-ends, found-leading, found-within}
 use Rattle.solve_lattice.specs.Sums.{sums-room, sums-fewer}
 use Rattle.solve_lattice.specs.Quotients.{Divided}
@@ -28,7 +28,7 @@ find-leading-requires : tie.Need-find-leading-requires Inv-loop μ-loop
 find-leading-requires c κs =
     let S = c .before .before .before in
     let m : ValidModulus (S .args .modulus) = S .pre .0 .0 in
-    let room = sums-room _ (S .args .block .now) 2112 (le-of-lt (m .prime .large)) (S .pre .1 .0 .3) in
+    let room = sums-room _ (S .args .block .now) mostPlaces (le-of-lt (m .prime .large)) (S .pre .1 .0 .3) in
     ((m, Rows.within-degrees (S .pre .1 .0 .0)), λ j lt. le-trans (le-add-right _ _) (room j))
 
 loop-holds : tie.Need-loop-holds Inv-loop μ-loop

@@ -4,16 +4,16 @@ use mathlib.Core.Path.{_≡_, subst}
 use native.Mathlib.Omega.{arith}
 use lib.ListN.{length}
 use borrow.Author.Needs.{needs}
-use Rattle.solve_lattice.specs.Room.{levelWords}
+use Rattle.solve_lattice.specs.Room.{levelWords, lanes}
 use Rattle.solve_levels.specs.Copied.{Copied, copied-start, copied-turn}
 use Rattle.solve_levels.proofs.copying.copy_level.Statement.{statement}
 use Rattle.solve_levels.proofs.copying.copy_level.Tie as tie
 
 abbrev Inv-loop : tie.InvT-loop
-Inv-loop next₀ level q₀ next q = (q ≤ 8) × Copied level q next
+Inv-loop next₀ level q₀ next q = (q ≤ lanes) × Copied level q next
 
 abbrev μ-loop : tie.MeasureT-loop
-μ-loop next₀ level q₀ next q = 8 - q
+μ-loop next₀ level q₀ next q = lanes - q
 
 loop-holds : tie.Need-loop-holds Inv-loop μ-loop
 loop-holds c =
@@ -37,7 +37,7 @@ loop-again c =
 returns : tie.Need-returns Inv-loop μ-loop
 returns c =
     let L = c .before .loop in
-    let end : L .q ≡ 8 = omega arith in
+    let end : L .q ≡ lanes = omega arith in
     subst (λ q. Copied (c .before .before .args .level .now) q (L .next)) end (L .inv .1)
 
 pub copy-level-spec : {M : Type 1} → statement M

@@ -6,7 +6,7 @@ use native.Mathlib.Omega.{arith}
 use lib.ListN.{getD}
 use Rattle.solve_lattice.specs.Memory.{height, Level, slotSize}
 use Rattle.solve_lattice.specs.LaneStored.{lane, lane-same}
-use Rattle.solve_lattice.specs.Room.{slotWords}
+use Rattle.solve_lattice.specs.Room.{slotWords, lanes, lastLane}
 use Rattle.solve_second.specs.Words.{blockWord}
 use borrow.Author.Needs.{needs}
 use Rattle.solve_second.proofs.lane.transpose_lane.Statement.{statement}
@@ -14,12 +14,12 @@ use Rattle.solve_second.proofs.lane.transpose_lane.Tie as tie
 
 -- the words as those of the block, and the height as what it is
 by-height : (L : Level) (q r : ℕ) (w : List ℕ) (to top : ℕ) {h : ℕ} → h ≡ height (slotSize L q) → {w′ : List ℕ}
-    → w′ ≡ lane (λ e. getD L (slotWords * q + (7 - r) + 8 * e) 0) w (to + 8 * (top - h)) h
-    → w′ ≡ lane (λ e. blockWord L q r e) w (to + 8 * (top - height (slotSize L q))) (height (slotSize L q))
+    → w′ ≡ lane (λ e. getD L (slotWords * q + (lastLane - r) + lanes * e) 0) w (to + lanes * (top - h)) h
+    → w′ ≡ lane (λ e. blockWord L q r e) w (to + lanes * (top - height (slotSize L q))) (height (slotSize L q))
 by-height L q r w to top {h} high stores =
     stores
-    ∙ lane-same _ (λ e. blockWord L q r e) w (to + 8 * (top - h)) h (λ e lt. ap (λ x. getD L x 0) (omega arith))
-    ∙ ap (λ m. lane (λ e. blockWord L q r e) w (to + 8 * (top - m)) m) high
+    ∙ lane-same _ (λ e. blockWord L q r e) w (to + lanes * (top - h)) h (λ e lt. ap (λ x. getD L x 0) (omega arith))
+    ∙ ap (λ m. lane (λ e. blockWord L q r e) w (to + lanes * (top - m)) m) high
 
 copy-lane-requires : tie.Need-copy-lane-requires
 copy-lane-requires c κs =

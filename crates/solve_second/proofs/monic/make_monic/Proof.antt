@@ -6,7 +6,7 @@ use lib.ListN.{length}
 use borrow.Author.Needs.{needs}
 use Rattle.residue.specs.Modulus.{ValidModulus}
 use Rattle.residue.specs.Below.{inverse-below}
-use Rattle.solve_lattice.specs.Room.{blockWords, tailWords}
+use Rattle.solve_lattice.specs.Room.{blockWords, tailWords, mostCoefficients}
 use Rattle.solve_second.specs.MonicLaws.{sums-reducible, found-most, monic-empty, value-positive, value-below, monic-made}
 use Rattle.solve_second.proofs.monic.make_monic.Statement.{statement}
 use Rattle.solve_second.proofs.monic.make_monic.Tie as tie
@@ -17,7 +17,7 @@ find-leading-requires c κs =
     let m : ValidModulus (S .args .modulus) = S .pre .0 in
     let room : length (S .args .tail .now) ≡ tailWords = search needs in (
       (m, omega arith),
-      sums-reducible (S .args .modulus .p) (S .args .tail .now) 121 (omega (arith, m .prime .large))
+      sums-reducible (S .args .modulus .p) (S .args .tail .now) mostCoefficients (omega (arith, m .prime .large))
           (S .pre .1 .1),
     )
 

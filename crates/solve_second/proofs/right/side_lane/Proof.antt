@@ -11,6 +11,7 @@ use Rattle.solve_second.specs.declared.right.Side.{Side}
 use borrow.Author.Needs.{needs}
 use Rattle.solve_second.proofs.right.side_lane.Statement.{statement}
 use Rattle.solve_second.proofs.right.side_lane.Tie as tie
+use Rattle.solve_lattice.specs.Room.{lanes}
 
 tail-lane-requires : tie.Need-tail-lane-requires
 tail-lane-requires c κs =
@@ -24,7 +25,7 @@ tail-lane-requires c κs =
 transpose-lane-requires : tie.Need-transpose-lane-requires
 transpose-lane-requires c κs =
     let S = c .before .before .before .before in
-    let inside = subst (λ (s : Side). sideRow s < 8) (c .before .before .side .given .1) (S .pre .0 .2) in
+    let inside = subst (λ (s : Side). sideRow s < lanes) (c .before .before .side .given .1) (S .pre .0 .2) in
     let small = greatest-small (S .args .level .now) (S .args .n) (S .pre .0 .3) (S .pre .0 .0) in
     let high = greatest-high (S .args .level .now) (S .args .n) (S .args .n - 1 - S .args .i) (omega arith) in (
       (S .pre .0 .0, omega arith, omega (arith, inside), omega (arith, S .pre .1 .0, high)),

@@ -11,6 +11,7 @@ use Rattle.solve_second.specs.RightFilling.{righting-empty, righting-lan
 use borrow.Author.Needs.{needs}
 use Rattle.solve_second.proofs.right.tail_lane.Statement.{statement}
 use Rattle.solve_second.proofs.right.tail_lane.Tie as tie
+use Rattle.solve_lattice.specs.Room.{lanes, lastLane}
 
 returns : tie.Need-returns
 returns c =
@@ -60,7 +61,7 @@ returns-2 c =
     (spread-same
     (lane-spread (omega (arith, short, small, some, high, S .pre .1 .0, S .pre .1 .1 .room)) (c .copy-lane .ensures))
     (λ e. tailWord (S .args .level .now) q e) (λ e lt. ap (λ x. getD (S .args .level .now) x 0) (omega arith))
-    (ap (λ m. 7 - S .args .i + 8 * (S .args .top - m)) high) refl)
+    (ap (λ m. lastLane - S .args .i + lanes * (S .args .top - m)) high) refl)
 
 pub tail-lane-spec : {M : Type 1} → statement M
 tail-lane-spec =

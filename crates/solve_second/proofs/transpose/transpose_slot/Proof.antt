@@ -10,9 +10,10 @@ use Rattle.solve_second.specs.Filling.{filling-same}
 use Rattle.solve_second.specs.TransposeFilling.{Transposing, slots-empty, slots-filled, transposing-lane}
 use Rattle.solve_second.proofs.transpose.transpose_slot.Statement.{statement}
 use Rattle.solve_second.proofs.transpose.transpose_slot.Tie as tie
+use Rattle.solve_lattice.specs.Room.{lanes}
 
 abbrev Inv-loop : tie.InvT-loop
-Inv-loop transposed₀ level n top k q i₀ transposed i = (i ≤ n) × Transposing level n transposed₀ transposed (8 * k + i)
+Inv-loop transposed₀ level n top k q i₀ transposed i = (i ≤ n) × Transposing level n transposed₀ transposed (lanes * k + i)
 
 abbrev μ-loop : tie.MeasureT-loop
 μ-loop transposed₀ level n top k q i₀ transposed i = n - i
