@@ -1,6 +1,6 @@
 -- interface, what contracts, other crates and PROVED.md cite: SystemIn, Laid, Taken, Equations, LaidLaws, SystemInLaws,
---   TakenLaws, TakenRight, Answers, Existence
--- inside: Listed, Lists, RightLists, Chosen, TakenChosen
+--   TakenLaws, TakenChosen, Answers, Existence, ChosenUnique
+-- inside: Listed, Lists, Vectors, RightLists, PivotLists, ChosenLists
 -- the system in the input area, and the certificate in the output area
 pub mod Listed
 pub mod SystemIn
@@ -15,7 +15,7 @@ pub mod TakenLaws
 pub mod RightLists
 pub mod PivotLists
 pub mod ChosenLists
-pub mod TakenRight
+pub mod TakenChosen
 pub mod Answers
 pub mod Existence
 pub mod ChosenUnique
