@@ -51,6 +51,7 @@ pub mod LowerBounds
 pub mod Killing
 pub mod Retailed
 pub mod Round
+pub mod LessTail
 pub mod Solution
 pub mod Unfinished
 pub mod Absence
@@ -70,5 +71,6 @@ pub mod Gathering
 pub mod Polynomials
 pub mod Holds
 pub mod Shortening
+pub mod Rounds
 pub mod Flat
 pub mod Held

@@ -5,6 +5,7 @@ pub mod ascending;
 pub mod descending;
 pub mod dropping;
 pub mod insertion;
+pub mod shorten;
 pub mod solution;
 pub mod witness;
 

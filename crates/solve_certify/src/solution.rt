@@ -1,4 +1,5 @@
 // Where there is a solution: all of its certificate but the numerators.
+use crate::shorten::solve_short;
 use residue::modulus::Modulus;
 use solve_lattice::BLOCK;
 use solve_lattice::Block;
@@ -11,11 +12,9 @@ use solve_lattice::ROWS;
 use solve_lattice::Stage;
 use solve_lattice::Tail;
 use solve_lattice::divide;
-use solve_second::Side;
 use solve_second::make_monic;
 use solve_second::multiply;
 use solve_second::multiply_block;
-use solve_second::solve_second;
 use vector::copy;
 ghost use mathlib.Core.Path.{_≡_};
 ghost use Prim.Native.Nat.{_≤_};
@@ -73,7 +72,7 @@ pub fn find_solution(
     output: &mut Output,
     quotients: &mut Product,
     level: &Level,
-    next: &Level,
+    next: &mut Level,
     tail: &Tail,
     input: &Input,
     stage: Stage,
@@ -96,7 +95,7 @@ pub fn find_solution(
     let mut product = [0u64; BLOCK];
     let size = find_denominator(&mut d, &mut t, tail, input, m, modulus);
     divide(quotients, &mut t, PRODUCT, level, modulus);
-    solve_second(&mut w, &mut rows, next, n, Side::Tails, modulus);
+    solve_short(&mut w, &mut rows, next, n, &d, size, modulus);
     multiply(&mut product, &d, size, &w, 122 - size, modulus);
     store_solution(output, &d, &product, &rows, n, m);
 }

@@ -41,7 +41,7 @@ pub fn find_witness(
     let mut tail = [0u64; TAIL];
     let size = insert_side(&mut next, &mut tail, level, input, columns, modulus);
     if size == 0 {
-        find_solution(output, quotients, level, &next, &tail, input, stage);
+        find_solution(output, quotients, level, &mut next, &tail, input, stage);
         return true;
     }
     find_absence(output, level, rows, LANES - 1 - (size - 1) % LANES, modulus);
