@@ -2,7 +2,7 @@
 -- rows only.
 use Prim.Native.Nat.{ℕ, zero, suc, _<_, _≤_}
 use Prim.Native.Nat.{_+_ as _+ₙ_, _*_ as _*ₙ_, _-_ as _-ₙ_}
-use mathlib.Core.Path.{_≡_, refl, sym, _∙_, ap}
+use mathlib.Core.Path.{_≡_, refl, _∙_, ap}
 use mathlib.Core.Logic.{_⊎_, inl, inr}
 use mathlib.Core.List.{[], _∷_}
 use native.Mathlib.Omega.{arith}
@@ -10,7 +10,6 @@ use native.Mathlib.Nat.{mul-le-mul-right}
 use native.Mathlib.Decide.{ℕ-discrete, decLt, decLe}
 use Rattle.ring.specs.Ring.{Ring}
 use Rattle.ring.specs.Identity.{quotes, identity}
-use Rattle.ring.specs.Combination.{given, combination}
 use Rattle.algebra.specs.Sized.{Sized, size-neg-equal, size-positive, positive-nonzero, size-mul-nonzero}
 use Rattle.reduction.specs.Replace.{below-suc}
 use Rattle.reduction.specs.Total.{total, total-term, degrees, degrees-ext}
@@ -21,7 +20,6 @@ use Rattle.reduction.specs.Euclidean.{Euclidean, Associate, Cancelling, 
 use Rattle.reduction.specs.Inserting.{Inserting}
 use Rattle.reduction.specs.System.{System}
 use Rattle.reduction.specs.Levels.{Level}
-use Rattle.reduction.specs.Dual.{Dual}
 use Rattle.reduction.specs.Transpose.{Tops}
 use Rattle.reduction.specs.Certifying.{Short}
 use Rattle.reduction.specs.Retailed.{retailed}
@@ -269,15 +267,20 @@ module _ {A : Type 0} {R : Ring A} {S : Sized R} (E : Euclidean S) (T : System S
     pub unfinished : Unfinished E T U (μ .unit * X .now .hand (T .rows)) w Z
 
   pub short-rows : ShortRows
-  short-rows = record { w = wOf r; Z = row r; unfinished = unfinished E T L X z μ (r .less .blocks .sizes) into (solved r .w) (row r)
-      (solved r .monic) (solved r .dual) short }
+  short-rows = record {
+    w = wOf r;
+    Z = row r;
+    unfinished = unfinished E T L X z μ (r .less .blocks .sizes) into (solved r .w) (row r)
+        (solved r .monic) (solved r .dual) short;
+  }
     where
       r : Turn
       r = shortened .turn
 
       into : (u : ℕ → A) → InSpanWith R n (suc n) (X .now .slots) (X .now .hand) u → InSpanWith R n (suc n) (r .slots) (X .now .hand) u
       into = retailed R (r .less .blocks) z (λ q. r .less .multiple q * μ .unit) (λ q h f. r .less .tails q h f
-          ∙ identity R (X .now .slots .at q n ∷ r .less .multiple q ∷ μ .unit ∷ X .now .hand n ∷ []) (λ ρ q1 q2 q3 q4. search quotes depth 16) refl)
+          ∙ identity R (X .now .slots .at q n ∷ r .less .multiple q ∷ μ .unit ∷ X .now .hand n ∷ [])
+          (λ ρ q1 q2 q3 q4. search quotes depth 16) refl)
 
       short : (i : ℕ) → i < n → ¬ (row r i ≡ 𝟘) → Short S n m M b (wOf r) (row r) i
       short i h ne = solution-short E T L X z μ (r .less .blocks .sizes) into (solved r .w) (row r) (solved r .monic) (solved r .dual) i h

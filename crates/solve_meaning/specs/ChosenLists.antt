@@ -1,6 +1,6 @@
 -- The lists of a certificate that is chosen in the terms of the solver's mathematics, over the residues, are chosen.
 use Prim.Native.Nat.{ℕ, _<_}
-use mathlib.Core.Path.{_≡_, refl, sym, _∙_, ap, ap₂, subst}
+use mathlib.Core.Path.{_≡_, refl, sym, _∙_, ap, ap₂}
 use mathlib.Core.List.{List, [], _∷_}
 use native.Mathlib.Omega.{arith}
 use native.Mathlib.Decide.{decLt}
@@ -31,15 +31,15 @@ use Rattle.reduction.specs.Certifying
 use Rattle.reduction.specs.Killing.{Killing}
 use Rattle.words.specs.Limits.{Limits}
 use Rattle.words.specs.System.{System, SystemWithin}
-use Rattle.truth.specs.Solution.{Divides, Clears, Monic, Denominator, sideOf}
-use Rattle.truth.specs.Chosen.{Reduced, SystemPivot, Inverts, Short, ChosenSolution, ChosenAbsence, combined}
+use Rattle.truth.specs.Solution.{Clears, Monic, Denominator}
+use Rattle.truth.specs.Chosen.{Reduced, Inverts, Short, ChosenSolution, ChosenAbsence}
 use Rattle.solve_meaning.specs.Lists
 use Rattle.solve_meaning.specs.Lists.{listOf}
 use Rattle.solve_meaning.specs.Vectors
 use Rattle.solve_meaning.specs.Vectors.{lists, polynomialOf, vectorOf}
 use Rattle.solve_meaning.specs.Equations.{equated}
 use Rattle.solve_meaning.specs.RightLists.{side-is, solution-right, absence-right}
-use Rattle.solve_meaning.specs.PivotLists.{long, none, relation-in, pivot-out, pivot-length, column-pivot-in, column-pivot-out}
+use Rattle.solve_meaning.specs.PivotLists.{long, empty, relation-in, pivot-out, pivot-length, column-pivot-in, column-pivot-out}
 
 -- Z/w in lowest terms, for n polynomials Z: w is the denominator
 module _ (p : ℕ) (prime : Prime p) (n : ℕ) (W : Polynomial (residues p prime)) (ζ : ℕ → Polynomial (residues p prime)) (w : List ℕ)
@@ -92,8 +92,14 @@ module _ (p : ℕ) (prime : Prime p) (n : ℕ) (W : Polynomial (residues p prime
           let C = polynomialOf p prime c hc in
           let nonzero : ¬ (C ≡ R .zero) = λ z. monicLaws p prime .monic-nonzero (c, hc) m
           (equal-numbers p _ _ (Vectors.polynomial-list p prime c hc ∙ ap list z ∙ Lists.list-zero p prime)) in
-          omega (arith, divides-size (sized F) (least c hc h) nonzero, ap length ew, Lists.list-length p prime W,
-          ap length (Vectors.polynomial-list p prime c hc), Lists.list-length p prime C);
+          omega (
+            arith,
+            divides-size (sized F) (least c hc h) nonzero,
+            ap length ew,
+            Lists.list-length p prime W,
+            ap length (Vectors.polynomial-list p prime c hc),
+            Lists.list-length p prime C,
+          );
     }
 
 module _ (limits : Limits) (s : System) (h : SystemWithin limits s) where
@@ -125,7 +131,7 @@ module _ (limits : Limits) (s : System) (h : SystemWithin limits s) where
         let e = Vectors.vector-list p prime v (X .canonical) j in
         omega (
           arith,
-          r j l x (relation-in limits s h X) (λ z. X .nonzero (e ∙ ap listed z ∙ Lists.list-zero p prime)),
+          r j l x (relation-in limits s h X) (λ z. X .nonzero (empty limits s h e z)),
           long limits s h (ν j) (eN j l),
           long limits s h (x j) e,
         )
@@ -161,7 +167,7 @@ module _ (limits : Limits) (s : System) (h : SystemWithin limits s) where
 
       short-lists : (i : ℕ) → i < s .rows → ¬ (getD Z i [] ≡ []) → Short s w Z i
       short-lists i l ne =
-          let x = K .short i l (λ z. ne (eZ i l ∙ ap listed z ∙ Lists.list-zero p prime)) in
+          let x = K .short i l (λ z. ne (empty limits s h (eZ i l) z)) in
           let u = x .spanned in
           record {
             at = record {
@@ -202,6 +208,7 @@ module _ (limits : Limits) (s : System) (h : SystemWithin limits s) where
       pivot = pivot-out limits s h (K .spanned .parts) (K .spanned .part) (K .spanned .equal) (K .pivot) (listed (K .spanned .part)) refl;
     };
     new = λ P. K .added (column-pivot-in limits s h P);
-    support = λ i l ne nz. column-pivot-out limits s h (K .support i l ne (λ z. nz (eq i l ∙ ap listed z ∙ Lists.list-zero p prime)));
-    lowest = denominator-lists p prime (s .rows) (κ (K .at)) κ (getD q (K .at) []) q (eq (K .at) (K .pivot .inside)) count eq (K .lowest) monic;
+    support = λ i l ne nz. column-pivot-out limits s h (K .support i l ne (λ z. nz (empty limits s h (eq i l) z)));
+    lowest = denominator-lists p prime (s .rows) (κ (K .at)) κ (getD q (K .at) []) q (eq (K .at) (K .pivot .inside)) count eq
+        (K .lowest) monic;
   }

@@ -33,7 +33,7 @@ use Rattle.truth.specs.Truth.{ProperSolution, answer-unique}
 use Rattle.truth.specs.Accepted.{all-canonical, proper, proper-solution}
 use Rattle.truth.specs.Lift.{canonical-at}
 use Rattle.truth.specs.Denominators.{denominator-divides}
-use Rattle.truth.specs.Chosen.{Reduced, ChosenSolution, ChosenAbsence, Chosen, chosen-right, combined}
+use Rattle.truth.specs.Chosen.{ChosenSolution, ChosenAbsence, Chosen, chosen-right, combined}
 use Rattle.solve_meaning.specs.Answers.{answerOf, right-answers}
 use Rattle.solve_meaning.specs.Lists
 use Rattle.solve_meaning.specs.Lists.{listOf}
@@ -57,7 +57,8 @@ unfolding IsLeast
 distinct d e = subst IsLeast e tt
 
 -- w is the denominator of Z/w: then Z/w is in lowest terms
-module _ (p : ℕ) (prime : Prime p) (w : List ℕ) (hw : Canonical p w) (Z : List (List ℕ)) (hZ : AllCanonical p Z) (lowest : Denominator p Z w w) where
+module _ (p : ℕ) (prime : Prime p) (w : List ℕ) (hw : Canonical p w) (Z : List (List ℕ)) (hZ : AllCanonical p Z)
+    (lowest : Denominator p Z w w) where
   abbrev P : Type 0
   P = Polynomial (residues p prime)
 
@@ -216,7 +217,8 @@ module _ (limits : Limits) (s : System) (h : SystemWithin limits s) where
     }
 
   module _ {d d₁ w w₁ : List ℕ} {N N₁ Z Z₁ : List (List ℕ)} (P : SolutionWithin limits (shape s) d N w Z)
-      (P₁ : SolutionWithin limits (shape s) d₁ N₁ w₁ Z₁) (C : ChosenSolution s d N w Z) (C₁ : ChosenSolution s d₁ N₁ w₁ Z₁) (same : d ≡ d₁) where
+      (P₁ : SolutionWithin limits (shape s) d₁ N₁ w₁ Z₁) (C : ChosenSolution s d N w Z) (C₁ : ChosenSolution s d₁ N₁ w₁ Z₁)
+      (same : d ≡ d₁) where
     D-same : D P C ≡ D P₁ C₁
     D-same = Vectors.list-injective p prime _ _ (sym (ed P C) ∙ same ∙ ed P₁ C₁)
 
@@ -227,7 +229,8 @@ module _ (limits : Limits) (s : System) (h : SystemWithin limits s) where
 
     certifying-same : (W P C ≡ W P₁ C₁) × ((i : ℕ) → i < s .rows → ζ P C i ≡ ζ P₁ C₁ i)
     certifying-same = certifying-unique (sized F) (s .rows) (s .columns) (T .matrix) (T .right) (certifying P C)
-        (subst (λ x. Certifying (sized F) (s .rows) (s .columns) (T .matrix) (T .right) x (W P₁ C₁) (ζ P₁ C₁)) (sym D-same) (certifying P₁ C₁))
+        (subst (λ x. Certifying (sized F) (s .rows) (s .columns) (T .matrix) (T .right) x (W P₁ C₁) (ζ P₁ C₁)) (sym D-same)
+        (certifying P₁ C₁))
         (monic-associates F (W P C) (W P₁ C₁)
         (denominator-monic p prime w (P .certifyingDenominator .canonical) Z (H P C .certifyingNumerators) (C .lowest))
         (denominator-monic p prime w₁ (P₁ .certifyingDenominator .canonical) Z₁ (H P₁ C₁ .certifyingNumerators) (C₁ .lowest)))
@@ -238,8 +241,8 @@ module _ (limits : Limits) (s : System) (h : SystemWithin limits s) where
         ∙ ap (λ x. solution d₁ x w Z) (same-lists (s .columns) N N₁ (ν P C) (ν P₁ C₁) (P .numerators .count) (P₁ .numerators .count)
         (λ j l. eN P C j) (λ j l. eN P₁ C₁ j) numerators-same)
         ∙ ap (λ x. solution d₁ N₁ x Z) (ew P C ∙ ap list (certifying-same .0) ∙ sym (ew P₁ C₁))
-        ∙ ap (solution d₁ N₁ w₁) (same-lists (s .rows) Z Z₁ (ζ P C) (ζ P₁ C₁) (P .certifyingNumerators .count) (P₁ .certifyingNumerators .count)
-        (λ i l. eZ P C i) (λ i l. eZ P₁ C₁ i) (certifying-same .1))
+        ∙ ap (solution d₁ N₁ w₁) (same-lists (s .rows) Z Z₁ (ζ P C) (ζ P₁ C₁) (P .certifyingNumerators .count)
+        (P₁ .certifyingNumerators .count) (λ i l. eZ P C i) (λ i l. eZ P₁ C₁ i) (certifying-same .1))
 
   -- ---- absences
 
@@ -298,7 +301,8 @@ module _ (limits : Limits) (s : System) (h : SystemWithin limits s) where
   unfolding CertificateWithin Chosen answerOf denominatorOf
   same-answer (solution d N w Z) (solution d₁ N₁ w₁ Z₁) k k₁ C C₁ e = solution-unique k k₁ C C₁ (ap denominatorOf e)
   same-answer (absence q) (absence q₁) k k₁ C C₁ e = absence-unique
-      (all-canonical p (limits .certificateCoefficients) q (k .entries)) (all-canonical p (limits .certificateCoefficients) q₁ (k₁ .entries))
+      (all-canonical p (limits .certificateCoefficients) q (k .entries))
+      (all-canonical p (limits .certificateCoefficients) q₁ (k₁ .entries))
       (k .count) (k₁ .count) C C₁
   same-answer (solution d N w Z) (absence q) k k₁ C C₁ e = absurd (distinct d e)
   same-answer (absence q) (solution d N w Z) k k₁ C C₁ e = absurd (distinct d (sym e))

@@ -17,5 +17,5 @@ pub mod PivotLists
 pub mod ChosenLists
 pub mod TakenChosen
 pub mod Answers
-pub mod Existence
 pub mod ChosenUnique
+pub mod Existence

@@ -20,13 +20,11 @@ use Rattle.reduction.specs.System.{System as Equated}
 use Rattle.reduction.specs.Pivot.{Pivot as PivotIn}
 use Rattle.reduction.specs.Slots.{unweighted}
 use Rattle.reduction.specs.Numerators.{Relation as RelationIn}
-use Rattle.reduction.specs.Certifying.{Spanned}
 use Rattle.reduction.specs.Killing.{PivotOf}
 use Rattle.words.specs.Limits.{Limits}
-use Rattle.words.specs.System.{System, SystemWithin, rightSide}
-use Rattle.truth.specs.Solution.{AllCanonical}
+use Rattle.words.specs.System.{System, SystemWithin}
 use Rattle.truth.specs.Listed.{length-listed}
-use Rattle.truth.specs.Chosen.{Relation, Pivot, ColumnPivot, SystemPivot, combined}
+use Rattle.truth.specs.Chosen.{Relation, Pivot, ColumnPivot, combined}
 use Rattle.solve_meaning.specs.Lists
 use Rattle.solve_meaning.specs.Lists.{listOf}
 use Rattle.solve_meaning.specs.Vectors
@@ -175,5 +173,6 @@ module _ (limits : Limits) (s : System) (h : SystemWithin limits s) where
   pub column-pivot-out : {i : ℕ} → PivotOf (sized F) (s .rows) (s .columns) (T .matrix) (T .right) i → ColumnPivot s i
   column-pivot-out {i} P = record {
     parts = lists p prime (s .columns) (P .parts);
-    pivot = pivot-out (P .parts) (R .zero) (λ k l. P .equal k l ∙ without (P .parts) (R .zero) refl k) (P .pivot) [] (sym (Lists.list-zero p prime));
+    pivot = pivot-out (P .parts) (R .zero) (λ k l. P .equal k l ∙ without (P .parts) (R .zero) refl k) (P .pivot) []
+        (sym (Lists.list-zero p prime));
   }

@@ -25,6 +25,7 @@ module _ {s : System} {count : ℕ} {entry exit : List ℕ} (G : Gives office ce
     within = G .within;
     right = G .right;
     answers = G .answers;
+    chosen = G .chosen;
     words = is ∙ ap (λ l. overwritten (bytesOf l) lent) (gives-words G);
     same-count = ap (λ n. 4 * n) (G .same-count) ∙ sym (length-bytesOf (certificateWords (G .certificate)));
   }

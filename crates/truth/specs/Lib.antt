@@ -1,5 +1,5 @@
--- interface, what contracts, other crates and PROVED.md cite: Solution, Listed, Right, Chosen, Verdict, Truth, RefusalLaws, Accepted, Demand,
---   Denominators, Cases, Places, Prefix, Certified, CertifiedLaws, CertifiedWords, TurnedBack, TurnedBackLaws, DemandLaws,
+-- interface, what contracts, other crates and PROVED.md cite: Solution, Listed, Right, Chosen, Verdict, Truth, RefusalLaws, Accepted,
+--   Demand, Denominators, Cases, Places, Prefix, Certified, CertifiedLaws, CertifiedWords, TurnedBack, TurnedBackLaws, DemandLaws,
 --   RefusedWords
 -- inside: Witness, Lift, Fractions, CertifiedTruth
 pub mod Witness
