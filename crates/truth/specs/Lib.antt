@@ -15,6 +15,7 @@ pub mod Accepted
 pub mod Demand
 pub mod Denominators
 pub mod Cases
+pub mod ChosenCases
 pub mod Places
 pub mod Prefix
 pub mod Fractions
