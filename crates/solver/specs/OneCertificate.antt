@@ -4,10 +4,9 @@ use Prim.Native.Nat.{ℕ, _*_, _≤_}
 use mathlib.Core.Path.{_≡_, refl, sym, ap, _∙_, subst}
 use mathlib.Core.List.{List}
 use lib.ListN.{length, take}
-use borrow.Author.Tests.{le-ltb}
 use Rattle.words.specs.Limits.{Limits, longestCertificate}
 use Rattle.words.specs.LimitsLaws.{LimitsFit}
-use Rattle.words.specs.Outcome.{Outcome, refuse}
+use Rattle.words.specs.Outcome.{Outcome}
 use Rattle.words.specs.Outcome.Outcome.{accepted, refused}
 use Rattle.words.specs.System.{System, SystemWithin, readSystem}
 use Rattle.words.specs.SystemLaws.{system-written-of-read}
@@ -17,7 +16,7 @@ use Rattle.words.specs.Certificate.{Certificate, certificateWords}
 use Rattle.solve_meaning.specs.ChosenUnique.{chosen-unique}
 use Rattle.solve_meaning.specs.Existence.{Suffices, chosenCertificate, chosen-only}
 use Rattle.solver.specs.Solving.{withRoom, certificateBytes, Gives, SolvesOr, Solves, SolvesFile}
-use Rattle.solver.specs.SolvingLaws.{accepted-same, gives-words, solved-gives}
+use Rattle.solver.specs.SolvingLaws.{accepted-same, room-enough, gives-words, solved-gives}
 
 -- the first of the lent words are the written form of c, and as many as the count says
 pub record Written (write : Certificate → List ℕ) (c : Certificate) (exit : List ℕ) (count : ℕ) : Type 0 where
@@ -69,10 +68,6 @@ module _ (limits : Limits) (read : Outcome System) (within : (s : System) → re
       )
 
   -- where there is room
-  enough : (longest lent : ℕ) → longest ≤ lent → (o : Outcome System) → withRoom longest lent o ≡ o
-  enough longest lent h (refused number place) = refl
-  enough longest lent h (accepted s) = ap (λ t. refuse t 11 0 (accepted s)) (le-ltb lent longest h)
-
   module _ (write : Certificate → List ℕ) (longest : ℕ) (room : longest ≤ length (x .entry)) (room₁ : longest ≤ length (y .entry)) where
     by-outcome : (o : Outcome System) → read ≡ o → SolvesOr limits write o (x .entry) (x .exit) (x .answer)
         → SolvesOr limits write o (y .entry) (y .exit) (y .answer) → x .answer ≡ y .answer
@@ -84,8 +79,8 @@ module _ (limits : Limits) (read : Outcome System) (within : (s : System) → re
 
     pub one-answer : CallOn limits read write longest x → CallOn limits read write longest y → x .answer ≡ y .answer
     one-answer h h₁ = by-outcome read refl
-        (subst (λ o. SolvesOr limits write o (x .entry) (x .exit) (x .answer)) (enough longest (length (x .entry)) room read) h)
-        (subst (λ o. SolvesOr limits write o (y .entry) (y .exit) (y .answer)) (enough longest (length (y .entry)) room₁ read) h₁)
+        (subst (λ o. SolvesOr limits write o (x .entry) (x .exit) (x .answer)) (room-enough longest (length (x .entry)) room read) h)
+        (subst (λ o. SolvesOr limits write o (y .entry) (y .exit) (y .answer)) (room-enough longest (length (y .entry)) room₁ read) h₁)
 
 -- the same count and the same words
 abbrev pub SameWords : Call → Call → Type 0

@@ -1,5 +1,6 @@
 -- The reader's refusals, then 11; else what `solve_read` gives (`Reading`).
 use mathlib.Core.Path.{refl, ap}
+use native.Mathlib.Omega.{arith}
 use Rattle.words.specs.Certificate.{certificateWords}
 use Rattle.answers.specs.Answer.{systemOutcome}
 use Rattle.solver.proofs.Reading.{was-read, was-refused, solves-refused, solves-short, solves-given}
@@ -13,7 +14,7 @@ returns c =
     let told = read .before .before in
     let lent = told .before .before .before .before .args .words .now in
     let R = was-read _ _ (told .before .limits .ensures) (told .read-system .ensures) (ap systemOutcome (read .read .given .1)) in
-    solves-short 2198 certificateWords lent lent _ _ (R .read) (c .if1 .taken) refl refl
+    solves-short 2198 certificateWords lent lent _ _ (R .read) (omega (arith, c .if1 .taken)) refl refl
 
 solve-read-requires : tie.Need-solve-read-requires
 solve-read-requires c κs =
