@@ -8,15 +8,16 @@ use native.Mathlib.Omega.{arith}
 use native.Mathlib.Nat.{mul-le-mul-right}
 use Rattle.ring.specs.Ring.{Ring}
 use Rattle.algebra.specs.Sized.{Sized}
-use Rattle.reduction.specs.Total.{total, total-term, rank-le, degrees}
+use Rattle.ring.specs.Total.{total}
+use Rattle.reduction.specs.Total.{total-term, rank-le, degrees}
 use Rattle.reduction.specs.Total
 use Rattle.reduction.specs.Pivot.{Vanishes}
 use Rattle.reduction.specs.Slots.{Slots, unweighted, tailed}
 use Rattle.reduction.specs.Euclidean.{Euclidean, Associate}
 use Rattle.reduction.specs.Insert.{Stop, Stuck}
-use Rattle.reduction.specs.System.{System}
-use Rattle.reduction.specs.Levels.{Level, level-of}
-use Rattle.reduction.specs.Certificate.{RightSolution, RightAbsence}
+use Rattle.reduction.specs.System.{LinearSystem}
+use Rattle.reduction.specs.Levels.{LevelKnown, level-of}
+use Rattle.reduction.specs.Certificate.{RightSolutionIn, RightAbsenceIn}
 use Rattle.reduction.specs.Certificate.{SmallSolution, small-solution-le, SmallAbsence, small-absence-le}
 use Rattle.reduction.specs.Numerators.{ReducedNumerators}
 use Rattle.reduction.specs.Certifying.{Certifying}
@@ -24,13 +25,13 @@ use Rattle.reduction.specs.Killing.{Killing}
 use Rattle.reduction.specs.Solution.{solution-positive, solution-span, solution-small}
 use Rattle.reduction.specs.Absence.{absence, absence-tops, absence-right, absence-sizes, absence-killing, absence-at}
 use Rattle.reduction.specs.Run.{Run, run}
-use Rattle.reduction.specs.RunSecond.{SecondSolved, second}
+use Rattle.reduction.specs.RunSecond.{SecondSolution, second}
 use Rattle.reduction.specs.RunLevels.{level, kernel, levels}
 use Rattle.reduction.specs.RunDescent.{Numerators, numerators}
 use Rattle.reduction.specs.RunRounds.{ShortRows, short-rows}
 
-module _ {A : Type 0} {R : Ring A} {S : Sized R} (E : Euclidean S) (T : System S) where
-  open System T using (rows as n, columns as m, degree as δ, matrix as M, right as b)
+module _ {A : Type 0} {R : Ring A} {S : Sized R} (E : Euclidean S) (T : LinearSystem S) where
+  open LinearSystem T using (rows as n, columns as m, degree as δ, matrix as M, side as b)
 
   -- the chosen solution certificate, its sizes at most B
   pub record Solved (B : ℕ) : Type 0 where
@@ -38,7 +39,7 @@ module _ {A : Type 0} {R : Ring A} {S : Sized R} (E : Euclidean S) (T : System S
     pub N : ℕ → A
     pub w : A
     pub Z : ℕ → A
-    pub right : RightSolution E T d N w Z
+    pub right : RightSolutionIn E T d N w Z
     pub small : SmallSolution E T B d N w Z
     pub reduced : ReducedNumerators S n m M N
     pub certifying : Certifying S n m M b d w Z
@@ -46,12 +47,12 @@ module _ {A : Type 0} {R : Ring A} {S : Sized R} (E : Euclidean S) (T : System S
   -- the chosen absence certificate, its sizes at most B
   pub record Unsolvable (B : ℕ) : Type 0 where
     pub q : ℕ → A
-    pub right : RightAbsence E T q
+    pub right : RightAbsenceIn E T q
     pub small : SmallAbsence E T B q
     pub killing : Killing S n m M b q
     pub monic : E .Monic (q (killing .at))
 
-  pub record Certified : Type 0 where
+  pub record RankCertified : Type 0 where
     pub rank : ℕ
     pub rank-rows : rank ≤ n
     pub rank-columns : rank ≤ m
@@ -61,7 +62,7 @@ module _ {A : Type 0} {R : Ring A} {S : Sized R} (E : Euclidean S) (T : System S
   U : Slots A
   U = level E T m
 
-  L : Level T m U
+  L : LevelKnown T m U
   unfolding U
   L = level-of T (levels E T) m (omega arith)
 
@@ -105,7 +106,7 @@ module _ {A : Type 0} {R : Ring A} {S : Sized R} (E : Euclidean S) (T : System S
     abbrev C : Slots A
     C = tailed n U (λ q. U .at q (K .at))
 
-    killed : SecondSolved E n (degrees n (U .size)) C
+    killed : SecondSolution E n (degrees n (U .size)) C
     killed = second E n (degrees n (U .size)) C
         (absence-tops E T L (X .inserting) K (total n (U .size)) (total-term n (U .size)))
 
@@ -118,7 +119,7 @@ module _ {A : Type 0} {R : Ring A} {S : Sized R} (E : Euclidean S) (T : System S
       monic = subst (E .Monic) (sym (absence-at E T L (X .inserting) K (killed .w) (killed .Y) (killed .dual))) (killed .monic);
     }
 
-  pub certificate-exists : Certified
+  pub certificate-exists : RankCertified
   certificate-exists = record {
     rank = r;
     rank-rows = rank-le n (U .size);
@@ -134,10 +135,10 @@ module _ {A : Type 0} {R : Ring A} {S : Sized R} (E : Euclidean S) (T : System S
   pub certificate-within : (B : ℕ) → min n m *ₙ δ ≤ B → Solved (suc B) ⊎ Unsolvable (suc B)
   certificate-within B h = go certificate-exists
     where
-      bound : (C : Certified) → suc (C .rank *ₙ δ) ≤ suc B
+      bound : (C : RankCertified) → suc (C .rank *ₙ δ) ≤ suc B
       bound C = let k : C .rank ≤ min n m = omega arith in omega (arith, mul-le-mul-right δ k)
 
-      solution : (C : Certified) → Solved (suc (C .rank *ₙ δ)) → Solved (suc B)
+      solution : (C : RankCertified) → Solved (suc (C .rank *ₙ δ)) → Solved (suc B)
       solution C s = record {
         d = s .d;
         N = s .N;
@@ -149,7 +150,7 @@ module _ {A : Type 0} {R : Ring A} {S : Sized R} (E : Euclidean S) (T : System S
         certifying = s .certifying;
       }
 
-      none : (C : Certified) → Unsolvable (suc (C .rank *ₙ δ)) → Unsolvable (suc B)
+      none : (C : RankCertified) → Unsolvable (suc (C .rank *ₙ δ)) → Unsolvable (suc B)
       none C s = record {
         q = s .q;
         right = s .right;
@@ -158,5 +159,5 @@ module _ {A : Type 0} {R : Ring A} {S : Sized R} (E : Euclidean S) (T : System S
         monic = s .monic;
       }
 
-      go : Certified → Solved (suc B) ⊎ Unsolvable (suc B)
+      go : RankCertified → Solved (suc B) ⊎ Unsolvable (suc B)
       go C = ⊎-elim (λ s. inl (solution C s)) (λ s. inr (none C s)) (C .certificate)

@@ -12,14 +12,15 @@ use Rattle.ring.specs.Ring.{Ring}
 use Rattle.ring.specs.Identity.{quotes, identity}
 use Rattle.algebra.specs.Sized.{Sized, size-neg-equal, size-positive, positive-nonzero, size-mul-nonzero}
 use Rattle.reduction.specs.Replace.{below-suc}
-use Rattle.reduction.specs.Total.{total, total-term, degrees, degrees-ext}
+use Rattle.ring.specs.Total.{total}
+use Rattle.reduction.specs.Total.{total-term, degrees, degrees-ext}
 use Rattle.reduction.specs.Pivot.{Pivot, Vanishes}
 use Rattle.reduction.specs.Slots.{Slots, unweighted}
 use Rattle.reduction.specs.Span.{InSpanWith}
 use Rattle.reduction.specs.Euclidean.{Euclidean, Associate, Cancelling, associate-nonzero}
 use Rattle.reduction.specs.Inserting.{Inserting}
-use Rattle.reduction.specs.System.{System}
-use Rattle.reduction.specs.Levels.{Level}
+use Rattle.reduction.specs.System.{LinearSystem}
+use Rattle.reduction.specs.Levels.{LevelKnown}
 use Rattle.reduction.specs.Transpose.{Tops}
 use Rattle.reduction.specs.Certifying.{Short}
 use Rattle.reduction.specs.Retailed.{retailed}
@@ -27,7 +28,7 @@ use Rattle.reduction.specs.LessTail.{lessTail, LessMultiples, less-none,
 use Rattle.reduction.specs.Rounds.{round-tops, round-before}
 use Rattle.reduction.specs.Solution.{solution-positive, solution-tops, solution-short}
 use Rattle.reduction.specs.Unfinished.{Unfinished, unfinished}
-use Rattle.reduction.specs.RunSecond.{SecondSolved, second}
+use Rattle.reduction.specs.RunSecond.{SecondSolution, second}
 
 -- of the indices below n with a property: where f is greatest, last
 module _ (f : ℕ → ℕ) (Is : ℕ → Type 0) where
@@ -72,10 +73,10 @@ module _ (f : ℕ → ℕ) (Is : ℕ → Type 0) where
             compare (yes c) = inl (last (λ j l y. omega (arith, g .upto j l y)) x)
             compare (no c) = inl (same g (λ y. omega arith))
 
-module _ {A : Type 0} {R : Ring A} {S : Sized R} (E : Euclidean S) (T : System S) {U : Slots A} (L : Level T (T .columns) U)
-    (X : Inserting S (T .rows) unweighted U (T .right)) (z : Vanishes R (T .rows) (X .now .hand))
+module _ {A : Type 0} {R : Ring A} {S : Sized R} (E : Euclidean S) (T : LinearSystem S) {U : Slots A} (L : LevelKnown T (T .columns) U)
+    (X : Inserting S (T .rows) unweighted U (T .side)) (z : Vanishes R (T .rows) (X .now .hand))
     (μ : Associate S (E .Monic) (X .now .hand (T .rows))) where
-  open System T using (rows as n, columns as m, matrix as M, right as b)
+  open LinearSystem T using (rows as n, columns as m, matrix as M, side as b)
   open Ring R using (add as _+_, mul as _*_, neg as -_, zero as 𝟘, one as 𝟙)
   open Sized S using (size)
 
@@ -108,7 +109,7 @@ module _ {A : Type 0} {R : Ring A} {S : Sized R} (E : Euclidean S) (T : System S
     tops = solution-tops E T L X z (total n (X .now .slots .size)) (total-term n (X .now .slots .size));
   }
 
-  solved : (r : Turn) → SecondSolved E n B (r .slots)
+  solved : (r : Turn) → SecondSolution E n B (r .slots)
   solved r = second E n B (r .slots) (r .tops)
 
   abbrev wOf : Turn → A

@@ -82,7 +82,14 @@ fn shorten(
     let factor = modulus.mul(found.value, level[SLOT * i + (words - 1)]);
     let mut tail = [0u64; BLOCK];
     copy(&mut tail, 0, level, SLOT * i + BLOCK, BLOCK);
-    add_scaled(&mut tail, found.size + height - most - 1, d, 0, size, modulus.p - factor);
+    add_scaled(
+        &mut tail,
+        found.size + height - most - 1,
+        d,
+        0,
+        size,
+        modulus.p - factor,
+    );
     exchange(&mut tail, level, SLOT * i + BLOCK, BLOCK, modulus);
     level[TAIL_SIZES + i] = COEFFICIENTS as u64;
 }

@@ -22,9 +22,9 @@ use Rattle.modular.specs.MonicLaws.{monicLaws}
 use Rattle.modular.specs.Numbers.{numbers}
 use Rattle.modular.specs.Residue.{Residue, residues}
 use Rattle.modular.specs.Values.{equal-numbers}
-use Rattle.reduction.specs.System.{System as Equated}
+use Rattle.reduction.specs.System.{LinearSystem}
 use Rattle.reduction.specs.Polynomials.{euclidean}
-use Rattle.reduction.specs.Certificate.{RightSolution as RightSolutionIn, RightAbsence as RightAbsenceIn}
+use Rattle.reduction.specs.Certificate.{RightSolutionIn, RightAbsenceIn}
 use Rattle.reduction.specs.Numerators.{ReducedNumerators}
 use Rattle.reduction.specs.Certifying.{Certifying}
 use Rattle.reduction.specs.Certifying
@@ -32,11 +32,11 @@ use Rattle.reduction.specs.Killing.{Killing}
 use Rattle.words.specs.Limits.{Limits}
 use Rattle.words.specs.System.{System, SystemWithin}
 use Rattle.truth.specs.Solution.{Clears, Monic, Denominator}
-use Rattle.truth.specs.Chosen.{Reduced, Inverts, Short, ChosenSolution, ChosenAbsence}
+use Rattle.truth.specs.Chosen.{ReducedModuloRelations, Inverts, ShortEntry, ChosenSolution, ChosenAbsence}
 use Rattle.solve_meaning.specs.Lists
 use Rattle.solve_meaning.specs.Lists.{listOf}
 use Rattle.solve_meaning.specs.Vectors
-use Rattle.solve_meaning.specs.Vectors.{lists, polynomialOf, vectorOf}
+use Rattle.solve_meaning.specs.Vectors.{lists, polynomialModulo, vectorModulo}
 use Rattle.solve_meaning.specs.Equations.{equated}
 use Rattle.solve_meaning.specs.RightLists.{side-is, solution-right, absence-right}
 use Rattle.solve_meaning.specs.PivotLists.{long, empty, relation-in, pivot-out, pivot-length, column-pivot-in, column-pivot-out}
@@ -55,23 +55,24 @@ module _ (p : ℕ) (prime : Prime p) (n : ℕ) (W : Polynomial (residues p prime
   list = listOf p prime
 
   -- c·Z is divisible by w as lists
-  cleared : (c : List ℕ) (hc : Canonical p c) → Clears p c Z w → (i : ℕ) → i < n → DividesIn R W (R .mul (polynomialOf p prime c hc) (ζ i))
+  cleared : (c : List ℕ) (hc : Canonical p c) → Clears p c Z w → (i : ℕ) → i < n
+      → DividesIn R W (R .mul (polynomialModulo p prime c hc) (ζ i))
   unfolding Clears
-  cleared c hc h i l = Vectors.polynomial-divides p prime W (R .mul (polynomialOf p prime c hc) (ζ i)) w _ ew
+  cleared c hc h i l = Vectors.polynomial-divides p prime W (R .mul (polynomialModulo p prime c hc) (ζ i)) w _ ew
       (ap₂ (Coefficients.mul (modulo p)) (Vectors.polynomial-list p prime c hc) (eZ i l)
-      ∙ sym (Lists.list-mul p prime (polynomialOf p prime c hc) (ζ i)))
+      ∙ sym (Lists.list-mul p prime (polynomialModulo p prime c hc) (ζ i)))
       (h i (omega arith))
 
   module _ (lowest : (c : Polynomial (residues p prime)) (y : ℕ → Polynomial (residues p prime))
       → ((i : ℕ) → i < n → R .mul c (ζ i) ≡ R .mul (y i) W) → DividesIn R W c) where
-    least : (c : List ℕ) (hc : Canonical p c) → Clears p c Z w → DividesIn R W (polynomialOf p prime c hc)
-    least c hc h = lowest (polynomialOf p prime c hc) (λ i. quotient i (decLt i n)) (λ i l. exact i (decLt i n) l)
+    least : (c : List ℕ) (hc : Canonical p c) → Clears p c Z w → DividesIn R W (polynomialModulo p prime c hc)
+    least c hc h = lowest (polynomialModulo p prime c hc) (λ i. quotient i (decLt i n)) (λ i l. exact i (decLt i n) l)
       where
         quotient : (i : ℕ) → Dec (i < n) → Polynomial (residues p prime)
         quotient i (yes l) = cleared c hc h i l .cofactor
         quotient i (no l) = R .zero
 
-        exact : (i : ℕ) (t : Dec (i < n)) → i < n → R .mul (polynomialOf p prime c hc) (ζ i) ≡ R .mul (quotient i t) W
+        exact : (i : ℕ) (t : Dec (i < n)) → i < n → R .mul (polynomialModulo p prime c hc) (ζ i) ≡ R .mul (quotient i t) W
         exact i (yes l) k = cleared c hc h i l .product
         exact i (no l) k = absurd (l k)
 
@@ -89,7 +90,7 @@ module _ (p : ℕ) (prime : Prime p) (n : ℕ) (W : Polynomial (residues p prime
                 ∙ Lists.list-mul p prime (ζ i) W ∙ sym (ap₂ (Coefficients.mul (modulo p)) (eZ i k) ew);
           };
       least = λ c hc m h.
-          let C = polynomialOf p prime c hc in
+          let C = polynomialModulo p prime c hc in
           let nonzero : ¬ (C ≡ R .zero) = λ z. monicLaws p prime .monic-nonzero (c, hc) m
           (equal-numbers p _ _ (Vectors.polynomial-list p prime c hc ∙ ap list z ∙ Lists.list-zero p prime)) in
           omega (
@@ -115,7 +116,7 @@ module _ (limits : Limits) (s : System) (h : SystemWithin limits s) where
   abbrev S : Ring (Polynomial (residues (s .modulus) (h .shape .prime)))
   S = polynomials (residues (s .modulus) (h .shape .prime))
 
-  abbrev T : Equated (sized (residues (s .modulus) (h .shape .prime)))
+  abbrev T : LinearSystem (sized (residues (s .modulus) (h .shape .prime)))
   T = equated limits s h
 
   abbrev listed : Q → List ℕ
@@ -125,9 +126,9 @@ module _ (limits : Limits) (s : System) (h : SystemWithin limits s) where
       (d w : List ℕ) (N Z : List (List ℕ)) (ed : d ≡ listed D) (ew : w ≡ listed W)
       (eN : (j : ℕ) → j < s .columns → getD N j [] ≡ listed (ν j)) (count : length Z ≡ s .rows)
       (eZ : (i : ℕ) → i < s .rows → getD Z i [] ≡ listed (ζ i)) where
-    reduced-lists : ReducedNumerators (sized (residues p prime)) (s .rows) (s .columns) (T .matrix) ν → Reduced s N
+    reduced-lists : ReducedNumerators (sized (residues p prime)) (s .rows) (s .columns) (T .matrix) ν → ReducedModuloRelations s N
     reduced-lists r j l v X =
-        let x = vectorOf p prime v (X .canonical) in
+        let x = vectorModulo p prime v (X .canonical) in
         let e = Vectors.vector-list p prime v (X .canonical) j in
         omega (
           arith,
@@ -136,17 +137,17 @@ module _ (limits : Limits) (s : System) (h : SystemWithin limits s) where
           long limits s h (x j) e,
         )
 
-    module _ (K : Certifying (sized (residues (s .modulus) (h .shape .prime))) (s .rows) (s .columns) (T .matrix) (T .right) D W ζ) where
+    module _ (K : Certifying (sized (residues (s .modulus) (h .shape .prime))) (s .rows) (s .columns) (T .matrix) (T .side) D W ζ) where
       side : Q
-      side = sum S (s .rows) (λ i. S .mul (ζ i) (T .right i))
+      side = sum S (s .rows) (λ i. S .mul (ζ i) (T .side i))
 
       t : Q
-      t = K .right .cofactor
+      t = K .side .cofactor
 
       inverts-in : S .mul D side ≡ S .add W (S .mul t (S .mul D W))
       unfolding side t
       inverts-in = combination S (S .mul D side) (S .add W (S .mul t (S .mul D W)))
-          (given D (K .right .product) ∷ given (S .neg (S .one)) (K .quotient) ∷ [])
+          (given D (K .side .product) ∷ given (S .neg (S .one)) (K .quotient) ∷ [])
           (identity S (D ∷ W ∷ side ∷ t ∷ K .cofactor ∷ []) (λ ρ q1 q2 q3 q4 q5. search quotes depth 20) refl)
 
       inverts-lists : Inverts s d w Z
@@ -165,7 +166,7 @@ module _ (limits : Limits) (s : System) (h : SystemWithin limits s) where
             (Lists.list-mul p prime D W ∙ sym (ap₂ (Coefficients.mul (modulo p)) ed ew)));
       }
 
-      short-lists : (i : ℕ) → i < s .rows → ¬ (getD Z i [] ≡ []) → Short s w Z i
+      short-lists : (i : ℕ) → i < s .rows → ¬ (getD Z i [] ≡ []) → ShortEntry s w Z i
       short-lists i l ne =
           let x = K .short i l (λ z. ne (empty limits s h (eZ i l) z)) in
           let u = x .spanned in
@@ -197,7 +198,7 @@ module _ (limits : Limits) (s : System) (h : SystemWithin limits s) where
   pub absence-chosen : {κ : ℕ → Polynomial (residues (s .modulus) (h .shape .prime))} (q : List (List ℕ)) → length q ≡ s .rows
       → ((i : ℕ) → i < s .rows → getD q i [] ≡ listed (κ i))
       → RightAbsenceIn (euclidean (residues (s .modulus) (h .shape .prime))) T κ
-      → (K : Killing (sized (residues (s .modulus) (h .shape .prime))) (s .rows) (s .columns) (T .matrix) (T .right) κ)
+      → (K : Killing (sized (residues (s .modulus) (h .shape .prime))) (s .rows) (s .columns) (T .matrix) (T .side) κ)
       → MonicIn (residues (s .modulus) (h .shape .prime)) (κ (K .at)) → ChosenAbsence s q
   absence-chosen {κ} q count eq C K monic = record {
     right = absence-right limits s h C q eq;

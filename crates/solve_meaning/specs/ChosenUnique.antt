@@ -19,7 +19,7 @@ use Rattle.modular.specs.Prime.{Prime}
 use Rattle.modular.specs.Modulo.{modulo}
 use Rattle.modular.specs.Canonical.{Canonical}
 use Rattle.modular.specs.Residue.{Residue, residues}
-use Rattle.reduction.specs.System.{System as Equated}
+use Rattle.reduction.specs.System.{LinearSystem}
 use Rattle.reduction.specs.Numerators.{ReducedNumerators, numerators-unique}
 use Rattle.reduction.specs.Certifying.{Certifying, certifying-unique}
 use Rattle.reduction.specs.Killing.{Killing, killing-at, killing-unique}
@@ -33,13 +33,13 @@ use Rattle.truth.specs.Truth.{ProperSolution, answer-unique}
 use Rattle.truth.specs.Accepted.{all-canonical, proper, proper-solution}
 use Rattle.truth.specs.Lift.{canonical-at}
 use Rattle.truth.specs.Denominators.{denominator-divides}
-use Rattle.truth.specs.Chosen.{ChosenSolution, ChosenAbsence, Chosen, chosen-right, combined}
+use Rattle.truth.specs.Chosen.{ChosenSolution, ChosenAbsence, Chosen, chosen-right, combinationOf}
 use Rattle.solve_meaning.specs.Answers.{answerOf, right-answers}
 use Rattle.solve_meaning.specs.Lists
 use Rattle.solve_meaning.specs.Lists.{listOf}
 use Rattle.solve_meaning.specs.Vectors
-use Rattle.solve_meaning.specs.Vectors.{lists, polynomialOf, vectorOf}
-use Rattle.solve_meaning.specs.Equations.{equated, right-list}
+use Rattle.solve_meaning.specs.Vectors.{lists, polynomialModulo, vectorModulo}
+use Rattle.solve_meaning.specs.Equations.{equated, side-list}
 use Rattle.solve_meaning.specs.RightLists.{row-is, column-is, side-is}
 use Rattle.solve_meaning.specs.PivotLists
 use Rattle.solve_meaning.specs.PivotLists.{long, relation-out, pivot-in, column-pivot-in, column-pivot-out}
@@ -66,15 +66,15 @@ module _ (p : ℕ) (prime : Prime p) (w : List ℕ) (hw : Canonical p w) (Z : Li
   R₀ = polynomials (residues p prime)
 
   abbrev w₀ : Polynomial (residues p prime)
-  w₀ = polynomialOf p prime w hw
+  w₀ = polynomialModulo p prime w hw
 
   abbrev Z₀ : ℕ → Polynomial (residues p prime)
-  Z₀ = vectorOf p prime Z hZ
+  Z₀ = vectorModulo p prime Z hZ
 
-  pub denominator-monic : MonicIn (residues p prime) (polynomialOf p prime w hw)
+  pub denominator-monic : MonicIn (residues p prime) (polynomialModulo p prime w hw)
   denominator-monic = Lists.is-monic-list p prime w₀ (subst (Monic p) (Vectors.polynomial-list p prime w hw) (lowest .monic))
 
-  pub denominator-nonzero : ¬ (polynomialOf p prime w hw ≡ polynomials (residues p prime) .zero)
+  pub denominator-nonzero : ¬ (polynomialModulo p prime w hw ≡ polynomials (residues p prime) .zero)
   denominator-nonzero = monic-nonzero (residues p prime) w₀ denominator-monic
 
   module _ (c : Polynomial (residues p prime)) (y : ℕ → Polynomial (residues p prime))
@@ -89,7 +89,7 @@ module _ (p : ℕ) (prime : Prime p) (w : List ℕ) (hw : Canonical p w) (Z : Li
           ∙ ap (Coefficients.mul (modulo p) (listOf p prime (y i))) (sym (Vectors.polynomial-list p prime w hw));
     }
 
-    pub denominator-lowest : DividesIn (polynomials (residues p prime)) (polynomialOf p prime w hw) c
+    pub denominator-lowest : DividesIn (polynomials (residues p prime)) (polynomialModulo p prime w hw) c
     denominator-lowest = Vectors.polynomial-divides p prime w₀ c w (listOf p prime c) (Vectors.polynomial-list p prime w hw) refl
         (denominator-divides p prime Z hZ w hw
         (λ z. denominator-nonzero (Lists.list-none p prime w₀ (sym (Vectors.polynomial-list p prime w hw) ∙ z)))
@@ -111,7 +111,7 @@ module _ (limits : Limits) (s : System) (h : SystemWithin limits s) where
   abbrev R : Ring (Polynomial (residues (s .modulus) (h .shape .prime)))
   R = polynomials (residues (s .modulus) (h .shape .prime))
 
-  abbrev T : Equated (sized (residues (s .modulus) (h .shape .prime)))
+  abbrev T : LinearSystem (sized (residues (s .modulus) (h .shape .prime)))
   T = equated limits s h
 
   abbrev list : Q → List ℕ
@@ -131,16 +131,16 @@ module _ (limits : Limits) (s : System) (h : SystemWithin limits s) where
     H = proper-solution limits s d N w Z P
 
     abbrev D : Polynomial (residues (s .modulus) (h .shape .prime))
-    D = polynomialOf (s .modulus) (h .shape .prime) d (P .denominator .canonical)
+    D = polynomialModulo (s .modulus) (h .shape .prime) d (P .denominator .canonical)
 
     abbrev W : Polynomial (residues (s .modulus) (h .shape .prime))
-    W = polynomialOf (s .modulus) (h .shape .prime) w (P .certifyingDenominator .canonical)
+    W = polynomialModulo (s .modulus) (h .shape .prime) w (P .certifyingDenominator .canonical)
 
     abbrev ν : ℕ → Polynomial (residues (s .modulus) (h .shape .prime))
-    ν = vectorOf (s .modulus) (h .shape .prime) N (proper-solution limits s d N w Z P .numerators)
+    ν = vectorModulo (s .modulus) (h .shape .prime) N (proper-solution limits s d N w Z P .numerators)
 
     abbrev ζ : ℕ → Polynomial (residues (s .modulus) (h .shape .prime))
-    ζ = vectorOf (s .modulus) (h .shape .prime) Z (proper-solution limits s d N w Z P .certifyingNumerators)
+    ζ = vectorModulo (s .modulus) (h .shape .prime) Z (proper-solution limits s d N w Z P .certifyingNumerators)
 
     ed : d ≡ list D
     ed = Vectors.polynomial-list p prime d (P .denominator .canonical)
@@ -154,10 +154,10 @@ module _ (limits : Limits) (s : System) (h : SystemWithin limits s) where
     eZ : (i : ℕ) → getD Z i [] ≡ list (ζ i)
     eZ = Vectors.vector-list p prime Z (H .certifyingNumerators)
 
-    solves : (i : ℕ) → i < s .rows → sum R (s .columns) (λ j. R .mul (T .matrix i j) (ν j)) ≡ R .mul D (T .right i)
+    solves : (i : ℕ) → i < s .rows → sum R (s .columns) (λ j. R .mul (T .matrix i j) (ν j)) ≡ R .mul D (T .side i)
     solves i k = Vectors.list-injective p prime _ _
         (sym (row-is limits s h ν N (λ j l. eN j) i) ∙ C .right .rows i k
-        ∙ ap₂ (Coefficients.mul (modulo p)) ed (sym (right-list limits s h i)) ∙ sym (Lists.list-mul p prime D (T .right i)))
+        ∙ ap₂ (Coefficients.mul (modulo p)) ed (sym (side-list limits s h i)) ∙ sym (Lists.list-mul p prime D (T .side i)))
 
     reduced : ReducedNumerators (sized F) (s .rows) (s .columns) (T .matrix) ν
     reduced j l v X ne = omega (
@@ -169,10 +169,10 @@ module _ (limits : Limits) (s : System) (h : SystemWithin limits s) where
 
     -- Z·b, and the polynomial by which z·b differs from 1/d
     side : Q
-    side = sum R (s .rows) (λ i. R .mul (ζ i) (T .right i))
+    side = sum R (s .rows) (λ i. R .mul (ζ i) (T .side i))
 
     t : Q
-    t = polynomialOf p prime (C .inverts .whole) (C .inverts .canonical)
+    t = polynomialModulo p prime (C .inverts .whole) (C .inverts .canonical)
 
     inverts : R .mul D side ≡ R .add W (R .mul t (R .mul D W))
     unfolding side t
@@ -186,7 +186,7 @@ module _ (limits : Limits) (s : System) (h : SystemWithin limits s) where
         ∙ sym (Lists.list-mul p prime t (R .mul D W)))
         ∙ sym (Lists.list-add p prime W (R .mul t (R .mul D W))))
 
-    certifying : Certifying (sized F) (s .rows) (s .columns) (T .matrix) (T .right) D W ζ
+    certifying : Certifying (sized F) (s .rows) (s .columns) (T .matrix) (T .side) D W ζ
     unfolding side
     certifying = record {
       nonzero = denominator-nonzero p prime w (P .certifyingDenominator .canonical) Z (H .certifyingNumerators) (C .lowest);
@@ -194,7 +194,7 @@ module _ (limits : Limits) (s : System) (h : SystemWithin limits s) where
       cofactor = R .add side (R .neg (R .mul t W));
       quotient = combination R W (R .mul D (R .add side (R .neg (R .mul t W)))) (given (R .neg (R .one)) inverts ∷ [])
           (identity R (D ∷ W ∷ side ∷ t ∷ []) (λ ρ q1 q2 q3 q4. search quotes depth 20) refl);
-      right = record {
+      side = record {
         cofactor = t;
         product = identity R (side ∷ t ∷ W ∷ []) (λ ρ q1 q2 q3. search quotes depth 20) refl;
       };
@@ -204,11 +204,11 @@ module _ (limits : Limits) (s : System) (h : SystemWithin limits s) where
           record {
             vector = _;
             spanned = record {
-              parts = vectorOf p prime (u .parts) (u .pivot .parts);
-              part = polynomialOf p prime (u .part) (u .pivot .part);
+              parts = vectorModulo p prime (u .parts) (u .pivot .parts);
+              part = polynomialModulo p prime (u .part) (u .pivot .part);
               equal = λ k g. refl;
             };
-            length = length (combined s (u .parts) (u .part) i);
+            length = length (combinationOf s (u .parts) (u .part) i);
             pivot = pivot-in limits s h (u .pivot);
             short = omega (arith, x .short, long limits s h (ζ i) (eZ i), long limits s h W ew);
           };
@@ -224,12 +224,12 @@ module _ (limits : Limits) (s : System) (h : SystemWithin limits s) where
 
     numerators-same : (j : ℕ) → j < s .columns → ν P C j ≡ ν P₁ C₁ j
     numerators-same = numerators-unique (sized F) (s .rows) (s .columns) (T .matrix) (ν P C) (ν P₁ C₁)
-        (λ i k. solves P C i k ∙ ap (λ x. R .mul x (T .right i)) D-same ∙ sym (solves P₁ C₁ i k))
+        (λ i k. solves P C i k ∙ ap (λ x. R .mul x (T .side i)) D-same ∙ sym (solves P₁ C₁ i k))
         (reduced P C) (reduced P₁ C₁)
 
     certifying-same : (W P C ≡ W P₁ C₁) × ((i : ℕ) → i < s .rows → ζ P C i ≡ ζ P₁ C₁ i)
-    certifying-same = certifying-unique (sized F) (s .rows) (s .columns) (T .matrix) (T .right) (certifying P C)
-        (subst (λ x. Certifying (sized F) (s .rows) (s .columns) (T .matrix) (T .right) x (W P₁ C₁) (ζ P₁ C₁)) (sym D-same)
+    certifying-same = certifying-unique (sized F) (s .rows) (s .columns) (T .matrix) (T .side) (certifying P C)
+        (subst (λ x. Certifying (sized F) (s .rows) (s .columns) (T .matrix) (T .side) x (W P₁ C₁) (ζ P₁ C₁)) (sym D-same)
         (certifying P₁ C₁))
         (monic-associates F (W P C) (W P₁ C₁)
         (denominator-monic p prime w (P .certifyingDenominator .canonical) Z (H P C .certifyingNumerators) (C .lowest))
@@ -248,22 +248,22 @@ module _ (limits : Limits) (s : System) (h : SystemWithin limits s) where
 
   module _ {q : List (List ℕ)} (hq : AllCanonical (s .modulus) q) (count : length q ≡ s .rows) (C : ChosenAbsence s q) where
     abbrev κ : ℕ → Polynomial (residues (s .modulus) (h .shape .prime))
-    κ = vectorOf (s .modulus) (h .shape .prime) q hq
+    κ = vectorModulo (s .modulus) (h .shape .prime) q hq
 
     eq : (i : ℕ) → getD q i [] ≡ list (κ i)
     eq = Vectors.vector-list p prime q hq
 
-    killing : Killing (sized F) (s .rows) (s .columns) (T .matrix) (T .right) κ
+    killing : Killing (sized F) (s .rows) (s .columns) (T .matrix) (T .side) κ
     killing = record {
       kills = λ j l. PivotLists.none limits s h (column-is limits s h κ q (λ i l. eq i) j) (C .right .columns j l);
       at = C .at;
       vector = _;
       spanned = record {
-        parts = vectorOf p prime (C .added .parts) (C .added .pivot .parts);
-        part = polynomialOf p prime (C .added .part) (C .added .pivot .part);
+        parts = vectorModulo p prime (C .added .parts) (C .added .pivot .parts);
+        part = polynomialModulo p prime (C .added .part) (C .added .pivot .part);
         equal = λ k g. refl;
       };
-      length = length (combined s (C .added .parts) (C .added .part) (C .at));
+      length = length (combinationOf s (C .added .parts) (C .added .part) (C .at));
       pivot = pivot-in limits s h (C .added .pivot);
       added = λ X. C .new (column-pivot-out limits s h X);
       support = λ i l ne nz. column-pivot-in limits s h (C .support i l ne (λ z. nz (PivotLists.none limits s h (eq i) z)));
@@ -280,19 +280,19 @@ module _ (limits : Limits) (s : System) (h : SystemWithin limits s) where
   unfolding killing
   absence-unique {q} {q₁} hq hq₁ a a₁ C C₁ = ap absence (same-lists (s .rows) q q₁ (κ hq a C) (κ hq₁ a₁ C₁) a a₁
       (λ i l. eq hq a C i) (λ i l. eq hq₁ a₁ C₁ i)
-      (killing-unique (sized F) (s .rows) (s .columns) (T .matrix) (T .right) K K₁ (λ x y.
+      (killing-unique (sized F) (s .rows) (s .columns) (T .matrix) (T .side) K K₁ (λ x y.
       monic-associates F (κ hq a C (C .at)) (κ hq₁ a₁ C₁ (C .at)) (monic-at hq a C)
       (subst (λ i. MonicIn F (κ hq₁ a₁ C₁ i)) (sym at) (monic-at hq₁ a₁ C₁)) x
       (subst (λ i. DividesIn R (κ hq₁ a₁ C₁ i) (κ hq a C i)) (sym at) y))))
     where
-      K : Killing (sized F) (s .rows) (s .columns) (T .matrix) (T .right) (κ hq a C)
+      K : Killing (sized F) (s .rows) (s .columns) (T .matrix) (T .side) (κ hq a C)
       K = killing hq a C
 
-      K₁ : Killing (sized F) (s .rows) (s .columns) (T .matrix) (T .right) (κ hq₁ a₁ C₁)
+      K₁ : Killing (sized F) (s .rows) (s .columns) (T .matrix) (T .side) (κ hq₁ a₁ C₁)
       K₁ = killing hq₁ a₁ C₁
 
       at : C .at ≡ C₁ .at
-      at = killing-at (sized F) (s .rows) (s .columns) (T .matrix) (T .right) K K₁
+      at = killing-at (sized F) (s .rows) (s .columns) (T .matrix) (T .side) K K₁
 
   -- ---- of two certificates, whatever their kinds
 

@@ -13,7 +13,7 @@ use Rattle.modular.specs.Modulo.{modulo}
 use Rattle.modular.specs.Canonical.{Canonical}
 use Rattle.modular.specs.Residue.{residues}
 use Rattle.modular.specs.Values.{toNumbers, toResidues, toResidues-list, toResidues-is, toResidues-toNumbers}
-use Rattle.truth.specs.Solution.{AllCanonical, Divides}
+use Rattle.truth.specs.Solution.{AllCanonical, DividesModulo}
 use Rattle.truth.specs.Lift.{canonical-at}
 use Rattle.truth.specs.Listed.{listed, listed-at}
 use Rattle.solve_meaning.specs.Lists.{listOf, list-canonical, list-mul}
@@ -45,24 +45,24 @@ module _ (p : ℕ) (prime : Prime p) where
   lists-canonical n x = all-canonical p n (λ i. listOf p prime (x i)) (λ i h. list-canonical p prime (x i))
 
   -- and from lists to polynomials
-  abbrev pub polynomialOf : (f : List ℕ) → Canonical p f → Polynomial (residues p prime)
-  polynomialOf f h = toResidues p prime (f, h)
+  abbrev pub polynomialModulo : (f : List ℕ) → Canonical p f → Polynomial (residues p prime)
+  polynomialModulo f h = toResidues p prime (f, h)
 
-  pub polynomial-list : (f : List ℕ) (h : Canonical p f) → f ≡ listOf p prime (polynomialOf f h)
+  pub polynomial-list : (f : List ℕ) (h : Canonical p f) → f ≡ listOf p prime (polynomialModulo f h)
   polynomial-list f h = sym (toResidues-list p prime (f, h))
 
-  abbrev pub vectorOf : (fs : List (List ℕ)) → AllCanonical p fs → ℕ → Polynomial (residues p prime)
-  vectorOf fs h i = polynomialOf (getD fs i []) (canonical-at p fs h i)
+  abbrev pub vectorModulo : (fs : List (List ℕ)) → AllCanonical p fs → ℕ → Polynomial (residues p prime)
+  vectorModulo fs h i = polynomialModulo (getD fs i []) (canonical-at p fs h i)
 
-  pub vector-list : (fs : List (List ℕ)) (h : AllCanonical p fs) (i : ℕ) → getD fs i [] ≡ listOf p prime (vectorOf fs h i)
+  pub vector-list : (fs : List (List ℕ)) (h : AllCanonical p fs) (i : ℕ) → getD fs i [] ≡ listOf p prime (vectorModulo fs h i)
   vector-list fs h i = polynomial-list (getD fs i []) (canonical-at p fs h i)
 
   -- what divides as lists divides
   pub polynomial-divides : (d x : Polynomial (residues p prime)) (f g : List ℕ) → f ≡ listOf p prime d → g ≡ listOf p prime x
-      → Divides p f g → DividesIn (polynomials (residues p prime)) d x
+      → DividesModulo p f g → DividesIn (polynomials (residues p prime)) d x
   polynomial-divides d x f g ef eg w = record {
-    cofactor = polynomialOf (w .quotient) (w .canonical);
-    product = list-injective x (R .mul (polynomialOf (w .quotient) (w .canonical)) d)
+    cofactor = polynomialModulo (w .quotient) (w .canonical);
+    product = list-injective x (R .mul (polynomialModulo (w .quotient) (w .canonical)) d)
         (sym eg ∙ w .product ∙ ap₂ (Coefficients.mul (modulo p)) (polynomial-list (w .quotient) (w .canonical)) ef
-        ∙ sym (list-mul p prime (polynomialOf (w .quotient) (w .canonical)) d));
+        ∙ sym (list-mul p prime (polynomialModulo (w .quotient) (w .canonical)) d));
   }

@@ -19,27 +19,27 @@ use Rattle.solver.specs.Solving.{withRoom, certificateBytes, Gives, Solv
 use Rattle.solver.specs.SolvingLaws.{accepted-same, room-enough, gives-words, solved-gives}
 
 -- the first of the lent words are the written form of c, and as many as the count says
-pub record Written (write : Certificate → List ℕ) (c : Certificate) (exit : List ℕ) (count : ℕ) : Type 0 where
+pub record WrittenForm (write : Certificate → List ℕ) (c : Certificate) (exit : List ℕ) (count : ℕ) : Type 0 where
   pub words : take count exit ≡ write c
   pub same-count : count ≡ length (write c)
 
 module _ {limits : Limits} {write : Certificate → List ℕ} {s : System} {entry exit : List ℕ} {count : ℕ}
     (G : Gives limits write s entry exit count) where
-  pub gives-written : Written write (G .certificate) exit count
+  pub gives-written : WrittenForm write (G .certificate) exit count
   gives-written = record { words = gives-words G; same-count = G .same-count }
 
   -- it is the certificate of the system, which is a function of it
   pub gives-chosen : (h : SystemWithin limits s) (room : Suffices limits (s .rows) (s .columns))
-      → Written write (chosenCertificate limits s h room) exit count
+      → WrittenForm write (chosenCertificate limits s h room) exit count
   gives-chosen h room =
-      subst (λ c. Written write c exit count) (chosen-only limits s h room (G .certificate) (G .within) (G .chosen)) gives-written
+      subst (λ c. WrittenForm write c exit count) (chosen-only limits s h room (G .certificate) (G .within) (G .chosen)) gives-written
 
   pub gives-certificate : SystemWithin limits s → {write₁ : Certificate → List ℕ} {entry₁ exit₁ : List ℕ} {count₁ : ℕ}
       (G₁ : Gives limits write₁ s entry₁ exit₁ count₁) → G .certificate ≡ G₁ .certificate
   gives-certificate h G₁ = chosen-unique limits s h (G .certificate) (G₁ .certificate) (G .within) (G₁ .within) (G .chosen) (G₁ .chosen)
 
 written-same : {write : Certificate → List ℕ} {c : Certificate} {exit exit₁ : List ℕ} {count count₁ : ℕ}
-    → Written write c exit count → Written write c exit₁ count₁ → (count ≡ count₁) × (take count exit ≡ take count₁ exit₁)
+    → WrittenForm write c exit count → WrittenForm write c exit₁ count₁ → (count ≡ count₁) × (take count exit ≡ take count₁ exit₁)
 written-same W W₁ = (W .same-count ∙ sym (W₁ .same-count), W .words ∙ sym (W₁ .words))
 
 -- what a call found lent, what it left there, and what it answered
@@ -57,14 +57,14 @@ module _ (limits : Limits) (read : Outcome System) (within : (s : System) → re
   pub one-certificate : (write write₁ : Certificate → List ℕ) (longest longest₁ : ℕ)
       → CallOn limits read write longest x → CallOn limits read write₁ longest₁ y
       → {count count₁ : ℕ} → x .answer ≡ accepted count → y .answer ≡ accepted count₁
-      → (c : Certificate) × Written write c (x .exit) count × Written write₁ c (y .exit) count₁
+      → (c : Certificate) × WrittenForm write c (x .exit) count × WrittenForm write₁ c (y .exit) count₁
   one-certificate write write₁ longest longest₁ h h₁ {count} {count₁} a a₁ =
       let g = solved-gives limits write longest (length (x .entry)) read (x .entry) (x .exit) (x .answer) h count a in
       let g₁ = solved-gives limits write₁ longest₁ (length (y .entry)) read (y .entry) (y .exit) (y .answer) h₁ count₁ a₁ in
       let G₁ = subst (λ s. Gives limits write₁ s (y .entry) (y .exit) count₁) (accepted-same (sym (g₁ .1) ∙ g .1)) (g₁ .2) in (
         g .2 .certificate,
         gives-written (g .2),
-        subst (λ c. Written write₁ c (y .exit) count₁) (sym (gives-certificate (g .2) (within (g .0) (g .1)) G₁)) (gives-written G₁),
+        subst (λ c. WrittenForm write₁ c (y .exit) count₁) (sym (gives-certificate (g .2) (within (g .0) (g .1)) G₁)) (gives-written G₁),
       )
 
   -- where there is room

@@ -104,7 +104,8 @@ module _ (limits : Limits) (fit : LimitsFit limits) (s : System) (within : Syste
     (room : longestCertificate limits ≤ length entry) (answer : Outcome ℕ) where
   to-solve : systemToSolve limits (length entry) (systemWords s) ≡ accepted s
   to-solve =
-      room-enough (longestCertificate limits) (length entry) room (readSystem limits (systemWords s)) ∙ system-read-of-written limits fit s within
+      room-enough (longestCertificate limits) (length entry) room (readSystem limits (systemWords s))
+      ∙ system-read-of-written limits fit s within
 
   pub every-system-solved : Solves limits (systemWords s) entry exit answer
       → (count : ℕ) × (answer ≡ accepted count) × (verdict limits (systemWords s) (take count exit) ≡ accepted tt)

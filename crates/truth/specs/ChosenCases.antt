@@ -12,9 +12,9 @@ use Rattle.words.specs.Outcome.{Outcome}
 use Rattle.words.specs.Outcome.Outcome.{accepted}
 use Rattle.words.specs.Certificate.{Certificate}
 use Rattle.words.specs.Certificate.Certificate.{solution, absence}
-use Rattle.truth.specs.Solution.{AllCanonical, Divides, Clears, Monic, Denominator, rowOf}
+use Rattle.truth.specs.Solution.{AllCanonical, DividesModulo, Clears, Monic, Denominator, rowOf}
 use Rattle.truth.specs.Verdict.{certificateVerdict}
-use Rattle.truth.specs.Chosen.{Relation, Chosen}
+use Rattle.truth.specs.Chosen.{ColumnRelation, Chosen}
 
 -- polynomials modulo 2
 abbrev 𝟙 : List ℕ
@@ -44,7 +44,7 @@ some (a ∷ f) ne = omega arith
 -- ---- x·y = 1: d = x, N = 1, and z = 1/x
 
 abbrev inverse : System
-inverse = record { modulus = 2; rows = 1; columns = 1; matrix = x ∷ []; right = 𝟙 ∷ [] }
+inverse = record { modulus = 2; rows = 1; columns = 1; matrix = x ∷ []; side = 𝟙 ∷ [] }
 
 -- z as x/x²: w is not the denominator of z
 abbrev in-x² : Certificate
@@ -54,7 +54,7 @@ pub not-lowest : ¬ Chosen inverse in-x²
 unfolding Chosen Clears Monic leading mul modulo
 not-lowest C = absurd (omega (arith, C .lowest .least x canonical-x refl divides))
   where
-    divides : (j : ℕ) → j < 1 → Divides 2 x² (mul (modulo 2) x (getD (x ∷ []) j []))
+    divides : (j : ℕ) → j < 1 → DividesModulo 2 x² (mul (modulo 2) x (getD (x ∷ []) j []))
     divides zero h = record { quotient = 𝟙; canonical = canonical-𝟙; product = refl }
     divides (suc j) h = absurd (omega arith)
 
@@ -71,10 +71,10 @@ not-short C =
 -- ---- y₀ + x·y₁ = 1: d = 1, N = (1, 0), and z = 0
 
 abbrev wide : System
-wide = record { modulus = 2; rows = 1; columns = 2; matrix = 𝟙 ∷ x ∷ []; right = 𝟙 ∷ [] }
+wide = record { modulus = 2; rows = 1; columns = 2; matrix = 𝟙 ∷ x ∷ []; side = 𝟙 ∷ [] }
 
 -- 1·x + x·1 = 0 modulo 2
-relation : Relation wide (x ∷ 𝟙 ∷ []) 1
+relation : ColumnRelation wide (x ∷ 𝟙 ∷ []) 1
 unfolding rowOf AllCanonical
 relation = record {
   canonical = (canonical-x, (canonical-𝟙, tt));
@@ -99,7 +99,7 @@ not-reduced C = absurd (omega (arith, C .reduced 1 (omega arith) (x ∷ 𝟙 ∷
 -- ---- x·y = 1 and x·y = 0: no solution, and q = (1, 1)
 
 abbrev none : System
-none = record { modulus = 2; rows = 2; columns = 1; matrix = x ∷ x ∷ []; right = 𝟙 ∷ [] ∷ [] }
+none = record { modulus = 2; rows = 2; columns = 1; matrix = x ∷ x ∷ []; side = 𝟙 ∷ [] ∷ [] }
 
 -- q = (x, x): whichever entry stands at the new pivot, it is not the denominator
 abbrev times-x : Certificate
@@ -109,7 +109,7 @@ pub not-primitive : ¬ Chosen none times-x
 unfolding Chosen Clears Monic leading mul modulo
 not-primitive C = go (C .at) (C .added .pivot .inside) (C .lowest)
   where
-    divides : (j : ℕ) → j < 2 → Divides 2 x (mul (modulo 2) 𝟙 (getD (x ∷ x ∷ []) j []))
+    divides : (j : ℕ) → j < 2 → DividesModulo 2 x (mul (modulo 2) 𝟙 (getD (x ∷ x ∷ []) j []))
     divides zero h = record { quotient = 𝟙; canonical = canonical-𝟙; product = refl }
     divides (suc zero) h = record { quotient = 𝟙; canonical = canonical-𝟙; product = refl }
     divides (suc (suc j)) h = absurd (omega arith)
