@@ -1,6 +1,6 @@
 -- interface, what contracts, other crates and PROVED.md cite: Solution, Listed, Right, Chosen, Verdict, Truth, RefusalLaws, Accepted,
---   Demand, Denominators, Cases, Places, Prefix, Certified, CertifiedLaws, CertifiedWords, TurnedBack, TurnedBackLaws, DemandLaws,
---   RefusedWords
+--   Demand, Denominators, Cases, ChosenCases, Places, Prefix, Certified, CertifiedLaws, CertifiedWords, TurnedBack, TurnedBackLaws,
+--   DemandLaws, RefusedWords
 -- inside: Witness, Lift, Fractions, CertifiedTruth
 pub mod Witness
 pub mod Solution
