@@ -1,8 +1,8 @@
--- certificate-exists: every system has a right certificate, of degrees at most r·δ for its rank r. The algorithm is that of
--- mathematics.md, section 2.
+-- certificate-exists: every system has a right certificate, the chosen one, of degrees at most r·δ for its rank r. The algorithm is
+-- that of mathematics.md, section 2.
 use Prim.Native.Nat.{ℕ, suc, _≤_, min}
 use Prim.Native.Nat.{_*_ as _*ₙ_}
-use mathlib.Core.Path.{refl}
+use mathlib.Core.Path.{sym, subst}
 use mathlib.Core.Logic.{_⊎_, inl, inr, ⊎-elim}
 use native.Mathlib.Omega.{arith}
 use native.Mathlib.Nat.{mul-le-mul-right}
@@ -19,18 +19,21 @@ use Rattle.reduction.specs.System.{LinearSystem}
 use Rattle.reduction.specs.Levels.{LevelKnown, level-of}
 use Rattle.reduction.specs.Certificate.{RightSolutionIn, RightAbsenceIn}
 use Rattle.reduction.specs.Certificate.{SmallSolution, small-solution-le, SmallAbsence, small-absence-le}
-use Rattle.reduction.specs.Solution.{solution-positive, solution-tops, solution-span, solution-small}
-use Rattle.reduction.specs.Solution.{solution-right, solution-sizes}
-use Rattle.reduction.specs.Absence.{absence, absence-tops, absence-right, absence-sizes}
+use Rattle.reduction.specs.Numerators.{ReducedNumerators}
+use Rattle.reduction.specs.Certifying.{Certifying}
+use Rattle.reduction.specs.Killing.{Killing}
+use Rattle.reduction.specs.Solution.{solution-positive, solution-span, solution-small}
+use Rattle.reduction.specs.Absence.{absence, absence-tops, absence-right, absence-sizes, absence-killing, absence-at}
 use Rattle.reduction.specs.Run.{Run, run}
 use Rattle.reduction.specs.RunSecond.{SecondSolution, second}
 use Rattle.reduction.specs.RunLevels.{level, kernel, levels}
 use Rattle.reduction.specs.RunDescent.{Numerators, numerators}
+use Rattle.reduction.specs.RunRounds.{ShortRows, short-rows}
 
 module _ {A : Type 0} {R : Ring A} {S : Sized R} (E : Euclidean S) (T : LinearSystem S) where
-  open LinearSystem T using (rows as n, columns as m, degree as δ, side as b)
+  open LinearSystem T using (rows as n, columns as m, degree as δ, matrix as M, side as b)
 
-  -- a solution certificate whose sizes are at most B
+  -- the chosen solution certificate, its sizes at most B
   pub record Solved (B : ℕ) : Type 0 where
     pub d : A
     pub N : ℕ → A
@@ -38,12 +41,16 @@ module _ {A : Type 0} {R : Ring A} {S : Sized R} (E : Euclidean S) (T : LinearSy
     pub Z : ℕ → A
     pub right : RightSolutionIn E T d N w Z
     pub small : SmallSolution E T B d N w Z
+    pub reduced : ReducedNumerators S n m M N
+    pub certifying : Certifying S n m M b d w Z
 
-  -- an absence certificate whose sizes are at most B
+  -- the chosen absence certificate, its sizes at most B
   pub record Unsolvable (B : ℕ) : Type 0 where
     pub q : ℕ → A
     pub right : RightAbsenceIn E T q
     pub small : SmallAbsence E T B q
+    pub killing : Killing S n m M b q
+    pub monic : E .Monic (q (killing .at))
 
   pub record RankCertified : Type 0 where
     pub rank : ℕ
@@ -78,21 +85,20 @@ module _ {A : Type 0} {R : Ring A} {S : Sized R} (E : Euclidean S) (T : LinearSy
     coordinates = numerators E T (level E T) (kernel E T) (levels E T) (λ k. R .mul d (b k))
         (solution-span E T L (X .inserting) z μ) (solution-small E T L (X .inserting) z μ)
 
-    certifying : SecondSolution E n (degrees n (U .size)) (X .inserting .now .slots)
-    certifying = second E n (degrees n (U .size)) (X .inserting .now .slots) (solution-tops E T L (X .inserting) z
-        (total n (X .inserting .now .slots .size)) (total-term n (X .inserting .now .slots .size)))
+    rows : ShortRows E T L (X .inserting) z μ
+    rows = short-rows E T L (X .inserting) z μ
 
     solved : Solved (suc (r *ₙ δ))
     unfolding U
     solved = record {
       d = d;
       N = coordinates .N;
-      w = R .mul d (certifying .w);
-      Z = certifying .Y;
-      right = solution-right E T L (X .inserting) z μ (λ q h. refl) (λ u s. s) (certifying .w) (certifying .Y) (certifying .monic) (certifying .dual)
-          (coordinates .N) (coordinates .solves);
-      small = solution-sizes E T L (X .inserting) z μ (λ q h. refl) (λ u s. s) (certifying .w) (certifying .Y) (certifying .monic) (certifying .dual)
-          (coordinates .N) (coordinates .small);
+      w = rows .w;
+      Z = rows .Z;
+      right = rows .unfinished .right (coordinates .N) (coordinates .solves);
+      small = rows .unfinished .small (coordinates .N) (coordinates .small);
+      reduced = coordinates .reduced;
+      certifying = rows .unfinished .certifying;
     }
 
   -- stuck
@@ -100,15 +106,17 @@ module _ {A : Type 0} {R : Ring A} {S : Sized R} (E : Euclidean S) (T : LinearSy
     abbrev C : Slots A
     C = tailed n U (λ q. U .at q (K .at))
 
-    killing : SecondSolution E n (degrees n (U .size)) C
-    killing = second E n (degrees n (U .size)) C
+    killed : SecondSolution E n (degrees n (U .size)) C
+    killed = second E n (degrees n (U .size)) C
         (absence-tops E T L (X .inserting) K (total n (U .size)) (total-term n (U .size)))
 
     unsolvable : Unsolvable (suc (r *ₙ δ))
     unsolvable = record {
-      q = absence R (K .at) (killing .w) (killing .Y);
-      right = absence-right E T L (X .inserting) K (killing .w) (killing .Y) (killing .dual);
-      small = absence-sizes E T L (X .inserting) K (killing .w) (killing .Y) (killing .dual);
+      q = absence R (K .at) (killed .w) (killed .Y);
+      right = absence-right E T L (X .inserting) K (killed .w) (killed .Y) (killed .dual);
+      small = absence-sizes E T L (X .inserting) K (killed .w) (killed .Y) (killed .dual);
+      killing = absence-killing E T L (X .inserting) K (killed .w) (killed .Y) (killed .dual);
+      monic = subst (E .Monic) (sym (absence-at E T L (X .inserting) K (killed .w) (killed .Y) (killed .dual))) (killed .monic);
     }
 
   pub certificate-exists : RankCertified
@@ -138,10 +146,18 @@ module _ {A : Type 0} {R : Ring A} {S : Sized R} (E : Euclidean S) (T : LinearSy
         Z = s .Z;
         right = s .right;
         small = small-solution-le E T (bound C) (s .small);
+        reduced = s .reduced;
+        certifying = s .certifying;
       }
 
       none : (C : RankCertified) → Unsolvable (suc (C .rank *ₙ δ)) → Unsolvable (suc B)
-      none C s = record { q = s .q; right = s .right; small = small-absence-le E T (bound C) (s .small) }
+      none C s = record {
+        q = s .q;
+        right = s .right;
+        small = small-absence-le E T (bound C) (s .small);
+        killing = s .killing;
+        monic = s .monic;
+      }
 
       go : RankCertified → Solved (suc B) ⊎ Unsolvable (suc B)
       go C = ⊎-elim (λ s. inl (solution C s)) (λ s. inr (none C s)) (C .certificate)

@@ -3,7 +3,7 @@
 --   Reduced, Dual, Transpose, Second, Certificate, Certifying, Killing, LessTail, Solution, Unfinished, Absence, Existence,
 --   Polynomials, Holds, Rounds, Flat, Held
 -- inside: Step, Row, Least, Dependence, Lowering, Clearing, LowerBounds, Retailed, Round, Run, RunSecond, RunLevels,
---   RunDescent, Square, Joint, Lines, Units, Gathering, Shortening
+--   RunDescent, RunRounds, Square, Joint, Lines, Units, Gathering, Shortening
 -- Beside mathematics.md, from the bottom up.
 -- functions of an index, sums of numbers
 pub mod Replace
@@ -60,6 +60,7 @@ pub mod Run
 pub mod RunSecond
 pub mod RunLevels
 pub mod RunDescent
+pub mod RunRounds
 pub mod Existence
 pub mod Square
 -- several right sides

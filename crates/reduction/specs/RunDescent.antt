@@ -19,6 +19,8 @@ use Rattle.reduction.specs.Division.{Divided, division-tail, divideOut}
 use Rattle.reduction.specs.System.{LinearSystem}
 use Rattle.reduction.specs.Levels.{Levels, level-of}
 use Rattle.reduction.specs.Descent.{Descent, descent-start, descent-turn, descent-end}
+use Rattle.reduction.specs.Numerators.{ReducedNumerators}
+use Rattle.reduction.specs.Reduced.{descent-reduced}
 
 module _ {A : Type 0} {R : Ring A} {S : Sized R} (E : Euclidean S) where
   open Ring R using (add as _+_, mul as _*_, neg as -_, zero as 𝟘, one as 𝟙)
@@ -110,6 +112,7 @@ module _ {A : Type 0} {R : Ring A} {S : Sized R} (E : Euclidean S) where
       pub N : ℕ → A
       pub solves : (i : ℕ) → i < n → sum R m (λ j. M i j * N j) ≡ f i
       pub small : (j : ℕ) → j < m → size (N j) ≤ suc (rank n (level m .size) *ₙ δ)
+      pub reduced : ReducedNumerators S n m M N
 
     pub numerators : InSpan R n n (level m) f → ((i : ℕ) → i < n → size (f i) ≤ suc (δ +ₙ degrees n (level m .size))) → Numerators
     numerators s small =
@@ -118,4 +121,5 @@ module _ {A : Type 0} {R : Ring A} {S : Sized R} (E : Euclidean S) where
           N = D .N;
           solves = descent-end T level kernel C f (D .rest) (D .N) (D .descent);
           small = λ j h. D .descent .small j (omega arith) h;
+          reduced = descent-reduced T level kernel C f (D .rest) (D .N) (D .descent);
         }

@@ -1,9 +1,9 @@
--- certificate-exists in document 01's values: every system within limits has a right certificate within them, where the limit on
--- certificates leaves room for it; the office's does, "degree 120 always suffices".
+-- certificate-exists in document 01's values: every system within limits has a right certificate within them, the chosen one, where the
+-- limit on certificates leaves room for it; the office's does, "degree 120 always suffices". There is only one such certificate, so it
+-- is a function of the system.
 use Prim.Native.Nat.{ℕ, _*_, _<_, _≤_, min}
-use mathlib.Core.Path.{refl}
+use mathlib.Core.Path.{_≡_, refl}
 use mathlib.Core.Logic.{⊎-elim}
-use mathlib.Core.List.{List, []}
 use native.Mathlib.Omega.{arith}
 use native.Mathlib.Nat.{le-refl, mul-le-mul-right}
 use Rattle.algebra.specs.Polynomial.{Polynomial}
@@ -21,13 +21,15 @@ use Rattle.words.specs.System.{System, SystemWithin, shape}
 use Rattle.words.specs.Certificate.{Certificate, CertificateWithin}
 use Rattle.words.specs.Certificate.Certificate.{solution, absence}
 use Rattle.truth.specs.Solution.{Answer, Answers}
-use Rattle.truth.specs.Right.{Right}
-use Rattle.truth.specs.Listed.{listed, listed-at}
+use Rattle.truth.specs.Listed.{length-listed}
+use Rattle.truth.specs.Chosen.{Chosen, chosen-right}
 use Rattle.solve_meaning.specs.Listed.{vector-listed}
 use Rattle.solve_meaning.specs.Lists.{listOf, list-canonical, list-length}
 use Rattle.solve_meaning.specs.Equations.{systemDegree, equated}
-use Rattle.solve_meaning.specs.RightLists.{solution-right, absence-right}
+use Rattle.solve_meaning.specs.Vectors.{lists, lists-at}
+use Rattle.solve_meaning.specs.ChosenLists.{solution-chosen, absence-chosen}
 use Rattle.solve_meaning.specs.Answers.{answerOf, right-answers}
+use Rattle.solve_meaning.specs.ChosenUnique.{chosen-unique}
 
 -- polynomials of bounded size as lists
 module _ (p : ℕ) (prime : Prime p) where
@@ -35,22 +37,19 @@ module _ (p : ℕ) (prime : Prime p) where
       → Within p limit (listOf p prime x)
   list-within x h = record { canonical = list-canonical p prime x; size = omega (arith, list-length p prime x) }
 
-  abbrev lists : ℕ → (ℕ → Polynomial (residues p prime)) → List (List ℕ)
-  lists n x = listed n (λ i. listOf p prime (x i))
-
   lists-within : {limit : ℕ} (n : ℕ) (x : ℕ → Polynomial (residues p prime))
-      → ((i : ℕ) → i < n → size (residues p prime) (x i) ≤ limit) → VectorWithin p limit n (lists n x)
+      → ((i : ℕ) → i < n → size (residues p prime) (x i) ≤ limit) → VectorWithin p limit n (lists p prime n x)
   lists-within {limit} n x h = vector-listed p limit n (λ i. listOf p prime (x i)) (λ i k. list-within (x i) (h i k))
 
 -- "numerators of degree at most 15 × r": r is at most the least of rows and columns, 15 the degree of a system's polynomials
 abbrev pub Suffices : Limits → ℕ → ℕ → Type 0
 Suffices limits rows columns = min rows columns * systemDegree limits < limits .certificateCoefficients
 
--- a right certificate within the limits
-pub record RightCertificate (limits : Limits) (s : System) : Type 0 where
+-- the chosen certificate, within the limits
+pub record ChosenCertificate (limits : Limits) (s : System) : Type 0 where
   pub certificate : Certificate
   pub within : CertificateWithin limits (shape s) certificate
-  pub right : Right s certificate
+  pub chosen : Chosen s certificate
 
 module _ (limits : Limits) (s : System) (h : SystemWithin limits s) where
   abbrev p : ℕ
@@ -66,8 +65,8 @@ module _ (limits : Limits) (s : System) (h : SystemWithin limits s) where
   E = euclidean (residues (s .modulus) (h .shape .prime))
 
   module _ {B : ℕ} (le : B ≤ limits .certificateCoefficients) where
-    solved : Solved E T B → RightCertificate limits s
-    unfolding CertificateWithin Right
+    solved : Solved E T B → ChosenCertificate limits s
+    unfolding CertificateWithin Chosen
     solved C =
         let small = small-solution-le E T le (C .small) in
         record {
@@ -80,19 +79,21 @@ module _ (limits : Limits) (s : System) (h : SystemWithin limits s) where
             certifyingDenominator = list-within p prime (C .w) (small .certifying-denominator);
             certifyingNumerators = lists-within p prime (s .rows) (C .Z) (small .certifying-numerators);
           };
-          right = solution-right limits s h (C .right) _ _ _ _ refl refl
-              (listed-at (s .columns) (λ j. listOf p prime (C .N j)) []) (listed-at (s .rows) (λ i. listOf p prime (C .Z i)) []);
+          chosen = solution-chosen limits s h (C .d) (C .w) (C .N) (C .Z) _ _ _ _ refl refl (lists-at p prime (s .columns) (C .N))
+              (length-listed (s .rows) (λ i. listOf p prime (C .Z i))) (lists-at p prime (s .rows) (C .Z))
+              (C .certifying) (C .right) (C .reduced);
         }
 
-    unsolvable : Unsolvable E T B → RightCertificate limits s
-    unfolding CertificateWithin Right
+    unsolvable : Unsolvable E T B → ChosenCertificate limits s
+    unfolding CertificateWithin Chosen
     unsolvable C = record {
       certificate = absence (lists p prime (s .rows) (C .q));
       within = lists-within p prime (s .rows) (C .q) (small-absence-le E T le {q = C .q} (C .small));
-      right = absence-right limits s h (C .right) _ (listed-at (s .rows) (λ i. listOf p prime (C .q i)) []);
+      chosen = absence-chosen limits s h _ (length-listed (s .rows) (λ i. listOf p prime (C .q i))) (lists-at p prime (s .rows) (C .q))
+          (C .right) (C .killing) (C .monic);
     }
 
-  pub certificate-exists : Suffices limits (s .rows) (s .columns) → RightCertificate limits s
+  pub certificate-exists : Suffices limits (s .rows) (s .columns) → ChosenCertificate limits s
   certificate-exists room = ⊎-elim (solved (omega arith)) (unsolvable (omega arith))
       (certificate-within E T (min (s .rows) (s .columns) * systemDegree limits) (le-refl _))
 
@@ -107,14 +108,24 @@ module _ (limits : Limits) (s : System) (h : SystemWithin limits s) where
   pub answer-exists : Suffices limits (s .rows) (s .columns) → (a : Answer) × Answers s a
   answer-exists room =
       let R = certificate-exists room in
-      (answerOf (R .certificate), right-answers limits s h (R .certificate) (R .within) (R .right))
+      (answerOf (R .certificate), right-answers limits s h (R .certificate) (R .within) (chosen-right s (R .certificate) (R .chosen)))
+
+  -- the certificate of a system, and that no other is chosen
+  pub chosenCertificate : Suffices limits (s .rows) (s .columns) → Certificate
+  chosenCertificate room = certificate-exists room .certificate
+
+  pub chosen-only : (room : Suffices limits (s .rows) (s .columns)) (c : Certificate) → CertificateWithin limits (shape s) c
+      → Chosen s c → c ≡ chosenCertificate room
+  unfolding chosenCertificate
+  chosen-only room c k C =
+      let R = certificate-exists room in chosen-unique limits s h c (R .certificate) k (R .within) C (R .chosen)
 
 -- "Degree 120 always suffices", and degree 28 on the panel
-pub office-certificate-exists : (s : System) → SystemWithin office s → RightCertificate office s
+pub office-certificate-exists : (s : System) → SystemWithin office s → ChosenCertificate office s
 office-certificate-exists s h = certificate-exists office s h (suffices-all office s h (omega arith))
 
 pub office-answer-exists : (s : System) → SystemWithin office s → (a : Answer) × Answers s a
 office-answer-exists s h = answer-exists office s h (suffices-all office s h (omega arith))
 
-pub panel-certificate-exists : (s : System) → SystemWithin panel s → RightCertificate panel s
+pub panel-certificate-exists : (s : System) → SystemWithin panel s → ChosenCertificate panel s
 panel-certificate-exists s h = certificate-exists panel s h (suffices-all panel s h (omega arith))

@@ -1,19 +1,21 @@
 -- interface, what contracts, other crates and PROVED.md cite: SystemIn, Laid, Taken, Equations, LaidLaws, SystemInLaws,
---   TakenLaws, TakenRight, Answers, Existence
--- inside: Listed, Lists, RightLists, Chosen, TakenChosen
+--   TakenLaws, TakenChosen, Answers, Existence, ChosenUnique
+-- inside: Listed, Lists, Vectors, RightLists, PivotLists, ChosenLists
 -- the system in the input area, and the certificate in the output area
 pub mod Listed
 pub mod SystemIn
 pub mod Laid
 pub mod Taken
 pub mod Lists
+pub mod Vectors
 pub mod Equations
 pub mod LaidLaws
 pub mod SystemInLaws
 pub mod TakenLaws
 pub mod RightLists
-pub mod TakenRight
-pub mod Answers
-pub mod Existence
-pub mod Chosen
+pub mod PivotLists
+pub mod ChosenLists
 pub mod TakenChosen
+pub mod Answers
+pub mod ChosenUnique
+pub mod Existence

@@ -18,7 +18,7 @@ use Rattle.algebra.specs.Gcd.{gcd}
 use Rattle.modular.specs.Prime.{Prime}
 use Rattle.modular.specs.Modulo.{modulo}
 use Rattle.modular.specs.Canonical.{Canonical}
-use Rattle.modular.specs.Residue.{Residue, value, residues, value-homomorphism}
+use Rattle.modular.specs.Residue.{Residue, value, residue-ext, residues, value-homomorphism}
 use Rattle.modular.specs.Values.{canonical-values}
 use Rattle.truth.specs.Solution.{totalModulo, DividesModulo, Monic}
 use Rattle.truth.specs.Listed.{total-ext}
@@ -57,11 +57,15 @@ module _ (p : ℕ) (prime : Prime p) where
   unfolding polynomials
   list-mul x y = Transfer.map-mul h (x .0) (y .0)
 
+  pub list-add : (x y : Polynomial F) → listOf (R .add x y) ≡ Coefficients.add (modulo p) (listOf x) (listOf y)
+  unfolding polynomials
+  list-add x y = Transfer.map-add h (x .0) (y .0)
+
   pub list-sum : (n : ℕ) (f : ℕ → Polynomial F) → listOf (sum R n f) ≡ totalModulo p n (λ i. listOf (f i))
   unfolding polynomials sum totalModulo
   list-sum zero f = refl
   list-sum (suc n) f =
-      Transfer.map-add h (sum R n f .0) (f n .0) ∙ ap (λ t. Coefficients.add (modulo p) t (listOf (f n))) (list-sum n f)
+      list-add (sum R n f) (f n) ∙ ap (λ t. Coefficients.add (modulo p) t (listOf (f n))) (list-sum n f)
 
   -- a sum of products whose factors are given as lists
   pub list-products : (n : ℕ) (x y : ℕ → Polynomial F) (f g : ℕ → List ℕ)
@@ -82,6 +86,10 @@ module _ (p : ℕ) (prime : Prime p) where
   pub list-is-monic : (x : Polynomial F) → MonicIn F x → Monic p (listOf x)
   unfolding Monic residues
   list-is-monic x m = sym (Transfer.map-leading h (x .0)) ∙ ap value m
+
+  pub is-monic-list : (x : Polynomial F) → Monic p (listOf x) → MonicIn F x
+  unfolding Monic residues
+  is-monic-list x m = residue-ext _ _ (Transfer.map-leading h (x .0) ∙ m)
 
   pub list-monic : (x : Polynomial F) → listOf (monic F x) ≡ Coefficients.monic (modulo p) (listOf x)
   unfolding monic

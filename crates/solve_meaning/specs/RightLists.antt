@@ -65,19 +65,19 @@ module _ (limits : Limits) (s : System) (h : SystemWithin limits s) where
 
   -- products with the matrix, of a vector whose lists are fs
   module _ (x : ℕ → Polynomial (residues (s .modulus) (h .shape .prime))) (fs : List (List ℕ)) where
-    row-is : ((j : ℕ) → j < s .columns → getD fs j [] ≡ list (x j)) → (i : ℕ)
+    pub row-is : ((j : ℕ) → j < s .columns → getD fs j [] ≡ list (x j)) → (i : ℕ)
         → rowOf s fs i ≡ list (sum R (s .columns) (λ j. R .mul (T .matrix i j) (x j)))
     unfolding rowOf
     row-is e i = Lists.list-products p prime (s .columns) (T .matrix i) x (entry s i) (λ j. getD fs j [])
         (λ j l. sym (matrix-list limits s h i j)) e
 
     module _ (e : (i : ℕ) → i < s .rows → getD fs i [] ≡ list (x i)) where
-      column-is : (j : ℕ) → columnOf s fs j ≡ list (sum R (s .rows) (λ i. R .mul (x i) (T .matrix i j)))
+      pub column-is : (j : ℕ) → columnOf s fs j ≡ list (sum R (s .rows) (λ i. R .mul (x i) (T .matrix i j)))
       unfolding columnOf
       column-is j = Lists.list-products p prime (s .rows) x (λ i. T .matrix i j) (λ i. getD fs i []) (λ i. entry s i j)
           e (λ i l. sym (matrix-list limits s h i j))
 
-      side-is : sideOf s fs ≡ list (sum R (s .rows) (λ i. R .mul (x i) (T .side i)))
+      pub side-is : sideOf s fs ≡ list (sum R (s .rows) (λ i. R .mul (x i) (T .side i)))
       unfolding sideOf
       side-is = Lists.list-products p prime (s .rows) x (T .side) (λ i. getD fs i []) (sideEntry s)
           e (λ i l. sym (side-list limits s h i))

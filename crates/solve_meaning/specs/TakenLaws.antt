@@ -38,6 +38,11 @@ taken-at p output k (suc count) (suc j) h =
     let place : k + 1 + j ≡ k + suc j = omega arith in
     taken-at p output (k + 1) count j (omega arith) ∙ ap (takenPolynomial p output) place
 
+pub taken-count : (p : ℕ) (output : List ℕ) (k count : ℕ) → length (takenPolynomials p output k count) ≡ count
+unfolding takenPolynomials
+taken-count p output k zero = refl
+taken-count p output k (suc count) = ap suc (taken-count p output (k + 1) count)
+
 module _ (p : ℕ) (positive : 0 < p) (output : List ℕ) where
   pub polynomial-within : (k : ℕ) → Within p mostCoefficients (takenPolynomial p output k)
   polynomial-within k = record {
@@ -51,13 +56,8 @@ module _ (p : ℕ) (positive : 0 < p) (output : List ℕ) where
   all-taken k zero = tt
   all-taken k (suc count) = (polynomial-within k, all-taken (k + 1) count)
 
-  taken-count : (k count : ℕ) → length (takenPolynomials p output k count) ≡ count
-  unfolding takenPolynomials
-  taken-count k zero = refl
-  taken-count k (suc count) = ap suc (taken-count (k + 1) count)
-
   vector-taken : (k count : ℕ) → VectorWithin p mostCoefficients count (takenPolynomials p output k count)
-  vector-taken k count = record { entries = all-taken k count; count = taken-count k count }
+  vector-taken k count = record { entries = all-taken k count; count = taken-count p output k count }
 
 -- degrees are at most 120, since no more words are looked at
 pub certificate-taken : (h : Shape) (form : Form) (output : List ℕ) → 0 < h .modulus

@@ -14,6 +14,7 @@ use Rattle.words.specs.OutcomeLaws.{mapped-accepted}
 use Rattle.words.specs.System.{System, Shape, SystemWithin, ShapeWithin, shape, readSystem}
 use Rattle.words.specs.SystemLaws.{system-written-of-read}
 use Rattle.words.specs.Certificate.{formWhen}
+use Rattle.truth.specs.Chosen.{chosen-right}
 use Rattle.solve_lattice.specs.Input.{ValidInput}
 use Rattle.solve_lattice.specs.Output.{ValidOutput}
 use Rattle.solve_certify.specs.Certifies.{HasSystem, Certifies}
@@ -24,7 +25,7 @@ use Rattle.solve_meaning.specs.SystemInLaws.{laid-read, read-within, read-laid}
 use Rattle.solve_meaning.specs.Taken.{takenCertificate}
 use Rattle.solve_meaning.specs.Equations.{officeEquations}
 use Rattle.solve_meaning.specs.LaidLaws.{laid-valid, laid-holds}
-use Rattle.solve_meaning.specs.TakenRight.{taken-right, taken-within}
+use Rattle.solve_meaning.specs.TakenChosen.{taken-chosen, taken-within}
 use Rattle.solve_meaning.specs.Answers.{right-answers}
 use Rattle.solver.specs.SolvingLaws.{accepted-same}
 use Rattle.solver.specs.Certified.{HasShape, Read, CertifiedOutput, CertifiedRead, certified-of}
@@ -53,13 +54,15 @@ module _ {h : Shape} (within : ShapeWithin office h) {input : List ℕ} (area : 
         let w = read-within h within input in
         let done′ = subst (λ q. Certifies q (h .rows) (h .columns) input output solved) is done in
         let kept = taken-within office s w output (formWhen solved) in
-        let right = taken-right office s w output solved
+        let chosen = taken-chosen office s w output solved
         (done′ .holds (w .shape .prime) (officeEquations s w) (laid-holds s w (read-laid h within input area))) in
         record {
           valid = done′ .valid;
           within = kept;
-          right = right;
-          answers = right-answers office s w (takenCertificate (shape s) (formWhen solved) output) kept right;
+          chosen = chosen;
+          answers =
+              let c = takenCertificate (shape s) (formWhen solved) output in
+              right-answers office s w c kept (chosen-right s c chosen);
         }
 
 module _ {h : Shape} {ws : List ℕ} (R : Read h ws) where

@@ -3,9 +3,8 @@ use mathlib.Core.Path.{_≡_, sym, ap, ap₂, _∙_, subst}
 use mathlib.Core.List.{List}
 use Prim.Native.Nat.{ℕ, _*_, _≤_}
 use lib.ListN.{length, take}
-use borrow.Author.Tests.{le-ltb}
 use Rattle.words.specs.Limits.{office, longestCertificate}
-use Rattle.words.specs.Outcome.{Outcome, refuse}
+use Rattle.words.specs.Outcome.{Outcome}
 use Rattle.words.specs.Outcome.Outcome.{accepted, refused}
 use Rattle.words.specs.OutcomeLaws.{refused-accepted}
 use Rattle.words.specs.Bytes.{bytesOf}
@@ -14,7 +13,7 @@ use Rattle.words.specs.System.{System, readSystem}
 use Rattle.words.specs.Certificate.{certificateWords}
 use Rattle.write_frame.specs.Overwriting.{overwritten}
 use Rattle.solver.specs.Solving.{withRoom, certificateBytes, Gives, SolvesOr, Solves}
-use Rattle.solver.specs.SolvingLaws.{gives-words, solved-gives}
+use Rattle.solver.specs.SolvingLaws.{room-enough, gives-words, solved-gives}
 
 module _ {s : System} {count : ℕ} {entry exit : List ℕ} (G : Gives office certificateWords s entry exit count) where
   pub gives-bytes : (lent after : List ℕ) → after ≡ overwritten (bytesOf (take count exit)) lent
@@ -25,6 +24,7 @@ module _ {s : System} {count : ℕ} {entry exit : List ℕ} (G : Gives office ce
     within = G .within;
     right = G .right;
     answers = G .answers;
+    chosen = G .chosen;
     words = is ∙ ap (λ l. overwritten (bytesOf l) lent) (gives-words G);
     same-count = ap (λ n. 4 * n) (G .same-count) ∙ sym (length-bytesOf (certificateWords (G .certificate)));
   }
@@ -51,6 +51,6 @@ module _ (ws entry exit : List ℕ) (answer : Outcome ℕ) (solves : Solves offi
           → o ≡ refused number place
       by (refused n k) h = let told = sym (h .0) ∙ a in same told
       by (accepted s) h =
-          let enough = ap (λ t. refuse t 11 0 (accepted s)) (le-ltb (length entry) (longestCertificate office) room) in
-          let given = subst (λ o. SolvesOr office certificateWords o entry exit answer) enough h in
+          let given = subst (λ o. SolvesOr office certificateWords o entry exit answer)
+          (room-enough (longestCertificate office) (length entry) room (accepted s)) h in
           absurd (refused-accepted (sym a ∙ given .1))

@@ -1,18 +1,16 @@
 -- What the reader tells, and what the solver then gives.
 use mathlib.Core.Path.{_≡_, sym, ap, _∙_, subst}
-use mathlib.Core.Bool.{Bool, true, false}
 use mathlib.Core.List.{List}
 use Prim.Native.Nat.{ℕ, _<_, _≤_}
 use lib.ListN.{length}
-use lib.Dec.{ltb}
-use borrow.Author.Tests.{lt-ltb, le-ltb}
 use Rattle.words.specs.Limits.{Limits, office}
-use Rattle.words.specs.Outcome.{Outcome, refuse, mapped}
+use Rattle.words.specs.Outcome.{Outcome, mapped}
 use Rattle.words.specs.Outcome.Outcome.{accepted, refused}
 use Rattle.words.specs.OutcomeLaws.{mapped-accepted, mapped-refused}
 use Rattle.words.specs.System.{System, Shape, shape, readSystem}
 use Rattle.words.specs.Certificate.{Certificate}
 use Rattle.solver.specs.Solving.{withRoom, Gives, SolvesOr}
+use Rattle.solver.specs.SolvingLaws.{room-short, room-enough}
 use Rattle.solver.specs.Certified.{Read}
 
 module _ (ws : List ℕ) (limits : Limits) (is : limits ≡ office) {told : Outcome Shape}
@@ -37,15 +35,12 @@ module _ (longest : ℕ) (write : Certificate → List ℕ) (entry exit : List �
   solves-refused e a x = by-outcome _ (ap (withRoom longest (length entry)) e) (a, x)
 
   module _ {s : System} (e : read ≡ accepted s) where
-    with-test : (t : Bool) → ltb (length entry) longest ≡ t → withRoom longest (length entry) read ≡ refuse t 11 0 (accepted s)
-    with-test t l = ap (withRoom longest (length entry)) e ∙ ap (λ t. refuse t 11 0 (accepted s)) l
-
     pub solves-short : length entry < longest → answer ≡ refused 11 0 → exit ≡ entry
         → SolvesOr office write (withRoom longest (length entry) read) entry exit answer
     unfolding SolvesOr
-    solves-short lt a x = by-outcome (refused 11 0) (with-test true (lt-ltb (length entry) longest lt)) (a, x)
+    solves-short lt a x = by-outcome (refused 11 0) (ap (withRoom longest (length entry)) e ∙ room-short longest (length entry) lt s) (a, x)
 
     pub solves-given : longest ≤ length entry → (count : ℕ) → answer ≡ accepted count → Gives office write s entry exit count
         → SolvesOr office write (withRoom longest (length entry) read) entry exit answer
     unfolding SolvesOr
-    solves-given ge count a gives = by-outcome (accepted s) (with-test false (le-ltb (length entry) longest ge)) (count, a, gives)
+    solves-given ge count a gives = by-outcome (accepted s) (room-enough longest (length entry) ge read ∙ e) (count, a, gives)

@@ -7,6 +7,7 @@ use Rattle.words.specs.Limits.{office}
 use Rattle.words.specs.Outcome.Outcome.{accepted}
 use Rattle.words.specs.System.{System, Shape, shape, readSystem}
 use Rattle.words.specs.Certificate.{Form, formWhen, certificateWords}
+use Rattle.truth.specs.Chosen.{chosen-right}
 use Rattle.write_frame.specs.Framing.{Wrote}
 use Rattle.solve_lattice.specs.Output.{ValidOutput}
 use Rattle.solve_meaning.specs.Taken.{takenCertificate}
@@ -29,8 +30,9 @@ module _ {h : Shape} {ws : List ℕ} (R : Read h ws) (output : List ℕ) (solved
       record {
         certificate = takenCertificate (shape s) (formWhen solved) output;
         within = C .within;
-        right = C .right;
+        right = chosen-right s (takenCertificate (shape s) (formWhen solved) output) (C .chosen);
         answers = C .answers;
+        chosen = C .chosen;
         words = W .words;
         same-count = W .count;
       }

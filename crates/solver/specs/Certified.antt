@@ -1,4 +1,4 @@
--- A right certificate in the solver's output area, for a system that was read.
+-- The chosen certificate in the solver's output area, for a system that was read.
 use Prim.Native.Nat.{ℕ}
 use mathlib.Core.Path.{_≡_, sym, ap, _∙_, subst}
 use mathlib.Core.Bool.{Bool}
@@ -9,7 +9,7 @@ use Rattle.words.specs.Outcome.Outcome.{accepted, refused}
 use Rattle.words.specs.System.{System, Shape, shape, readSystem}
 use Rattle.words.specs.Certificate.{CertificateWithin, formWhen}
 use Rattle.truth.specs.Solution.{Answers}
-use Rattle.truth.specs.Right.{Right}
+use Rattle.truth.specs.Chosen.{Chosen}
 use Rattle.solve_lattice.specs.Output.{ValidOutput}
 use Rattle.solve_meaning.specs.Taken.{takenCertificate}
 use Rattle.solve_meaning.specs.Answers.{answerOf}
@@ -21,7 +21,7 @@ HasShape h ws = mapped shape (readSystem office ws) ≡ accepted h
 pub record CertifiedOutput (s : System) (output : List ℕ) (solved : Bool) : Type 0 where
   pub valid : ValidOutput (s .modulus) output
   pub within : CertificateWithin office (shape s) (takenCertificate (shape s) (formWhen solved) output)
-  pub right : Right s (takenCertificate (shape s) (formWhen solved) output)
+  pub chosen : Chosen s (takenCertificate (shape s) (formWhen solved) output)
   pub answers : Answers s (answerOf (takenCertificate (shape s) (formWhen solved) output))
 
 -- what was read is certified; a refusal is not

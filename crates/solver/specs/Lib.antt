@@ -2,7 +2,8 @@
 pub mod Solving
 pub mod SolvingLaws
 pub mod FileLaws
--- interface: a right certificate in the output area
+pub mod OneCertificate
+-- interface: the chosen certificate in the output area
 pub mod Certified
 pub mod OutputLaws
 -- interface: document 01's examples for 11

@@ -12,6 +12,7 @@ use Rattle.words.specs.Bytes.{bytesOf, readSystemFile}
 use Rattle.words.specs.Certificate.{Certificate, CertificateWithin, certificateWords}
 use Rattle.truth.specs.Solution.{Answers}
 use Rattle.truth.specs.Right.{Right}
+use Rattle.truth.specs.Chosen.{Chosen}
 use Rattle.write_frame.specs.Overwriting.{overwritten}
 use Rattle.solve_meaning.specs.Answers.{answerOf}
 
@@ -25,14 +26,15 @@ withRoom longest lent read =
 abbrev pub systemToSolve : Limits → ℕ → List ℕ → Outcome System
 systemToSolve limits lent ws = withRoom (longestCertificate limits) lent (readSystem limits ws)
 
--- Free is which N, w, Z or q: "they keep the degree bound, the check's conditions hold of the card, its words are its written form,
--- and the returned count is theirs. Kind and d are not free". "Lent words behind the card keep their values." A certificate is written
--- as words, or as bytes of a file.
+-- Nothing of the certificate is free: it is the chosen one, of which a system has only one (`gives-certificate`). "They keep the degree
+-- bound, the check's conditions hold of the card, its words are its written form, and the returned count is theirs." "Lent words behind
+-- the card keep their values." A certificate is written as words, or as bytes of a file.
 pub record Gives (limits : Limits) (write : Certificate → List ℕ) (s : System) (entry exit : List ℕ) (count : ℕ) : Type 0 where
   pub certificate : Certificate
   pub within : CertificateWithin limits (shape s) certificate
   pub right : Right s certificate
   pub answers : Answers s (answerOf certificate)
+  pub chosen : Chosen s certificate
   pub words : exit ≡ overwritten (write certificate) entry
   pub same-count : count ≡ length (write certificate)
 

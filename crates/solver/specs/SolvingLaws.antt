@@ -1,6 +1,6 @@
 -- Demand 3, its last sentence: "for every sheet within the limits, whatever stood in the lent space, the solver gives a card there,
 -- and the check accepts it".
-use Prim.Native.Nat.{ℕ, _≤_}
+use Prim.Native.Nat.{ℕ, _<_, _≤_}
 use mathlib.Core.Path.{_≡_, refl, sym, ap, _∙_, subst}
 use mathlib.Core.Bool.{Bool, true, false}
 use mathlib.Core.List.{List}
@@ -8,7 +8,7 @@ use native.Mathlib.Omega.{arith}
 use lib.ListN.{length, take, drop, length-append}
 use lib.Seq.{take-append-seam}
 use lib.Dec.{ltb}
-use borrow.Author.Tests.{le-ltb}
+use borrow.Author.Tests.{lt-ltb, le-ltb}
 use Rattle.words.specs.Limits.{Limits, longestCertificate}
 use Rattle.words.specs.LimitsLaws.{LimitsFit}
 use Rattle.words.specs.Outcome.{Outcome, refuse}
@@ -24,6 +24,14 @@ use Rattle.solver.specs.Solving.{withRoom, systemToSolve, Gives, SolvesO
 
 pub accepted-same : {A : Type 0} {a b : A} → accepted a ≡ accepted b → a ≡ b
 accepted-same e = cc
+
+-- 11 where too little is lent; else what was read is to be solved
+pub room-short : (longest lent : ℕ) → lent < longest → (s : System) → withRoom longest lent (accepted s) ≡ refused 11 0
+room-short longest lent h s = ap (λ t. refuse t 11 0 (accepted s)) (lt-ltb lent longest h)
+
+pub room-enough : (longest lent : ℕ) → longest ≤ lent → (read : Outcome System) → withRoom longest lent read ≡ read
+room-enough longest lent h (refused number place) = refl
+room-enough longest lent h (accepted s) = ap (λ t. refuse t 11 0 (accepted s)) (le-ltb lent longest h)
 
 -- what is written is no longer than what was lent
 pub gives-fits : {limits : Limits} {write : Certificate → List ℕ} {s : System} {entry exit : List ℕ} {count : ℕ}
@@ -96,8 +104,8 @@ module _ (limits : Limits) (fit : LimitsFit limits) (s : System) (within : Syste
     (room : longestCertificate limits ≤ length entry) (answer : Outcome ℕ) where
   to-solve : systemToSolve limits (length entry) (systemWords s) ≡ accepted s
   to-solve =
-      ap (withRoom (longestCertificate limits) (length entry)) (system-read-of-written limits fit s within)
-      ∙ ap (λ t. refuse t 11 0 (accepted s)) (le-ltb (length entry) (longestCertificate limits) room)
+      room-enough (longestCertificate limits) (length entry) room (readSystem limits (systemWords s))
+      ∙ system-read-of-written limits fit s within
 
   pub every-system-solved : Solves limits (systemWords s) entry exit answer
       → (count : ℕ) × (answer ≡ accepted count) × (verdict limits (systemWords s) (take count exit) ≡ accepted tt)

@@ -1,4 +1,4 @@
-// A right certificate in the output area, for a system that is laid out in the input area, or for the words of one that was read.
+// The chosen certificate in the output area, for a system that is laid out in the input area, or for the words of one that was read.
 use answers::Shape;
 use residue::modulus::Modulus;
 use solve_certify::certify;
@@ -16,7 +16,7 @@ ghost use Rattle.solve_meaning.specs.SystemIn.{systemInLanes, SystemArea};
 ghost use Rattle.answers.specs.Answer.{shapeOf};
 ghost use Rattle.solver.specs.Certified.{HasShape, CertifiedOutput, CertifiedRead};
 
-// Stores a right certificate of the system that is laid out in `input`, of that shape, in `output`, which is 0. Returns whether
+// Stores the chosen certificate of the system that is laid out in `input`, of that shape, in `output`, which is 0. Returns whether
 // there is a solution.
 pub fn certify_laid(output: &mut Output, input: &Input, shape: Shape) -> bool
     requires { ⌜ ShapeWithin office (shapeOf shape) × SystemArea (shapeOf shape) (now input) ⌝ }
@@ -29,7 +29,7 @@ pub fn certify_laid(output: &mut Output, input: &Input, shape: Shape) -> bool
     certify(output, input, rows, columns, modulus)
 }
 
-// Stores a right certificate of the system that the words of `system` were read as, of that shape, in `output`, which is 0. Returns
+// Stores the chosen certificate of the system that the words of `system` were read as, of that shape, in `output`, which is 0. Returns
 // whether there is a solution.
 pub fn certify_words(output: &mut Output, system: &[u32], shape: Shape) -> bool
     requires { ⌜ HasShape (shapeOf shape) (now system) ⌝ }

@@ -1,4 +1,4 @@
-// The solver: from the words of a system to the words of a right certificate, whichever kind there is.
+// The solver: from the words of a system to the words of its certificate, whichever kind there is.
 pub mod certifying;
 pub mod file;
 

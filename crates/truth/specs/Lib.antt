@@ -1,11 +1,12 @@
--- interface, what contracts, other crates and PROVED.md cite: Solution, Listed, Right, Verdict, Truth, RefusalLaws, Accepted, Demand,
---   Denominators, Cases, Places, Prefix, Certified, CertifiedLaws, CertifiedWords, TurnedBack, TurnedBackLaws, DemandLaws,
---   RefusedWords
+-- interface, what contracts, other crates and PROVED.md cite: Solution, Listed, Right, Chosen, Verdict, Truth, RefusalLaws, Accepted,
+--   Demand, Denominators, Cases, ChosenCases, Places, Prefix, Certified, CertifiedLaws, CertifiedWords, TurnedBack, TurnedBackLaws,
+--   DemandLaws, RefusedWords
 -- inside: Witness, Lift, Fractions, CertifiedTruth
 pub mod Witness
 pub mod Solution
 pub mod Listed
 pub mod Right
+pub mod Chosen
 pub mod Verdict
 pub mod Lift
 pub mod Truth
@@ -14,6 +15,7 @@ pub mod Accepted
 pub mod Demand
 pub mod Denominators
 pub mod Cases
+pub mod ChosenCases
 pub mod Places
 pub mod Prefix
 pub mod Fractions

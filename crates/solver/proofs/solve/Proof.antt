@@ -1,6 +1,7 @@
 -- The reader's refusals, then 11; else what `solve_read` gives (`Reading`).
 use Prim.Native.Nat.{ℕ}
 use mathlib.Core.Path.{refl, ap}
+use native.Mathlib.Omega.{arith}
 use Rattle.words.specs.Limits.{office, longestCertificate}
 use Rattle.words.specs.Certificate.{certificateWords}
 use Rattle.answers.specs.Answer.{systemOutcome}
@@ -19,7 +20,7 @@ returns c =
     let told = read .before .before in
     let lent = told .before .before .before .before .args .words .now in
     let R = was-read _ _ (told .before .limits .ensures) (told .read-system .ensures) (ap systemOutcome (read .read .given .1)) in
-    solves-short longest certificateWords lent lent _ _ (R .read) (c .if1 .taken) refl refl
+    solves-short longest certificateWords lent lent _ _ (R .read) (omega (arith, c .if1 .taken)) refl refl
 
 solve-read-requires : tie.Need-solve-read-requires
 solve-read-requires c κs =
