@@ -31,6 +31,8 @@ pub mod ForwardLaws
 pub mod PlaceLaws
 pub mod PrefixLaws
 pub mod FaultLaws
+pub mod Rows
+pub mod RowLaws
 pub mod Table
 pub mod FirstFault
 pub mod TableLaws
@@ -40,3 +42,5 @@ pub mod OnTableLaws
 pub mod FirstFaultLaws
 pub mod RefusedLaws
 pub mod TableExamples
+pub mod Pair
+pub mod PairLaws

@@ -7,7 +7,7 @@ use mathlib.Core.Option.{Option, none, some}
 use mathlib.Core.List.{List, _∷_, _++_}
 use Prim.Native.Nat.{ℕ, suc, _/_, _%_, _≤_, _<_}
 use native.Mathlib.Omega.{arith}
-use lib.ListN.{length, getD, take}
+use lib.ListN.{length, getD, take, drop}
 use lib.Dec.{eqb}
 use Rattle.modular.specs.Prime.{prime?}
 use Rattle.modular.specs.Primality.{prime-of-true}
@@ -23,14 +23,15 @@ use Rattle.words.specs.Bytes.{wordsOf, broken, tooLong, readSystemFile}
 use Rattle.words.specs.LimitsLaws.{LimitsFit}
 use Rattle.words.specs.SystemLaws.{systemFormat, system-laws, system-expressible}
 use Rattle.words.specs.CertificateLaws.{certificateFormat, certificate-laws, certificate-expressible}
-use Rattle.words.specs.Table.{row, numberAt, dueAfter, Passed, ByTable, OnTable}
+use Rattle.words.specs.Table.{row, numberAt, dueAfter, Passed, ByTable}
 use Rattle.words.specs.Table.{systemHeadNumber, certificateHeadNumber, systemTable, certificateTable}
-use Rattle.words.specs.Table.OnTable.{at-head, at-end, behind-head}
 use Rattle.words.specs.Table.Expected.{head}
 use Rattle.words.specs.TableLaws.{turned, HeadWalk}
 use Rattle.words.specs.PassLaws.{none-some}
 use Rattle.words.specs.FirstFault.{SystemBegins, SystemWhole, CertificateBegins, CertificateWhole, FirstFault}
 use Rattle.words.specs.OnTableLaws as place
+use Rattle.words.specs.Rows.{InRows, RefusesBy, systemRows, certificateRows, fileRows}
+use Rattle.words.specs.RowLaws.{by-row, numbers-between}
 use Rattle.words.specs.FirstFaultLaws as first
 use Rattle.words.specs.FirstFaultLaws.{Tabled, Roomy}
 
@@ -102,9 +103,10 @@ module _ (limits : Limits) where
   system-number ws {n} {k} e more = place.row-at-word (systemTable limits) 0 ws (system-refused-iff ws n k .0 e) more
 
   -- 1 to 3 at 0, 4 at the number of words, 5 to 9 at a word behind the head
-  pub system-on-table : (ws : List ℕ) {n k : ℕ} → readSystem limits ws ≡ refused n k → OnTable 1 3 0 ws n k
-  system-on-table ws {n} {k} e =
-      place.on-table (systemTable limits) 0 1 3 (system-head-numbers limits) ws (system-refused-iff ws n k .0 e)
+  pub system-rows : (ws : List ℕ) → RefusesBy (systemRows ws) (readSystem limits ws)
+  system-rows ws = record {
+    in-rows = λ n k e. place.on-table (systemTable limits) 0 1 3 (system-head-numbers limits) ws (system-refused-iff ws n k .0 e);
+  }
 
   -- a first fault has one place
   pub system-fault-once : (ws : List ℕ) {n k m j : ℕ} → FirstFault (SystemBegins limits) (SystemWhole limits) 4 ws n k
@@ -172,9 +174,11 @@ module _ (limits : Limits) (h : Shape) where
       place.row-at-word (certificateTable limits h) 20 cs (certificate-refused-iff cs n k .0 e) more
 
   -- 21 at 0, 24 at the number of words, 25 to 29 at a word behind the head
-  pub certificate-on-table : (cs : List ℕ) {n k : ℕ} → readCertificate limits h cs ≡ refused n k → OnTable 21 21 20 cs n k
-  certificate-on-table cs {n} {k} e =
-      place.on-table (certificateTable limits h) 20 21 21 certificate-head-numbers cs (certificate-refused-iff cs n k .0 e)
+  pub certificate-rows : (cs : List ℕ) → RefusesBy (certificateRows cs) (readCertificate limits h cs)
+  certificate-rows cs = record {
+    in-rows = λ n k e.
+        place.on-table (certificateTable limits h) 20 21 21 certificate-head-numbers cs (certificate-refused-iff cs n k .0 e);
+  }
 
   pub certificate-fault-once : (cs : List ℕ) {n k m j : ℕ}
       → FirstFault (CertificateBegins limits h) (CertificateWhole limits h) 24 cs n k
@@ -234,22 +238,22 @@ file-refused-iff limits file n k =
       ⊎-elim (λ t. ten .1 (inl t)) (λ t. ten .1 (inr (t .0, words .1 (t .1)))),
     )
 
+-- 10 at 0, else a row of its words
+pub file-rows : (limits : Limits) (file : List ℕ) → RefusesBy (fileRows (wordsOf file)) (readSystemFile limits file)
+unfolding readSystemFile
+file-rows limits file = by-row (broken file || tooLong limits file) 10 (system-rows limits (wordsOf file))
+
 -- ---- the numbers alone
 
 pub system-numbers : (limits : Limits) (ws : List ℕ) {n k : ℕ} → readSystem limits ws ≡ refused n k
     → (1 ≤ n) × (n ≤ 9)
-system-numbers limits ws {n} e = of-row (system-on-table limits ws e)
-  where
-    of-row : {place : ℕ} → OnTable 1 3 0 ws n place → (1 ≤ n) × (n ≤ 9)
-    of-row (at-head l h _ _) = (omega arith, omega arith)
-    of-row (at-end m _) = (omega arith, omega arith)
-    of-row (behind-head l h _ _) = (omega arith, omega arith)
+system-numbers limits ws {n} {k} e = numbers-between n k 1 9 (systemRows ws) refl (system-rows limits ws .in-rows n k e)
 
 pub certificate-numbers : (limits : Limits) (h : Shape) (cs : List ℕ) {n k : ℕ} → readCertificate limits h cs ≡ refused n k
     → (n ≡ 21) ⊎ ((24 ≤ n) × (n ≤ 29))
-certificate-numbers limits h cs {n} e = of-row (certificate-on-table limits h cs e)
+unfolding InRows
+certificate-numbers limits h cs {n} {k} e = of-row (certificate-rows limits h cs .in-rows n k e)
   where
-    of-row : {place : ℕ} → OnTable 21 21 20 cs n place → (n ≡ 21) ⊎ ((24 ≤ n) × (n ≤ 29))
-    of-row (at-head l m _ _) = inl (omega arith)
-    of-row (at-end m _) = inr (omega arith, omega arith)
-    of-row (behind-head l m _ _) = inr (omega arith, omega arith)
+    of-row : InRows (certificateRows cs) n k → (n ≡ 21) ⊎ ((24 ≤ n) × (n ≤ 29))
+    of-row (inl r) = inl (omega (arith, r .from, r .to))
+    of-row (inr r) = inr (numbers-between n k 24 29 (drop 1 (certificateRows cs)) refl r)

@@ -11,7 +11,7 @@ use Rattle.modular.specs.Primality.{prime-of-true, true-of-prime}
 use Rattle.words.specs.Word.{kind}
 use Rattle.words.specs.Limits.{Limits}
 use Rattle.words.specs.Reading.Reading.{read}
-use Rattle.words.specs.System.{Shape, ShapeWithin, headWord, headShape, oneTo, systemHeadFrom}
+use Rattle.words.specs.System.{Shape, ShapeWithin, headWord, headShape, oneTo, sized, systemHeadFrom}
 use Rattle.words.specs.ReadingLaws.{fault-read, turnBack-read, and-passed}
 use Rattle.words.specs.LimitsLaws.{LimitsFit}
 use Rattle.modular.specs.LargestPrime.{prime-largest}
@@ -91,6 +91,17 @@ module _ (limits : Limits) where
           columns = oneTo-from _ _ (n .1);
         };
       })
+
+  -- what the head of a shape says is that shape
+  pub headShape-headWord : LimitsFit limits → (h : Shape) → ShapeWithin limits h → headShape (headWord h) ≡ h
+  unfolding systemHeadFrom
+  headShape-headWord fit h within =
+      let w = headWord h in
+      let a = turnBack-read (not (eqb (kind w) 1 && eqb (w / 16777216 % 16) 0)) _ _ _ (head-written fit h within []) in
+      let b = turnBack-read (not (prime? (headShape w .modulus))) _ _ _ (a .1) in
+      let c = turnBack-read (not (sized limits (headShape w))) _ _ _ (b .1) in
+      let e = c .1 in
+      cc
 
   pub system-head-laws : LimitsFit limits → HeadLaws (systemHeadFrom limits) headWord (ShapeWithin limits)
   system-head-laws fit =
