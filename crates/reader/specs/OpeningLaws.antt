@@ -15,7 +15,7 @@ use Rattle.words.specs.Outcome.{Outcome, refuse}
 use Rattle.words.specs.Outcome.Outcome.{accepted, refused}
 use Rattle.words.specs.System.{readSystem}
 use Rattle.words.specs.Bytes.{wordsOf, broken, readSystemFile}
-use Rattle.words.specs.BytesLaws.{length-wordsOf}
+use Rattle.words.specs.BytesLaws.{length-wordsOf, or-right}
 use Rattle.reader.specs.Opening.{turnedBack, openedWords, Opened}
 
 -- a file whose limit is its own length has none
@@ -37,10 +37,6 @@ stops true {number} {place} m next e =
     let ep : 0 ≡ place = cc in
     rw (en, ep) refl
 stops false m next e = absurd (let z : _≡_ {A = ℕ} 0 1 = cc in omega arith)
-
-pub or-right : (a b : Bool) → a || b ≡ false → b ≡ false
-or-right true b e = absurd (let z : _≡_ {A = ℕ} 0 1 = cc in omega arith)
-or-right false b e = e
 
 module _ {limit : ℕ} {bytes before after : List ℕ} {told : Outcome ℕ} (opened : Opened limit bytes before after told) where
   -- 10, before anything else

@@ -1,7 +1,7 @@
 -- interface, what contracts, other crates and PROVED.md cite: Limits, Word, Outcome, OutcomeLaws, Reading, Polynomial, Frame,
 --   System, Certificate, Bytes, Examples, WordLaws, ReadingLaws, PolynomialLaws, FrameLaws, LimitsLaws, VectorLaws,
 --   SystemHeadLaws, SystemLaws, CertificateLaws, LongestLaws, WidthLaws, BytesLaws, ForwardLaws, PlaceLaws, PrefixLaws,
---   FaultLaws, Table, FirstFault, RefusedLaws
+--   Table, FirstFault, RefusedLaws, Rows, RowLaws, Pair, PairLaws
 -- inside: FormatLaws, TableLaws, PassLaws, CompleteLaws, OnTableLaws, FirstFaultLaws, TableExamples
 pub mod Limits
 pub mod Word
@@ -30,7 +30,6 @@ pub mod BytesLaws
 pub mod ForwardLaws
 pub mod PlaceLaws
 pub mod PrefixLaws
-pub mod FaultLaws
 pub mod Rows
 pub mod RowLaws
 pub mod Table

@@ -1,5 +1,6 @@
 -- Outcomes taken apart: what stood behind one that was accepted, or refused.
 use mathlib.Core.Path.{_≡_, refl}
+use mathlib.Core.Logic.{_⊎_, inl, inr, ⊎-elim, _↔_}
 use mathlib.Core.Bool.{Bool, true, false}
 use Prim.Native.Nat.{ℕ}
 use native.Mathlib.Omega.{arith}
@@ -34,3 +35,11 @@ pub passed-refuse : {A : Type 0} (t : Bool) (number place : ℕ) (next : Outcome
     → refuse t number place next ≡ accepted a
 passed-refuse true number place next e h = absurd (let z : _≡_ {A = ℕ} 0 1 = cc in omega arith)
 passed-refuse false number place next e h = h
+
+-- a row refuses where its condition holds, and else what comes next does
+pub refuse-refused-iff : {A : Type 0} (t : Bool) (number place : ℕ) (next : Outcome A) (n k : ℕ)
+    → (refuse t number place next ≡ refused n k)
+    ↔ (((t ≡ true) × (n ≡ number) × (k ≡ place)) ⊎ ((t ≡ false) × (next ≡ refused n k)))
+refuse-refused-iff true number place next n k =
+    (λ e. inl (refl, cc, cc), ⊎-elim (λ r. let en = r .1 in let ek = r .2 in cc) (λ r. let z = r .0 in cc))
+refuse-refused-iff false number place next n k = (λ e. inr (refl, e), ⊎-elim (λ r. let z = r .0 in cc) (λ r. r .1))

@@ -6,6 +6,7 @@ use mathlib.Core.List.{List}
 use Rattle.words.specs.Limits.{Limits}
 use Rattle.words.specs.System.{System, shape, SystemWithin, systemWords}
 use Rattle.words.specs.Certificate.{Certificate, CertificateWithin, certificateWords}
+use Rattle.words.specs.Bytes.{bytesOf}
 use Rattle.words.specs.Table.{ByTable, systemTable, certificateTable}
 
 -- the words are the written forms of a system and of a certificate for it, both within the limits, of which something holds
@@ -15,6 +16,16 @@ pub record Written (limits : Limits) (Of : System → Certificate → Type 0) (w
   pub system-words : ws ≡ systemWords system
   pub system-within : SystemWithin limits system
   pub certificate-words : cs ≡ certificateWords certificate
+  pub certificate-within : CertificateWithin limits (shape system) certificate
+  pub holds : Of system certificate
+
+-- the bytes are those of such written forms
+pub record WrittenFiles (limits : Limits) (Of : System → Certificate → Type 0) (f g : List ℕ) : Type 0 where
+  pub system : System
+  pub certificate : Certificate
+  pub system-file : f ≡ bytesOf (systemWords system)
+  pub system-within : SystemWithin limits system
+  pub certificate-file : g ≡ bytesOf (certificateWords certificate)
   pub certificate-within : CertificateWithin limits (shape system) certificate
   pub holds : Of system certificate
 

@@ -3,16 +3,20 @@ use Prim.Native.Nat.{ℕ}
 use mathlib.Core.Path.{_≡_, refl, sym, ap, _∙_, subst}
 use mathlib.Core.Logic.{_↔_}
 use mathlib.Core.List.{List, [], _∷_, _++_}
-use lib.ListN.{getD}
+use lib.ListN.{length, getD}
 use Rattle.words.specs.Limits.{Limits}
 use Rattle.words.specs.LimitsLaws.{LimitsFit}
 use Rattle.words.specs.Outcome.{Outcome, followedBy}
 use Rattle.words.specs.Outcome.Outcome.{accepted, refused}
 use Rattle.words.specs.OutcomeLaws.{followedBy-accepted}
-use Rattle.words.specs.Frame.{framedWords}
+use Rattle.words.specs.Reading.{renumber}
+use Rattle.words.specs.Reading.Reading.{read}
+use Rattle.words.specs.ReadingLaws.{andThen-read, outcome-accepted}
+use Rattle.words.specs.Frame.{Framed, bodyFrom, framedFrom}
 use Rattle.words.specs.System.{System, Shape, shape, headShape, SystemWithin, systemWords, readSystem}
-use Rattle.words.specs.SystemHeadLaws.{headShape-headWord}
-use Rattle.words.specs.SystemLaws.{system-read-of-written, system-written-of-read}
+use Rattle.words.specs.System.{systemHeadFrom, systemDue, systemOf, systemFrom}
+use Rattle.words.specs.SystemHeadLaws.{head-read}
+use Rattle.words.specs.SystemLaws.{systemFrom-shown, system-read-of-written, system-written-of-read}
 use Rattle.words.specs.Certificate.{Certificate, CertificateWithin, certificateWords, readCertificate}
 use Rattle.words.specs.CertificateLaws.{certificate-read-of-written, certificate-written-of-read}
 use Rattle.words.specs.RefusedLaws.{system-refused-iff, certificate-refused-iff, system-rows, certificate-rows}
@@ -100,18 +104,32 @@ module _ (limits : Limits) (fit : LimitsFit limits) {A : Type 0} (next : System 
     pub pair-refused-iff : (both ≡ refused n k) ↔ PairRefused limits Of ws cs n k
     pair-refused-iff = (refused-pair (readSystem limits ws) refl, pair-refused)
 
-  -- the head says the shape
-  head-shape : (s : System) → readSystem limits ws ≡ accepted s → shape s ≡ headShape (getD ws 0 0)
-  unfolding systemWords framedWords
-  head-shape s r =
-      let t = system-written-of-read limits fit ws s r in
-      sym (headShape-headWord limits fit (shape s) (t .1 .shape)) ∙ ap (λ us. headShape (getD us 0 0)) (sym (t .0))
+-- a system's shape is that of the head it was put together with
+shape-of : (v : Framed Shape) (s : System) {h : Shape} {fs : List (List ℕ)} {us vs ts : List ℕ}
+    → read (record { head = h; entries = fs }) us ≡ read v vs → read (systemOf v) vs ≡ read s ts → h ≡ shape s
+unfolding systemOf
+shape-of v s {h} {fs} e f =
+    let framed : record { head = h; entries = fs } ≡ v = cc in
+    let system : systemOf v ≡ s = cc in
+    ap (λ (w : Framed Shape). w .head) framed ∙ ap shape system
 
-  pub pair-rows : (rows : Shape → List Row) → ((s : System) → SystemWithin limits s → (c : Certificate)
-      → CertificateWithin limits (shape s) c → RefusesBy (rows (shape s)) (next s c))
-      → RefusesBy (systemRows ws ++ certificateRows cs ++ rows (headShape (getD ws 0 0))) both
+-- the head says the shape
+head-shape : (limits : Limits) (ws : List ℕ) (s : System) → readSystem limits ws ≡ accepted s → shape s ≡ headShape (getD ws 0 0)
+unfolding systemFrom framedFrom
+head-shape limits ws s r =
+    let t = outcome-accepted (length ws) (systemFrom limits ws) s (sym (systemFrom-shown limits ws) ∙ r) in
+    let u = andThen-read (framedFrom 0 (systemHeadFrom limits) (systemDue limits) ws) (t .1) in
+    let a = andThen-read (systemHeadFrom limits ws) (u .2) in
+    let b = andThen-read (renumber 0 (bodyFrom (systemDue limits (a .0)) (length ws) (a .1))) (a .3) in
+    sym (shape-of (u .0) s (b .3) (u .3)) ∙ head-read limits ws (a .0) (a .1) (a .2) .says
+
+module _ (limits : Limits) {A : Type 0} (next : System → Certificate → Outcome A) (ws cs : List ℕ) where
+  -- the rows of the readings, then those of what is asked of the values
+  pub pair-rows : (rows : Shape → List Row) → ((s : System) → readSystem limits ws ≡ accepted s → (c : Certificate)
+      → readCertificate limits (shape s) cs ≡ accepted c → RefusesBy (rows (shape s)) (next s c))
+      → RefusesBy (systemRows ws ++ certificateRows cs ++ rows (headShape (getD ws 0 0)))
+      (followedBy (readSystem limits ws) (λ s. followedBy (readCertificate limits (shape s) cs) (next s)))
   pair-rows rows values =
-      by-followed (readSystem limits ws) second (system-rows limits ws) (λ s r.
+      by-followed (readSystem limits ws) _ (system-rows limits ws) (λ s r.
       by-followed (readCertificate limits (shape s) cs) (next s) (certificate-rows limits (shape s) cs) (λ c q.
-      subst (λ h. RefusesBy (rows h) (next s c)) (head-shape s r)
-      (values s (system-written-of-read limits fit ws s r .1) c (certificate-written-of-read limits (shape s) cs c q .1))))
+      subst (λ h. RefusesBy (rows h) (next s c)) (head-shape limits ws s r) (values s r c q)))

@@ -5,16 +5,18 @@ use mathlib.Core.Bool.{Bool, true, false, not, _&&_, _||_}
 use mathlib.Core.Logic.{_⊎_, inl, inr, ⊎-elim, _↔_}
 use mathlib.Core.Option.{Option, none, some}
 use mathlib.Core.List.{List, _∷_, _++_}
-use Prim.Native.Nat.{ℕ, suc, _/_, _%_, _≤_, _<_}
+use Prim.Native.Nat.{ℕ, suc, _*_, _/_, _%_, _≤_, _<_}
 use native.Mathlib.Omega.{arith}
 use lib.ListN.{length, getD, take, drop}
 use lib.Dec.{eqb}
+use borrow.Author.Tests.{ltb-false}
 use Rattle.modular.specs.Prime.{prime?}
 use Rattle.modular.specs.Primality.{prime-of-true}
-use Rattle.words.specs.Limits.{Limits}
+use Rattle.words.specs.Limits.{Limits, longestSystem}
 use Rattle.words.specs.Word.{kind, payload}
-use Rattle.words.specs.Outcome.{Outcome, refuse}
 use Rattle.words.specs.Outcome.Outcome.{refused}
+use Rattle.words.specs.OutcomeLaws.{refuse-refused-iff}
+use Rattle.words.specs.BytesLaws.{length-wordsOf, or-right}
 use Rattle.words.specs.Reading.{Reading, turnBack}
 use Rattle.words.specs.System.{Shape, ShapeWithin, headShape, sized, systemWords, systemHeadFrom, systemDue, readSystem}
 use Rattle.words.specs.Certificate.{formOf, certificateHeadFrom, certificateDue, certificateWords, readCertificate}
@@ -220,19 +222,13 @@ module _ (limits : Limits) (h : Shape) where
 
 -- ---- files: "Number 10 comes before all others."
 
-ten-or : {A : Type 0} (b : Bool) (o : Outcome A) (n k : ℕ)
-    → (refuse b 10 0 o ≡ refused n k) ↔ (((b ≡ true) × (n ≡ 10) × (k ≡ 0)) ⊎ ((b ≡ false) × (o ≡ refused n k)))
-ten-or {A} true o n k =
-    (λ e. inl (refl, cc, cc), ⊎-elim (λ t. let en = t .1 in let ek = t .2 in cc) (λ t. let z = t .0 in cc))
-ten-or false o n k = (λ e. inr (refl, e), ⊎-elim (λ t. let z = t .0 in cc) (λ t. t .1))
-
 -- 10 at 0 just of a file that is not a multiple of four bytes, or too long; of any other file, what its words are refused by
 pub file-refused-iff : (limits : Limits) (file : List ℕ) (n k : ℕ) → (readSystemFile limits file ≡ refused n k)
     ↔ (((broken file || tooLong limits file ≡ true) × (n ≡ 10) × (k ≡ 0))
     ⊎ ((broken file || tooLong limits file ≡ false) × ByTable (systemTable limits) 0 (wordsOf file) n k))
 unfolding readSystemFile
 file-refused-iff limits file n k =
-    let ten = ten-or (broken file || tooLong limits file) (readSystem limits (wordsOf file)) n k in
+    let ten = refuse-refused-iff (broken file || tooLong limits file) 10 0 (readSystem limits (wordsOf file)) n k in
     let words = system-refused-iff limits (wordsOf file) n k in (
       λ e. ⊎-elim inl (λ t. inr (t .0, words .0 (t .1))) (ten .0 e),
       ⊎-elim (λ t. ten .1 (inl t)) (λ t. ten .1 (inr (t .0, words .1 (t .1)))),
@@ -242,6 +238,15 @@ file-refused-iff limits file n k =
 pub file-rows : (limits : Limits) (file : List ℕ) → RefusesBy (fileRows (wordsOf file)) (readSystemFile limits file)
 unfolding readSystemFile
 file-rows limits file = by-row (broken file || tooLong limits file) 10 (system-rows limits (wordsOf file))
+
+-- so a place in a file that passes 10 is at most the number of words of the longest system
+pub file-place : (limits : Limits) (file : List ℕ) {n k : ℕ} → readSystemFile limits file ≡ refused n k → k ≤ longestSystem limits
+file-place limits file {n} {k} e = ⊎-elim (λ t. omega (arith, t .2)) words (file-refused-iff limits file n k .0 e)
+  where
+    words : (broken file || tooLong limits file ≡ false) × ByTable (systemTable limits) 0 (wordsOf file) n k → k ≤ longestSystem limits
+    words t =
+        let short = ltb-false (4 * longestSystem limits) (length file) (or-right (broken file) (tooLong limits file) (t .0)) in
+        omega (arith, t .1 .within, length-wordsOf file, short)
 
 -- ---- the numbers alone
 

@@ -1,9 +1,10 @@
 -- The head of a system: reading what was written, and what was read.
-use mathlib.Core.Path.{_≡_, ap, subst₂}
+use mathlib.Core.Path.{_≡_, refl, ap, subst₂}
 use mathlib.Core.Bool.{true, not, _&&_}
 use mathlib.Core.List.{List, [], _∷_}
 use Prim.Native.Nat.{ℕ, _+_, _*_, _/_, _%_, _≤_, _<_}
 use native.Mathlib.Omega.{arith}
+use lib.ListN.{getD}
 use lib.Dec.{eqb, leb}
 use borrow.Author.Tests.{eqb-true, eq-eqb, not-false, le-leb, leb-true}
 use Rattle.modular.specs.Prime.{prime?}
@@ -11,7 +12,7 @@ use Rattle.modular.specs.Primality.{prime-of-true, true-of-prime}
 use Rattle.words.specs.Word.{kind}
 use Rattle.words.specs.Limits.{Limits}
 use Rattle.words.specs.Reading.Reading.{read}
-use Rattle.words.specs.System.{Shape, ShapeWithin, headWord, headShape, oneTo, sized, systemHeadFrom}
+use Rattle.words.specs.System.{Shape, ShapeWithin, headWord, headShape, oneTo, systemHeadFrom}
 use Rattle.words.specs.ReadingLaws.{fault-read, turnBack-read, and-passed}
 use Rattle.words.specs.LimitsLaws.{LimitsFit}
 use Rattle.modular.specs.LargestPrime.{prime-largest}
@@ -66,6 +67,7 @@ module _ (limits : Limits) where
 
   pub record HeadRead (ws : List ℕ) (h : Shape) (rest : List ℕ) : Type 0 where
     pub words : ws ≡ headWord h ∷ rest
+    pub says : h ≡ headShape (getD ws 0 0)
     pub within : ShapeWithin limits h
 
   pub head-read : (ws : List ℕ) (h : Shape) (rest : List ℕ) → systemHeadFrom limits ws ≡ read h rest → HeadRead ws h rest
@@ -83,6 +85,7 @@ module _ (limits : Limits) where
       let er : ws ≡ rest = cc in
       subst₂ (HeadRead (w ∷ ws)) eh er
       (record {
+        says = refl;
         words = ap (λ (v : ℕ). v ∷ ws) (head-word w (eqb-true (kind w) 1 (k .0)) (eqb-true (w / 16777216 % 16) 0 (k .1)));
         within = record {
           prime = prime;
@@ -91,17 +94,6 @@ module _ (limits : Limits) where
           columns = oneTo-from _ _ (n .1);
         };
       })
-
-  -- what the head of a shape says is that shape
-  pub headShape-headWord : LimitsFit limits → (h : Shape) → ShapeWithin limits h → headShape (headWord h) ≡ h
-  unfolding systemHeadFrom
-  headShape-headWord fit h within =
-      let w = headWord h in
-      let a = turnBack-read (not (eqb (kind w) 1 && eqb (w / 16777216 % 16) 0)) _ _ _ (head-written fit h within []) in
-      let b = turnBack-read (not (prime? (headShape w .modulus))) _ _ _ (a .1) in
-      let c = turnBack-read (not (sized limits (headShape w))) _ _ _ (b .1) in
-      let e = c .1 in
-      cc
 
   pub system-head-laws : LimitsFit limits → HeadLaws (systemHeadFrom limits) headWord (ShapeWithin limits)
   system-head-laws fit =
