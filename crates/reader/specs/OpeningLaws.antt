@@ -44,6 +44,10 @@ module _ {limit : ℕ} {bytes before after : List ℕ} {told : Outcome ℕ} (ope
       → refuse (turnedBack limit bytes) 10 0 next ≡ refused number place
   opened-stops e next = stops (turnedBack limit bytes) _ next (sym e ∙ opened .count)
 
+  -- "no lent word changes"
+  pub opened-unchanged : {number place : ℕ} → told ≡ refused number place → after ≡ before
+  opened-unchanged e = opened .words ∙ ap (λ o. openedWords o bytes before) e
+
   module _ {n : ℕ} (e : told ≡ accepted n) where
     passed : (turnedBack limit bytes ≡ false) × (n ≡ min (length (wordsOf bytes)) (length before))
     passed = passes (turnedBack limit bytes) _ (sym e ∙ opened .count)

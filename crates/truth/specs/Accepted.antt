@@ -15,15 +15,15 @@ use Rattle.modular.specs.DivisionLaws.{divisionLaws}
 use Rattle.words.specs.Limits.{Limits}
 use Rattle.words.specs.LimitsLaws.{LimitsFit}
 use Rattle.words.specs.Polynomial.{AllWithin}
-use Rattle.words.specs.System.{System, shape, rightSide, SystemWithin}
+use Rattle.words.specs.System.{System, shape, sideEntry, SystemWithin}
 use Rattle.words.specs.Certificate.{Certificate, CertificateWithin, SolutionWithin}
 use Rattle.words.specs.Certificate.Certificate.{solution, absence}
 use Rattle.words.specs.Outcome.{Outcome, refuse}
 use Rattle.words.specs.Outcome.Outcome.{accepted}
 use Rattle.words.specs.OutcomeLaws.{refuse-passed, passed-refuse}
-use Rattle.words.specs.Pair.{Written}
+use Rattle.words.specs.Pair.{WrittenForms}
 use Rattle.words.specs.PairLaws.{written-map, pair-of-written, pair-accepted-iff}
-use Rattle.truth.specs.Solution.{AllCanonical, Monic, Divides, rowOf, columnOf, sideOf}
+use Rattle.truth.specs.Solution.{AllCanonical, Monic, DividesModulo, rowOf, columnOf, sideOf}
 use Rattle.truth.specs.Right.{RightSolution, RightAbsence, Right, certified}
 use Rattle.truth.specs.Verdict.{monic?, zero?, same?, refuseFirst, solutionVerdict, absenceVerdict, certificateVerdict, verdict}
 use Rattle.truth.specs.Lift.{Proper, ringOf, equations, vector, column-list, divides-list, divides-lift}
@@ -41,7 +41,7 @@ pub proper : (limits : Limits) (s : System) → SystemWithin limits s → Proper
 proper limits s h = record {
   prime = h .shape .prime;
   matrix = all-canonical (s .modulus) (limits .systemCoefficients) (s .matrix) (h .matrix .entries);
-  right = all-canonical (s .modulus) (limits .systemCoefficients) (s .right) (h .right .entries);
+  side = all-canonical (s .modulus) (limits .systemCoefficients) (s .side) (h .side .entries);
 }
 
 pub proper-solution : (limits : Limits) (s : System) (d : List ℕ) (N : List (List ℕ)) (w : List ℕ) (Z : List (List ℕ))
@@ -69,20 +69,20 @@ module _ (s : System) (h : Proper s) where
     remainder-list : (j : ℕ) → remainder (modulo p) (column j .0) w ≡ remainder (modulo p) (columnOf s Z j) w
     remainder-list j = ap (λ f. remainder (modulo p) f w) (column-list s h Z hZ j)
 
-    pub column-divides : (j : ℕ) → remainder (modulo p) (columnOf s Z j) w ≡ [] → Divides p w (columnOf s Z j)
+    pub column-divides : (j : ℕ) → remainder (modulo p) (columnOf s Z j) w ≡ [] → DividesModulo p w (columnOf s Z j)
     unfolding numbers
-    column-divides j e = subst (Divides p w) (column-list s h Z hZ j)
+    column-divides j e = subst (DividesModulo p w) (column-list s h Z hZ j)
         (divides-list p (h .prime) {d = W} {f = column j} (divisionLaws p (h .prime) .remainder-divides (column j) W (equal-numbers p _ _ (remainder-list j ∙ e))))
 
-    pub divides-column : (j : ℕ) → Divides p w (columnOf s Z j) → remainder (modulo p) (columnOf s Z j) w ≡ []
+    pub divides-column : (j : ℕ) → DividesModulo p w (columnOf s Z j) → remainder (modulo p) (columnOf s Z j) w ≡ []
     unfolding numbers
     divides-column j d = sym (remainder-list j) ∙ ap (λ x. x .0) (divisionLaws p (h .prime) .divides-remainder (column j) W
-        (divides-lift p (h .prime) W (column j) (subst (Divides p w) (sym (column-list s h Z hZ j)) d)))
+        (divides-lift p (h .prime) W (column j) (subst (DividesModulo p w) (sym (column-list s h Z hZ j)) d)))
 
   -- the rows 31 to 34 and the four conditions
   module _ {d : List ℕ} {N : List (List ℕ)} {w : List ℕ} {Z : List (List ℕ)} (P : ProperSolution s d N w Z) where
     wrong-row : ℕ → Bool
-    wrong-row i = not (same? (rowOf s N i) (mul (modulo p) d (rightSide s i)))
+    wrong-row i = not (same? (rowOf s N i) (mul (modulo p) d (sideEntry s i)))
 
     wrong-column : ℕ → Bool
     wrong-column j = not (zero? (remainder (modulo p) (columnOf s Z j) w))
@@ -151,7 +151,7 @@ module _ (s : System) (q : List (List ℕ)) where
 
 -- the words are the written forms of a system within the limits and of a right certificate for it
 abbrev pub AcceptedWords : Limits → (ws cs : List ℕ) → Type 0
-AcceptedWords limits ws cs = Written limits Right ws cs
+AcceptedWords limits ws cs = WrittenForms limits Right ws cs
 
 module _ (limits : Limits) (fit : LimitsFit limits) where
   pub verdict-right : (s : System) (h : SystemWithin limits s) (c : Certificate) → CertificateWithin limits (shape s) c
@@ -167,7 +167,7 @@ module _ (limits : Limits) (fit : LimitsFit limits) where
   right-verdict s h (absence q) k r = absent-accepted s q r
 
   -- the verdict on written forms is that on what they are written of
-  pub verdict-of-written : {Of : System → Certificate → Type 0} {ws cs : List ℕ} (w : Written limits Of ws cs)
+  pub verdict-of-written : {Of : System → Certificate → Type 0} {ws cs : List ℕ} (w : WrittenForms limits Of ws cs)
       → verdict limits ws cs ≡ certificateVerdict (w .system) (w .certificate)
   unfolding verdict
   verdict-of-written {ws = ws} {cs} w = pair-of-written limits fit certificateVerdict ws cs w

@@ -10,7 +10,7 @@ use Rattle.words.specs.SystemLaws.{systemWords-injective, system-written-of-rea
 use Rattle.words.specs.Certificate.{Certificate, CertificateWithin, certificateWords, readCertificate}
 use Rattle.words.specs.CertificateLaws.{certificate-written-of-read}
 use Rattle.words.specs.Certificate.Certificate.{solution, absence}
-use Rattle.words.specs.Pair.{Written}
+use Rattle.words.specs.Pair.{WrittenForms}
 use Rattle.truth.specs.Solution.{RationalSolution, Denominator, LeastDenominator}
 use Rattle.truth.specs.Right.{Right}
 use Rattle.truth.specs.Verdict.{verdict}
@@ -50,7 +50,7 @@ module _ (limits : Limits) where
   verdict-true fit s c e f g =
       let h = system-written-of-read limits fit (systemWords s) s e .1 in
       let k = certificate-written-of-read limits (shape s) (certificateWords c) c f .1 in
-      let w : Written limits (λ s c. Unit {0}) (systemWords s) (certificateWords c) = record {
+      let w : WrittenForms limits (λ s c. Unit {0}) (systemWords s) (certificateWords c) = record {
         system = s;
         certificate = c;
         system-words = refl;

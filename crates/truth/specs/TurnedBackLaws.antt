@@ -13,10 +13,10 @@ use Rattle.words.specs.Limits.{Limits}
 use Rattle.words.specs.Outcome.{Outcome, refuse}
 use Rattle.words.specs.Outcome.Outcome.{accepted, refused}
 use Rattle.words.specs.OutcomeLaws.{refused-accepted}
-use Rattle.words.specs.System.{System, shape, rightSide, SystemWithin}
+use Rattle.words.specs.System.{System, shape, sideEntry, SystemWithin}
 use Rattle.words.specs.Certificate.{Certificate, CertificateWithin}
 use Rattle.words.specs.Certificate.Certificate.{solution, absence}
-use Rattle.words.specs.Rows.{InRow, InRows, numbers, valueRows}
+use Rattle.words.specs.Rows.{InRow, InRows, rowWith, valueRows}
 use Rattle.truth.specs.Solution.{rowOf, columnOf, sideOf, Monic}
 use Rattle.truth.specs.Right.{certified}
 use Rattle.truth.specs.Verdict.{monic?, zero?, same?, refuseFirst, solutionVerdict, absenceVerdict, certificateVerdict}
@@ -130,14 +130,14 @@ module _ (s : System) (h : Proper s) {d : List ℕ} {N : List (List ℕ)} {w : L
   p = s .modulus
 
   wrong-row : ℕ → Bool
-  wrong-row i = not (same? (rowOf s N i) (mul (modulo p) d (rightSide s i)))
+  wrong-row i = not (same? (rowOf s N i) (mul (modulo p) d (sideEntry s i)))
 
   wrong-column : ℕ → Bool
   wrong-column j = not (zero? (remainder (modulo p) (columnOf s Z j) w))
 
   row-passes : (i : ℕ) → Passes (wrong-row i) (RowSolved s d N i)
   unfolding wrong-row
-  row-passes i = same-passes (rowOf s N i) (mul (modulo p) d (rightSide s i))
+  row-passes i = same-passes (rowOf s N i) (mul (modulo p) d (sideEntry s i))
 
   column-passes : (j : ℕ) → Passes (wrong-column j) (ColumnDivided s w Z j)
   unfolding wrong-column
@@ -331,7 +331,7 @@ module _ (s : System) (q : List (List ℕ)) where
 
 -- ---- any certificate within the limits
 
-in-row : {n below number place : ℕ} → number ≡ n → place < below → InRow (numbers n n 0 below) number place
+in-row : {n below number place : ℕ} → number ≡ n → place < below → InRow (rowWith n n 0 below) number place
 in-row e h = record { from = omega arith; to = omega arith; after = omega arith; before = h }
 
 pub refused-iff-fault : (limits : Limits) (s : System) → SystemWithin limits s → (c : Certificate) → CertificateWithin limits (shape s) c

@@ -16,12 +16,12 @@ pub record Row : Type 0 where
   pub first : ℕ
   pub below : ℕ
 
-abbrev pub numbers : (lowest highest first below : ℕ) → Row
-numbers lowest highest first below = record { lowest = lowest; highest = highest; first = first; below = below }
+abbrev pub rowWith : (lowest highest first below : ℕ) → Row
+rowWith lowest highest first below = record { lowest = lowest; highest = highest; first = first; below = below }
 
 -- one number, at place 0
 abbrev pub at-0 : ℕ → Row
-at-0 number = numbers number number 0 1
+at-0 number = rowWith number number 0 1
 
 pub record InRow (r : Row) (number place : ℕ) : Type 0 where
   pub from : r .lowest ≤ number
@@ -42,7 +42,7 @@ pub record RefusesBy {A : Type 0} (rows : List Row) (o : Outcome A) : Type 0 whe
 
 abbrev pub wordsRows : (lowest highest by count : ℕ) → List Row
 wordsRows lowest highest by count =
-    numbers lowest highest 0 1 ∷ numbers (4 + by) (4 + by) count (suc count) ∷ numbers (5 + by) (9 + by) 1 count ∷ []
+    rowWith lowest highest 0 1 ∷ rowWith (4 + by) (4 + by) count (suc count) ∷ rowWith (5 + by) (9 + by) 1 count ∷ []
 
 -- 1 to 9 of a system's words
 abbrev pub systemRows : List ℕ → List Row
@@ -56,7 +56,7 @@ certificateRows cs = wordsRows 21 21 20 (length cs)
 
 abbrev pub valueRows : Shape → List Row
 valueRows h =
-    numbers 31 31 0 2 ∷ numbers 32 32 0 (h .rows) ∷ numbers 33 33 0 (h .columns) ∷ at-0 34 ∷ numbers 35 35 0 (h .columns) ∷ at-0 36
+    rowWith 31 31 0 2 ∷ rowWith 32 32 0 (h .rows) ∷ rowWith 33 33 0 (h .columns) ∷ at-0 34 ∷ rowWith 35 35 0 (h .columns) ∷ at-0 36
     ∷ []
 
 -- ---- entries
