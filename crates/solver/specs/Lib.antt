@@ -2,6 +2,7 @@
 pub mod Solving
 pub mod SolvingLaws
 pub mod FileLaws
+pub mod RefusedLaws
 -- interface: a right certificate in the output area
 pub mod Certified
 pub mod OutputLaws

@@ -21,7 +21,7 @@ use Rattle.words.specs.Certificate.Certificate.{solution, absence}
 use Rattle.words.specs.Outcome.{Outcome, refuse}
 use Rattle.words.specs.Outcome.Outcome.{accepted}
 use Rattle.words.specs.OutcomeLaws.{refuse-passed, passed-refuse}
-use Rattle.words.specs.Pair.{WrittenForms}
+use Rattle.words.specs.Pair.{WrittenPair}
 use Rattle.words.specs.PairLaws.{written-map, pair-of-written, pair-accepted-iff}
 use Rattle.truth.specs.Solution.{AllCanonical, Monic, DividesModulo, rowOf, columnOf, sideOf}
 use Rattle.truth.specs.Right.{RightSolution, RightAbsence, Right, certified}
@@ -151,7 +151,7 @@ module _ (s : System) (q : List (List ℕ)) where
 
 -- the words are the written forms of a system within the limits and of a right certificate for it
 abbrev pub AcceptedWords : Limits → (ws cs : List ℕ) → Type 0
-AcceptedWords limits ws cs = WrittenForms limits Right ws cs
+AcceptedWords limits ws cs = WrittenPair limits Right ws cs
 
 module _ (limits : Limits) (fit : LimitsFit limits) where
   pub verdict-right : (s : System) (h : SystemWithin limits s) (c : Certificate) → CertificateWithin limits (shape s) c
@@ -167,7 +167,7 @@ module _ (limits : Limits) (fit : LimitsFit limits) where
   right-verdict s h (absence q) k r = absent-accepted s q r
 
   -- the verdict on written forms is that on what they are written of
-  pub verdict-of-written : {Of : System → Certificate → Type 0} {ws cs : List ℕ} (w : WrittenForms limits Of ws cs)
+  pub verdict-of-written : {Of : System → Certificate → Type 0} {ws cs : List ℕ} (w : WrittenPair limits Of ws cs)
       → verdict limits ws cs ≡ certificateVerdict (w .system) (w .certificate)
   unfolding verdict
   verdict-of-written {ws = ws} {cs} w = pair-of-written limits fit certificateVerdict ws cs w

@@ -12,7 +12,7 @@ use Rattle.words.specs.Outcome.Outcome.{accepted}
 use Rattle.words.specs.System.{System, shape, SystemWithin}
 use Rattle.words.specs.Certificate.{Certificate, CertificateWithin}
 use Rattle.words.specs.Certificate.Certificate.{solution, absence}
-use Rattle.words.specs.Pair.{WrittenForms}
+use Rattle.words.specs.Pair.{WrittenPair}
 use Rattle.words.specs.PairLaws.{written-map}
 use Rattle.truth.specs.Right.{Right}
 use Rattle.truth.specs.Verdict.{verdict}
@@ -22,7 +22,7 @@ use Rattle.truth.specs.CertifiedLaws.{right-iff-certified, absent-iff-ce
 
 -- the words are the written forms of a system within the limits and of a certificate of which the conditions hold
 abbrev pub CertifiedWords : Limits → (ws cs : List ℕ) → Type 0
-CertifiedWords limits ws cs = WrittenForms limits Certified ws cs
+CertifiedWords limits ws cs = WrittenPair limits Certified ws cs
 
 module _ (limits : Limits) where
   -- of values within the limits

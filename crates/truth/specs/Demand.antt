@@ -10,11 +10,11 @@ use Rattle.words.specs.SystemLaws.{systemWords-injective, system-written-of-rea
 use Rattle.words.specs.Certificate.{Certificate, CertificateWithin, certificateWords, readCertificate}
 use Rattle.words.specs.CertificateLaws.{certificate-written-of-read}
 use Rattle.words.specs.Certificate.Certificate.{solution, absence}
-use Rattle.words.specs.Pair.{WrittenForms}
+use Rattle.words.specs.Pair.{WrittenPair}
 use Rattle.truth.specs.Solution.{RationalSolution, Denominator, LeastDenominator}
 use Rattle.truth.specs.Right.{Right}
 use Rattle.truth.specs.Verdict.{verdict}
-use Rattle.truth.specs.Truth.{right-solves, right-denominator, right-least, right-absent, never-both}
+use Rattle.truth.specs.Truth.{right-solves, right-denominator, right-least, right-absent}
 use Rattle.truth.specs.Accepted.{AcceptedWords, words-of-accepted, verdict-of-written, verdict-right, proper, proper-solution, all-canonical}
 
 -- what a solution says: N/d solves the system, d is its denominator, and the least one
@@ -50,7 +50,7 @@ module _ (limits : Limits) where
   verdict-true fit s c e f g =
       let h = system-written-of-read limits fit (systemWords s) s e .1 in
       let k = certificate-written-of-read limits (shape s) (certificateWords c) c f .1 in
-      let w : WrittenForms limits (λ s c. Unit {0}) (systemWords s) (certificateWords c) = record {
+      let w : WrittenPair limits (λ s c. Unit {0}) (systemWords s) (certificateWords c) = record {
         system = s;
         certificate = c;
         system-words = refl;
@@ -60,18 +60,3 @@ module _ (limits : Limits) where
         holds = tt;
       } in
       right-true s h c k (verdict-right limits fit s h c k (sym (verdict-of-written limits fit w) ∙ g))
-
-  -- no system's words are accepted with certificates of both kinds
-  pub accepted-once : (fit : LimitsFit limits) (ws cs es : List ℕ) (a : AcceptedWords limits ws cs) (b : AcceptedWords limits ws es)
-      → (d : List ℕ) (N : List (List ℕ)) (w : List ℕ) (Z q : List (List ℕ)) → a .certificate ≡ solution d N w Z → b .certificate ≡ absence q → ⊥
-  unfolding Right CertificateWithin
-  accepted-once fit ws cs es a b d N w Z q e f =
-      let s = a .system in
-      let same : b .system ≡ s = systemWords-injective limits fit (b .system) s (b .system-within) (a .system-within)
-      (sym (b .system-words) ∙ a .system-words) in
-      let k = subst (CertificateWithin limits (shape s)) e (a .certificate-within) in
-      let r = subst (Right s) e (a .holds) in
-      let l = subst (λ t. CertificateWithin limits (shape t) (absence q)) same (subst (CertificateWithin limits (shape (b .system))) f (b .certificate-within)) in
-      let t = subst (λ t. Right t (absence q)) same (subst (Right (b .system)) f (b .holds)) in
-      never-both s (proper limits s (a .system-within)) (proper-solution limits s d N w Z k) r
-      (all-canonical (s .modulus) (limits .certificateCoefficients) q (l .entries)) t

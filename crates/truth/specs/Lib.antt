@@ -1,5 +1,5 @@
 -- interface, what contracts, other crates and PROVED.md cite: Solution, Listed, Right, Verdict, Truth, RefusalLaws, Accepted, Demand,
---   Denominators, Cases, Prefix, Certified, CertifiedLaws, CertifiedWords, TurnedBack, TurnedBackLaws, DemandLaws,
+--   Denominators, Cases, RowExamples, Prefix, Certified, CertifiedLaws, CertifiedWords, TurnedBack, TurnedBackLaws, DemandLaws,
 --   RefusedWords
 -- inside: Witness, Lift, Fractions, CertifiedTruth
 pub mod Witness
@@ -14,6 +14,7 @@ pub mod Accepted
 pub mod Demand
 pub mod Denominators
 pub mod Cases
+pub mod RowExamples
 pub mod Prefix
 pub mod Fractions
 pub mod Certified

@@ -19,7 +19,7 @@ use Rattle.words.specs.SystemLaws.{systemWords-most, systemWords-injective}
 use Rattle.words.specs.Certificate.{Certificate, certificateWords}
 use Rattle.words.specs.Bytes.{wordsOf, bytesOf, broken, tooLong}
 use Rattle.words.specs.BytesLaws.{wordsOf-bytesOf, bytesOf-wordsOf, length-bytesOf, or-left, or-right}
-use Rattle.words.specs.Pair.{WrittenForms, WrittenFiles}
+use Rattle.words.specs.Pair.{WrittenPair, WrittenFiles}
 use Rattle.truth.specs.Verdict.{verdict}
 use Rattle.truth.specs.Demand.{True}
 use Rattle.truth.specs.Certified.{Certified}
@@ -41,7 +41,7 @@ whole-words ws =
 
 module _ (limits : Limits) (fit : LimitsFit limits) {Of : System → Certificate → Type 0} (f g : List ℕ) where
   -- files of written forms are not turned back by 10, and their words are the written forms
-  pub words-of-files : WrittenFiles limits Of f g → (filesBroken limits f g ≡ false) × WrittenForms limits Of (wordsOf f) (wordsOf g)
+  pub words-of-files : WrittenFiles limits Of f g → (filesBroken limits f g ≡ false) × WrittenPair limits Of (wordsOf f) (wordsOf g)
   words-of-files a = (
     passed,
     record {
@@ -64,7 +64,7 @@ module _ (limits : Limits) (fit : LimitsFit limits) {Of : System → Certificate
           let certificate = whole-words (certificateWords (a .certificate)) in
           rw (a .system-file, a .certificate-file) (simp (system, short, certificate))
 
-  pub files-of-words : Bytes f → Bytes g → filesBroken limits f g ≡ false → WrittenForms limits Of (wordsOf f) (wordsOf g)
+  pub files-of-words : Bytes f → Bytes g → filesBroken limits f g ≡ false → WrittenPair limits Of (wordsOf f) (wordsOf g)
       → WrittenFiles limits Of f g
   files-of-words small-f small-g e a =
       let system = or-left (broken f) (tooLong limits f) (or-left (broken f || tooLong limits f) (broken g) e) in

@@ -1,7 +1,7 @@
 -- interface, what contracts, other crates and PROVED.md cite: Limits, Word, Outcome, OutcomeLaws, Reading, Polynomial, Frame,
 --   System, Certificate, Bytes, Examples, WordLaws, ReadingLaws, PolynomialLaws, FrameLaws, LimitsLaws, VectorLaws,
 --   SystemHeadLaws, SystemLaws, CertificateLaws, LongestLaws, WidthLaws, BytesLaws, ForwardLaws, PlaceLaws, PrefixLaws,
---   Table, FirstFault, RefusedLaws, Rows, RowLaws, Pair, PairLaws
+--   Table, FirstFault, TenFirst, RefusedLaws, Rows, RowLaws, Pair, PairLaws
 -- inside: FormatLaws, TableLaws, PassLaws, CompleteLaws, OnTableLaws, FirstFaultLaws, TableExamples
 pub mod Limits
 pub mod Word
@@ -34,6 +34,7 @@ pub mod Rows
 pub mod RowLaws
 pub mod Table
 pub mod FirstFault
+pub mod TenFirst
 pub mod TableLaws
 pub mod PassLaws
 pub mod CompleteLaws

@@ -10,7 +10,7 @@ use Rattle.words.specs.Bytes.{bytesOf}
 use Rattle.words.specs.Table.{ByTable, systemTable, certificateTable}
 
 -- the words are the written forms of a system and of a certificate for it, both within the limits, of which something holds
-pub record WrittenForms (limits : Limits) (Of : System → Certificate → Type 0) (ws cs : List ℕ) : Type 0 where
+pub record WrittenPair (limits : Limits) (Of : System → Certificate → Type 0) (ws cs : List ℕ) : Type 0 where
   pub system : System
   pub certificate : Certificate
   pub system-words : ws ≡ systemWords system
@@ -35,4 +35,4 @@ pub data PairRefused (limits : Limits) (Of : System → Certificate → (number 
   by-system : ByTable (systemTable limits) 0 ws number place → PairRefused limits Of ws cs number place
   by-certificate : (s : System) → ws ≡ systemWords s → SystemWithin limits s
       → ByTable (certificateTable limits (shape s)) 20 cs number place → PairRefused limits Of ws cs number place
-  by-values : WrittenForms limits (λ s c. Of s c number place) ws cs → PairRefused limits Of ws cs number place
+  by-values : WrittenPair limits (λ s c. Of s c number place) ws cs → PairRefused limits Of ws cs number place

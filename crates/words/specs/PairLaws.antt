@@ -22,13 +22,13 @@ use Rattle.words.specs.CertificateLaws.{certificate-read-of-written, cer
 use Rattle.words.specs.RefusedLaws.{system-refused-iff, certificate-refused-iff, system-rows, certificate-rows}
 use Rattle.words.specs.Rows.{Row, RefusesBy, systemRows, certificateRows}
 use Rattle.words.specs.RowLaws.{by-followed}
-use Rattle.words.specs.Pair.{WrittenForms, PairRefused}
+use Rattle.words.specs.Pair.{WrittenPair, PairRefused}
 use Rattle.words.specs.Pair.PairRefused.{by-system, by-certificate, by-values}
 
 -- what holds of the values may be said otherwise
 pub written-map : (limits : Limits) {Of Say : System → Certificate → Type 0} {ws cs : List ℕ}
     → ((s : System) → SystemWithin limits s → (c : Certificate) → CertificateWithin limits (shape s) c → Of s c → Say s c)
-    → WrittenForms limits Of ws cs → WrittenForms limits Say ws cs
+    → WrittenPair limits Of ws cs → WrittenPair limits Say ws cs
 written-map limits f a = record {
   system = a .system;
   certificate = a .certificate;
@@ -47,7 +47,7 @@ module _ (limits : Limits) (fit : LimitsFit limits) {A : Type 0} (next : System 
   both = followedBy (readSystem limits ws) second
 
   -- of written forms it is what is asked of the values
-  pub pair-of-written : {Of : System → Certificate → Type 0} (w : WrittenForms limits Of ws cs) → both ≡ next (w .system) (w .certificate)
+  pub pair-of-written : {Of : System → Certificate → Type 0} (w : WrittenPair limits Of ws cs) → both ≡ next (w .system) (w .certificate)
   pair-of-written w =
       ap (λ o. followedBy o second) (ap (readSystem limits) (w .system-words) ∙ system-read-of-written limits fit (w .system) (w .system-within))
       ∙ ap (λ o. followedBy o (next (w .system)))
@@ -56,7 +56,7 @@ module _ (limits : Limits) (fit : LimitsFit limits) {A : Type 0} (next : System 
 
   -- where both are read they are written forms
   written : {Of : System → Certificate → Type 0} (s : System) (c : Certificate) → readSystem limits ws ≡ accepted s
-      → readCertificate limits (shape s) cs ≡ accepted c → Of s c → WrittenForms limits Of ws cs
+      → readCertificate limits (shape s) cs ≡ accepted c → Of s c → WrittenPair limits Of ws cs
   written s c r q h =
       let system-read = system-written-of-read limits fit ws s r in
       let certificate-read = certificate-written-of-read limits (shape s) cs c q in
@@ -70,7 +70,7 @@ module _ (limits : Limits) (fit : LimitsFit limits) {A : Type 0} (next : System 
         holds = h;
       }
 
-  pub pair-accepted-iff : (a : A) → (both ≡ accepted a) ↔ WrittenForms limits (λ s c. next s c ≡ accepted a) ws cs
+  pub pair-accepted-iff : (a : A) → (both ≡ accepted a) ↔ WrittenPair limits (λ s c. next s c ≡ accepted a) ws cs
   pair-accepted-iff a = (
     λ e.
         let first = followedBy-accepted (readSystem limits ws) second e in

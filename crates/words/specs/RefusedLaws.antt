@@ -7,13 +7,14 @@ use mathlib.Core.Option.{Option, none, some}
 use mathlib.Core.List.{List, _∷_, _++_}
 use Prim.Native.Nat.{ℕ, suc, _*_, _/_, _%_, _≤_, _<_}
 use native.Mathlib.Omega.{arith}
-use lib.ListN.{length, getD, take, drop}
+use lib.ListN.{length, getD, take}
 use lib.Dec.{eqb}
 use borrow.Author.Tests.{ltb-false}
 use Rattle.modular.specs.Prime.{prime?}
 use Rattle.modular.specs.Primality.{prime-of-true}
 use Rattle.words.specs.Limits.{Limits, longestSystem}
 use Rattle.words.specs.Word.{kind, payload}
+use Rattle.words.specs.Outcome.{Outcome, refuse}
 use Rattle.words.specs.Outcome.Outcome.{refused}
 use Rattle.words.specs.OutcomeLaws.{refuse-refused-iff}
 use Rattle.words.specs.BytesLaws.{length-wordsOf, or-right}
@@ -32,8 +33,10 @@ use Rattle.words.specs.TableLaws.{turned, HeadWalk}
 use Rattle.words.specs.PassLaws.{none-some}
 use Rattle.words.specs.FirstFault.{SystemBegins, SystemWhole, CertificateBegins, CertificateWhole, FirstFault}
 use Rattle.words.specs.OnTableLaws as place
-use Rattle.words.specs.Rows.{InRows, RefusesBy, systemRows, certificateRows, fileRows}
-use Rattle.words.specs.RowLaws.{by-row, numbers-between}
+use Rattle.words.specs.TenFirst.{TenFirst, FileRefused}
+use Rattle.words.specs.TenFirst.TenFirst.{ten, others}
+use Rattle.words.specs.Rows.{RefusesBy, systemRows, certificateRows, fileRows}
+use Rattle.words.specs.RowLaws.{by-row}
 use Rattle.words.specs.FirstFaultLaws as first
 use Rattle.words.specs.FirstFaultLaws.{Tabled, Roomy}
 
@@ -222,17 +225,26 @@ module _ (limits : Limits) (h : Shape) where
 
 -- ---- files: "Number 10 comes before all others."
 
--- 10 at 0 just of a file that is not a multiple of four bytes, or too long; of any other file, what its words are refused by
-pub file-refused-iff : (limits : Limits) (file : List ℕ) (n k : ℕ) → (readSystemFile limits file ≡ refused n k)
-    ↔ (((broken file || tooLong limits file ≡ true) × (n ≡ 10) × (k ≡ 0))
-    ⊎ ((broken file || tooLong limits file ≡ false) × ByTable (systemTable limits) 0 (wordsOf file) n k))
+-- 10 at 0 just of files at fault; of any others, what their words are refused by
+pub ten-first-iff : {A : Type 0} (at-fault : Bool) (o : Outcome A) (Others : (number place : ℕ) → Type 0)
+    → ((n k : ℕ) → (o ≡ refused n k) ↔ Others n k) → (n k : ℕ) → (refuse at-fault 10 0 o ≡ refused n k) ↔ TenFirst at-fault Others n k
+ten-first-iff at-fault o Others iff n k = (
+  λ e. ⊎-elim (λ t. ten (t .0) (t .1) (t .2)) (λ t. others (t .0) (iff n k .0 (t .1))) (first .0 e),
+  back,
+)
+  where
+    first : (refuse at-fault 10 0 o ≡ refused n k)
+        ↔ (((at-fault ≡ true) × (n ≡ 10) × (k ≡ 0)) ⊎ ((at-fault ≡ false) × (o ≡ refused n k)))
+    first = refuse-refused-iff at-fault 10 0 o n k
+
+    back : TenFirst at-fault Others n k → refuse at-fault 10 0 o ≡ refused n k
+    back (ten b en ek) = first .1 (inl (b, en, ek))
+    back (others b h) = first .1 (inr (b, iff n k .1 h))
+
+pub file-refused-iff : (limits : Limits) (file : List ℕ) (n k : ℕ) → (readSystemFile limits file ≡ refused n k) ↔ FileRefused limits file n k
 unfolding readSystemFile
-file-refused-iff limits file n k =
-    let ten = refuse-refused-iff (broken file || tooLong limits file) 10 0 (readSystem limits (wordsOf file)) n k in
-    let words = system-refused-iff limits (wordsOf file) n k in (
-      λ e. ⊎-elim inl (λ t. inr (t .0, words .0 (t .1))) (ten .0 e),
-      ⊎-elim (λ t. ten .1 (inl t)) (λ t. ten .1 (inr (t .0, words .1 (t .1)))),
-    )
+file-refused-iff limits file =
+    ten-first-iff (broken file || tooLong limits file) (readSystem limits (wordsOf file)) _ (system-refused-iff limits (wordsOf file))
 
 -- 10 at 0, else a row of its words
 pub file-rows : (limits : Limits) (file : List ℕ) → RefusesBy (fileRows (wordsOf file)) (readSystemFile limits file)
@@ -241,24 +253,10 @@ file-rows limits file = by-row (broken file || tooLong limits file) 10 (system-r
 
 -- so a place in a file that passes 10 is at most the number of words of the longest system
 pub file-place : (limits : Limits) (file : List ℕ) {n k : ℕ} → readSystemFile limits file ≡ refused n k → k ≤ longestSystem limits
-file-place limits file {n} {k} e = ⊎-elim (λ t. omega (arith, t .2)) words (file-refused-iff limits file n k .0 e)
+file-place limits file {n} {k} e = by (file-refused-iff limits file n k .0 e)
   where
-    words : (broken file || tooLong limits file ≡ false) × ByTable (systemTable limits) 0 (wordsOf file) n k → k ≤ longestSystem limits
-    words t =
-        let short = ltb-false (4 * longestSystem limits) (length file) (or-right (broken file) (tooLong limits file) (t .0)) in
-        omega (arith, t .1 .within, length-wordsOf file, short)
-
--- ---- the numbers alone
-
-pub system-numbers : (limits : Limits) (ws : List ℕ) {n k : ℕ} → readSystem limits ws ≡ refused n k
-    → (1 ≤ n) × (n ≤ 9)
-system-numbers limits ws {n} {k} e = numbers-between n k 1 9 (systemRows ws) refl (system-rows limits ws .in-rows n k e)
-
-pub certificate-numbers : (limits : Limits) (h : Shape) (cs : List ℕ) {n k : ℕ} → readCertificate limits h cs ≡ refused n k
-    → (n ≡ 21) ⊎ ((24 ≤ n) × (n ≤ 29))
-unfolding InRows
-certificate-numbers limits h cs {n} {k} e = of-row (certificate-rows limits h cs .in-rows n k e)
-  where
-    of-row : InRows (certificateRows cs) n k → (n ≡ 21) ⊎ ((24 ≤ n) × (n ≤ 29))
-    of-row (inl r) = inl (omega (arith, r .from, r .to))
-    of-row (inr r) = inr (numbers-between n k 24 29 (drop 1 (certificateRows cs)) refl r)
+    by : FileRefused limits file n k → k ≤ longestSystem limits
+    by (ten b en ek) = omega arith
+    by (others b h) =
+        let short = ltb-false (4 * longestSystem limits) (length file) (or-right (broken file) (tooLong limits file) b) in
+        omega (arith, h .within, length-wordsOf file, short)

@@ -65,6 +65,13 @@ valueRows h =
 abbrev pub fileRows : List ℕ → List Row
 fileRows words = at-0 10 ∷ systemRows words
 
+-- the solver: 11 behind the system's; on files behind 10 and the system's
+abbrev pub solverRows : List ℕ → List Row
+solverRows ws = systemRows ws ++ at-0 11 ∷ []
+
+abbrev pub solverFileRows : List ℕ → List Row
+solverFileRows words = fileRows words ++ at-0 11 ∷ []
+
 -- the check on words
 abbrev pub checkRows : List ℕ → List ℕ → List Row
 checkRows ws cs = systemRows ws ++ certificateRows cs ++ valueRows (headShape (getD ws 0 0))
