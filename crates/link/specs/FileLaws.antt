@@ -46,7 +46,7 @@ module _ (limits : Limits) (fit : LimitsFit limits) (file entry exit : List ℕ)
         system-within = read .1;
         certificate-words = ap wordsOf bytes ∙ wordsOf-bytesOf ws;
         certificate-within = G .within;
-        right = G .right;
+        holds = G .right;
       })
 
   pub solved-file-accepted : (answer : Outcome ℕ) → SolvesFile limits file entry exit answer → (count : ℕ) → answer ≡ accepted count

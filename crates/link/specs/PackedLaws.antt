@@ -2,15 +2,23 @@
 -- place or the count, and different answers are different numbers.
 use Prim.Native.Nat.{ℕ, _+_, _*_, _/_, _%_, _≤_}
 use mathlib.Core.Path.{_≡_, refl, sym, ap, ap₂, _∙_, subst}
+use mathlib.Core.Logic.{_↔_}
 use mathlib.Core.Bool.{not}
 use mathlib.Core.List.{List}
 use native.Mathlib.Omega.{arith}
+use lib.ListN.{length}
 use lib.Dec.{eqb}
 use borrow.Author.Tests.{ne-eqb}
-use Rattle.words.specs.Limits.{Limits}
+use Rattle.words.specs.Limits.{Limits, longestCertificate}
+use Rattle.words.specs.LimitsLaws.{LimitsFit}
+use Rattle.words.specs.Word.{Bytes}
+use Rattle.words.specs.System.{SystemWithin, systemWords}
+use Rattle.words.specs.Bytes.{bytesOf}
+use Rattle.words.specs.TenFirst.{FileRefused}
 use Rattle.words.specs.Outcome.{Outcome, refuse}
 use Rattle.words.specs.Outcome.Outcome.{accepted, refused}
 use Rattle.solver.specs.Solving.{SolvesFile}
+use Rattle.solver.specs.RefusedLaws.{RoomLast, solve-file-refused-iff}
 use Rattle.verifier.specs.File.{fileVerdict}
 use Rattle.answers.specs.Packed.{packed, packedVerdict}
 use Rattle.link.specs.Packed.{SolvesPacked}
@@ -62,6 +70,19 @@ pub solves-unpacked : {limits : Limits} {file entry exit : List ℕ} {r : ℕ} �
     → SolvesFile limits file entry exit (unpacked r)
 solves-unpacked {limits} {file} {entry} {exit} h = subst (SolvesFile limits file entry exit) (sym (solver-unpacked h)) (h .solves)
 
+-- it refuses with a number at a place exactly under the condition of that row
+pub solver-refused-iff : {limits : Limits} {file entry exit : List ℕ} {r : ℕ} → LimitsFit limits → Bytes file
+    → SolvesPacked limits file entry exit r → (number place : ℕ) → 1 ≤ number → number ≤ 63
+    → (r ≡ 64 * place + number) ↔ RoomLast (FileRefused limits file) (λ s. (file ≡ bytesOf (systemWords s)) × SystemWithin limits s)
+    (4 * longestCertificate limits) (length entry) number place
+solver-refused-iff {limits} {file} {entry} {exit} {r} fit small h number place l m =
+    let iff = solve-file-refused-iff limits file entry exit (h .answer) (h .solves) fit small number place in (
+      λ e.
+          iff .0 (sym (solver-unpacked h) ∙ ap unpacked e
+          ∙ ap₂ (λ n k. refusedUnless0 n k k) (packed-number number place m) (packed-place number place m) ∙ refused-by number place place l),
+      λ a. h .packs ∙ ap packed (iff .1 a),
+    )
+
 -- two answers, of any two calls, with the same packed number are equal
 pub solver-packs-apart : {limits limits′ : Limits} {file entry exit file′ entry′ exit′ : List ℕ} {r : ℕ}
     (h : SolvesPacked limits file entry exit r) (k : SolvesPacked limits′ file′ entry′ exit′ r) → h .answer ≡ k .answer
@@ -77,14 +98,14 @@ unpacked-packedVerdict (refused number place) h =
     ∙ refused-by number place tt (between .0)
 
 -- what the check gives, taken apart, is its verdict
-pub check-unpacked : (limits : Limits) (system certificate : List ℕ)
+pub check-unpacked : (limits : Limits) → LimitsFit limits → (system certificate : List ℕ)
     → unpackedVerdict (packedVerdict (fileVerdict limits system certificate)) ≡ fileVerdict limits system certificate
-check-unpacked limits system certificate =
+check-unpacked limits fit system certificate =
     unpacked-packedVerdict (fileVerdict limits system certificate)
-    (refusals-wider 1 36 (omega arith) (omega arith) (check-numbers limits system certificate))
+    (refusals-wider 1 36 (omega arith) (omega arith) (check-numbers limits fit system certificate))
 
-pub check-packs-apart : (limits limits′ : Limits) (system certificate system′ certificate′ : List ℕ)
+pub check-packs-apart : (limits limits′ : Limits) → LimitsFit limits → LimitsFit limits′ → (system certificate system′ certificate′ : List ℕ)
     → packedVerdict (fileVerdict limits system certificate) ≡ packedVerdict (fileVerdict limits′ system′ certificate′)
     → fileVerdict limits system certificate ≡ fileVerdict limits′ system′ certificate′
-check-packs-apart limits limits′ system certificate system′ certificate′ e =
-    sym (check-unpacked limits system certificate) ∙ ap unpackedVerdict e ∙ check-unpacked limits′ system′ certificate′
+check-packs-apart limits limits′ fit fit′ system certificate system′ certificate′ e =
+    sym (check-unpacked limits fit system certificate) ∙ ap unpackedVerdict e ∙ check-unpacked limits′ fit′ system′ certificate′

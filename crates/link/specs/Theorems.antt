@@ -6,8 +6,7 @@
 -- handed to a writer.
 use Prim.Native.Nat.{ℕ, _+_, _*_, _%_, _≤_}
 use mathlib.Core.Path.{_≡_}
-use mathlib.Core.Logic.{_↔_, _⊎_}
-use mathlib.Core.Bool.{true, false, _||_}
+use mathlib.Core.Logic.{_↔_}
 use mathlib.Core.List.{List}
 use lib.ListN.{length}
 use Rattle.words.specs.Limits.{office, longestCertificate}
@@ -18,13 +17,15 @@ use Rattle.words.specs.System.{System, Shape, ShapeWithin, SystemWithin, system
 use Rattle.words.specs.SystemLaws.{system-accepted-iff, systemWords-injective}
 use Rattle.words.specs.Certificate.{Certificate, CertificateWithin, certificateWords, readCertificate}
 use Rattle.words.specs.CertificateLaws.{certificate-accepted-iff, certificateWords-injective}
-use Rattle.words.specs.Bytes.{wordsOf, bytesOf, broken, tooLong, readSystemFile}
+use Rattle.words.specs.Bytes.{bytesOf, readSystemFile}
 use Rattle.words.specs.Table.{ByTable, systemTable, certificateTable}
+use Rattle.words.specs.TenFirst.{FileRefused}
 use Rattle.words.specs.RefusedLaws.{system-refused-iff, certificate-refused-iff, file-refused-iff}
 use Rattle.truth.specs.DemandLaws.{Says, Agree}
 use Rattle.verifier.specs.Checked.{CertifiedFiles}
 use Rattle.link.specs.Packed.{SolvesPacked}
-use Rattle.link.specs.Checked.{FaultyFiles, checkGives, checked-iff, checked-says, checked-refused-iff, checked-agree}
+use Rattle.verifier.specs.FilesRefused.{FilesRefused}
+use Rattle.link.specs.Checked.{checkGives, checked-iff, checked-says, checked-refused-iff, checked-agree}
 use Rattle.link.specs.Together.{checkedAfter, every-system-checked, refused-unchanged}
 
 -- 1. "No words handed in, for sheet or card, can make a call read outside them, fail to end, or change a lent word when it refuses; each
@@ -36,12 +37,10 @@ pub record Demand1 : Type 0 where
       → (readSystem office ws ≡ refused number place) ↔ ByTable (systemTable office) 0 ws number place
   pub certificate : (h : Shape) (cs : List ℕ) (number place : ℕ)
       → (readCertificate office h cs ≡ refused number place) ↔ ByTable (certificateTable office h) 20 cs number place
-  pub file : (bytes : List ℕ) (number place : ℕ) → (readSystemFile office bytes ≡ refused number place)
-      ↔ (((broken bytes || tooLong office bytes ≡ true) × (number ≡ 10) × (place ≡ 0))
-      ⊎ ((broken bytes || tooLong office bytes ≡ false) × ByTable (systemTable office) 0 (wordsOf bytes) number place))
-  -- rows 31 to 36, of the check's number
-  pub says : (f g : List ℕ) → Bytes f → Bytes g → (number place : ℕ) → 31 ≤ number → number ≤ 63
-      → (checkGives f g ≡ 64 * place + number) ↔ FaultyFiles office f g number place
+  pub file : (bytes : List ℕ) (number place : ℕ) → (readSystemFile office bytes ≡ refused number place) ↔ FileRefused office bytes number place
+  -- of the check's number: 10 before all others, then the sheet's rows, the card's, and 31 to 36
+  pub check : (f g : List ℕ) (number place : ℕ) → 1 ≤ number → number ≤ 63
+      → (checkGives f g ≡ 64 * place + number) ↔ FilesRefused office f g number place
 
 pub demand-1 : Demand1
 demand-1 = record {
@@ -49,7 +48,7 @@ demand-1 = record {
   system = system-refused-iff office;
   certificate = certificate-refused-iff office;
   file = file-refused-iff office;
-  says = checked-refused-iff;
+  check = checked-refused-iff;
 }
 
 -- 2. "The check accepts a card for a sheet exactly when the conditions for a certified solution, or for a certified absence of solutions,

@@ -6,3 +6,4 @@ pub mod Examples
 pub mod Holding
 pub mod FramedLaws
 pub mod LookupLaws
+pub mod RefusedLaws

@@ -94,8 +94,8 @@ pub fn lookup_refusal(
     ensures { λ r. ⌜ verdictOutcome r ≡
         companion (polynomialLookup (limitsOf limits) (now (system .entry)) (now (certificate .entry)) (sideAsked side) number) ⌝ }
 {
-    let part = lookup_part(system, certificate, side, number, limits);
-    match part {
+    let found = lookup_part(system, certificate, side, number, limits);
+    match found {
         Part::Words(_, _) => Verdict::Accepted,
         Part::Refused(refusal) => Verdict::Refused(refusal),
     }

@@ -15,7 +15,7 @@ use Rattle.words.specs.Outcome.{Outcome, refuse}
 use Rattle.words.specs.Outcome.Outcome.{accepted, refused}
 use Rattle.words.specs.System.{readSystem}
 use Rattle.words.specs.Bytes.{wordsOf, broken, readSystemFile}
-use Rattle.words.specs.BytesLaws.{length-wordsOf}
+use Rattle.words.specs.BytesLaws.{length-wordsOf, or-right}
 use Rattle.reader.specs.Opening.{turnedBack, openedWords, Opened}
 
 -- a file whose limit is its own length has none
@@ -38,15 +38,15 @@ stops true {number} {place} m next e =
     rw (en, ep) refl
 stops false m next e = absurd (let z : _≡_ {A = ℕ} 0 1 = cc in omega arith)
 
-pub or-right : (a b : Bool) → a || b ≡ false → b ≡ false
-or-right true b e = absurd (let z : _≡_ {A = ℕ} 0 1 = cc in omega arith)
-or-right false b e = e
-
 module _ {limit : ℕ} {bytes before after : List ℕ} {told : Outcome ℕ} (opened : Opened limit bytes before after told) where
   -- 10, before anything else
   pub opened-stops : {number place : ℕ} → told ≡ refused number place → {A : Type 0} (next : Outcome A)
       → refuse (turnedBack limit bytes) 10 0 next ≡ refused number place
   opened-stops e next = stops (turnedBack limit bytes) _ next (sym e ∙ opened .count)
+
+  -- "no lent word changes"
+  pub opened-unchanged : {number place : ℕ} → told ≡ refused number place → after ≡ before
+  opened-unchanged e = opened .words ∙ ap (λ o. openedWords o bytes before) e
 
   module _ {n : ℕ} (e : told ≡ accepted n) where
     passed : (turnedBack limit bytes ≡ false) × (n ≡ min (length (wordsOf bytes)) (length before))

@@ -12,7 +12,7 @@ use Rattle.words.specs.LimitsLaws.{LimitsFit}
 use Rattle.words.specs.Outcome.{Outcome, refuse}
 use Rattle.words.specs.Outcome.Outcome.{accepted, refused}
 use Rattle.words.specs.OutcomeLaws.{refused-accepted, followedBy-accepted, refuse-passed}
-use Rattle.words.specs.FaultLaws.{file-place}
+use Rattle.words.specs.RefusedLaws.{file-place}
 use Rattle.words.specs.System.{System, shape}
 use Rattle.words.specs.Bytes.{readSystemFile}
 use Rattle.words.specs.BytesLaws.{length-bytesOf, file-within}

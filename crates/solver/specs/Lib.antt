@@ -3,6 +3,7 @@ pub mod Solving
 pub mod SolvingLaws
 pub mod FileLaws
 pub mod OneCertificate
+pub mod RefusedLaws
 -- interface: the chosen certificate in the output area
 pub mod Certified
 pub mod OutputLaws

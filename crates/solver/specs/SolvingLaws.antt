@@ -89,7 +89,7 @@ module _ (limits : Limits) (fit : LimitsFit limits) (ws entry exit : List ℕ) (
         system-within = read .1;
         certificate-words = gives-words G;
         certificate-within = G .within;
-        right = G .right;
+        holds = G .right;
       })
 
   pub solved-accepted : Solves limits ws entry exit answer → (count : ℕ) → answer ≡ accepted count

@@ -15,14 +15,14 @@ use Rattle.modular.specs.DivisionLaws.{divisionLaws}
 use Rattle.words.specs.Limits.{Limits}
 use Rattle.words.specs.LimitsLaws.{LimitsFit}
 use Rattle.words.specs.Polynomial.{AllWithin}
-use Rattle.words.specs.System.{System, shape, sideEntry, SystemWithin, systemWords, readSystem}
-use Rattle.words.specs.SystemLaws.{system-read-of-written, system-written-of-read}
-use Rattle.words.specs.Certificate.{Certificate, CertificateWithin, SolutionWithin, certificateWords, readCertificate}
+use Rattle.words.specs.System.{System, shape, sideEntry, SystemWithin}
+use Rattle.words.specs.Certificate.{Certificate, CertificateWithin, SolutionWithin}
 use Rattle.words.specs.Certificate.Certificate.{solution, absence}
-use Rattle.words.specs.CertificateLaws.{certificate-read-of-written, certificate-written-of-read}
-use Rattle.words.specs.Outcome.{Outcome, refuse, followedBy}
+use Rattle.words.specs.Outcome.{Outcome, refuse}
 use Rattle.words.specs.Outcome.Outcome.{accepted}
-use Rattle.words.specs.OutcomeLaws.{refuse-passed, passed-refuse, followedBy-accepted}
+use Rattle.words.specs.OutcomeLaws.{refuse-passed, passed-refuse}
+use Rattle.words.specs.Pair.{WrittenPair}
+use Rattle.words.specs.PairLaws.{written-map, pair-of-written, pair-accepted-iff}
 use Rattle.truth.specs.Solution.{AllCanonical, Monic, DividesModulo, rowOf, columnOf, sideOf}
 use Rattle.truth.specs.Right.{RightSolution, RightAbsence, Right, certified}
 use Rattle.truth.specs.Verdict.{monic?, zero?, same?, refuseFirst, solutionVerdict, absenceVerdict, certificateVerdict, verdict}
@@ -150,14 +150,8 @@ module _ (s : System) (q : List (List ℕ)) where
 -- ---- demand 2
 
 -- the words are the written forms of a system within the limits and of a right certificate for it
-pub record AcceptedWords (limits : Limits) (ws cs : List ℕ) : Type 0 where
-  pub system : System
-  pub certificate : Certificate
-  pub system-words : ws ≡ systemWords system
-  pub system-within : SystemWithin limits system
-  pub certificate-words : cs ≡ certificateWords certificate
-  pub certificate-within : CertificateWithin limits (shape system) certificate
-  pub right : Right system certificate
+abbrev pub AcceptedWords : Limits → (ws cs : List ℕ) → Type 0
+AcceptedWords limits ws cs = WrittenPair limits Right ws cs
 
 module _ (limits : Limits) (fit : LimitsFit limits) where
   pub verdict-right : (s : System) (h : SystemWithin limits s) (c : Certificate) → CertificateWithin limits (shape s) c
@@ -172,37 +166,19 @@ module _ (limits : Limits) (fit : LimitsFit limits) where
   right-verdict s h (solution d N w Z) k r = right-accepted s (proper limits s h) (proper-solution limits s d N w Z k) r
   right-verdict s h (absence q) k r = absent-accepted s q r
 
+  -- the verdict on written forms is that on what they are written of
+  pub verdict-of-written : {Of : System → Certificate → Type 0} {ws cs : List ℕ} (w : WrittenPair limits Of ws cs)
+      → verdict limits ws cs ≡ certificateVerdict (w .system) (w .certificate)
+  unfolding verdict
+  verdict-of-written {ws = ws} {cs} w = pair-of-written limits fit certificateVerdict ws cs w
+
   pub words-of-accepted : (ws cs : List ℕ) → verdict limits ws cs ≡ accepted tt → AcceptedWords limits ws cs
   unfolding verdict
-  words-of-accepted ws cs e =
-      let first = followedBy-accepted (readSystem limits ws) _ e in
-      let second = followedBy-accepted (readCertificate limits (shape (first .0)) cs) _ (first .2) in
-      let system-read = system-written-of-read limits fit ws (first .0) (first .1) in
-      let certificate-read = certificate-written-of-read limits (shape (first .0)) cs (second .0) (second .1) in
-      record {
-        system = first .0;
-        certificate = second .0;
-        system-words = system-read .0;
-        system-within = system-read .1;
-        certificate-words = certificate-read .0;
-        certificate-within = certificate-read .1;
-        right = verdict-right (first .0) (system-read .1) (second .0) (certificate-read .1) (second .2);
-      }
-
-  -- the verdict on written forms is that on what they are written of
-  pub verdict-of-written : {ws cs : List ℕ} (s : System) (c : Certificate) → ws ≡ systemWords s → SystemWithin limits s
-      → cs ≡ certificateWords c → CertificateWithin limits (shape s) c → verdict limits ws cs ≡ certificateVerdict s c
-  unfolding verdict
-  verdict-of-written {ws} {cs} s c es hs ec hc =
-      ap (λ o. followedBy o (λ s. followedBy (readCertificate limits (shape s) cs) (certificateVerdict s)))
-      (ap (readSystem limits) es ∙ system-read-of-written limits fit s hs)
-      ∙ ap (λ o. followedBy o (certificateVerdict s))
-      (ap (readCertificate limits (shape s)) ec ∙ certificate-read-of-written limits (shape s) fit (hs .shape) c hc)
+  words-of-accepted ws cs e = written-map limits verdict-right (pair-accepted-iff limits fit certificateVerdict ws cs tt .0 e)
 
   pub accepted-of-words : (ws cs : List ℕ) → AcceptedWords limits ws cs → verdict limits ws cs ≡ accepted tt
-  accepted-of-words ws cs a =
-      verdict-of-written (a .system) (a .certificate) (a .system-words) (a .system-within) (a .certificate-words) (a .certificate-within)
-      ∙ right-verdict (a .system) (a .system-within) (a .certificate) (a .certificate-within) (a .right)
+  unfolding verdict
+  accepted-of-words ws cs a = pair-accepted-iff limits fit certificateVerdict ws cs tt .1 (written-map limits right-verdict a)
 
   pub accepted-iff : (ws cs : List ℕ) → (verdict limits ws cs ≡ accepted tt) ↔ AcceptedWords limits ws cs
   accepted-iff ws cs = (words-of-accepted ws cs, accepted-of-words ws cs)

@@ -19,46 +19,52 @@ pub record Case : Type 0 where
   pub expected : Outcome (Unit {0})
 
 -- polynomials by their coefficients
-abbrev 𝟘 : List ℕ
+abbrev pub 𝟘 : List ℕ
 𝟘 = []
 
-abbrev 𝟙 : List ℕ
+abbrev pub 𝟙 : List ℕ
 𝟙 = 1 ∷ []
 
-abbrev x : List ℕ
+abbrev pub x : List ℕ
 x = 0 ∷ 1 ∷ []
 
-abbrev x² : List ℕ
+abbrev pub x² : List ℕ
 x² = 0 ∷ 0 ∷ 1 ∷ []
 
-abbrev x+1 : List ℕ
+abbrev pub x+1 : List ℕ
 x+1 = 1 ∷ 1 ∷ []
 
-abbrev x²+x : List ℕ
+abbrev pub x²+x : List ℕ
 x²+x = 0 ∷ 1 ∷ 1 ∷ []
 
-abbrev 𝟚 : List ℕ
+abbrev pub 𝟚 : List ℕ
 𝟚 = 2 ∷ []
 
 -- a system modulo p with n rows and m columns, its matrix row by row
-abbrev over : ℕ → ℕ → ℕ → List (List ℕ) → List (List ℕ) → System
+abbrev pub over : ℕ → ℕ → ℕ → List (List ℕ) → List (List ℕ) → System
 over p n m A b = record { modulus = p; rows = n; columns = m; matrix = A; side = b }
 
-abbrev row : System → Certificate → Outcome (Unit {0}) → Case
+abbrev pub row : System → Certificate → Outcome (Unit {0}) → Case
 row s c o = record { system = s; certificate = c; expected = o }
 
-abbrev case-1 : System
+abbrev pub case-1 : System
 case-1 = over 2 1 1 (x ∷ []) (𝟙 ∷ [])
+
+abbrev pub case-3 : System
+case-3 = over 2 2 1 (x ∷ x ∷ []) (𝟙 ∷ 𝟘 ∷ [])
+
+abbrev pub case-7 : System
+case-7 = over 3 1 2 (x² ∷ x²+x ∷ []) (𝟙 ∷ [])
 
 unfoldable pub cases : List Case
 cases =
     row case-1 (solution x (𝟙 ∷ []) x (𝟙 ∷ [])) (accepted tt)
     ∷ row (over 2 1 2 (x ∷ x+1 ∷ []) (𝟙 ∷ [])) (solution 𝟙 (𝟙 ∷ 𝟙 ∷ []) 𝟙 (𝟘 ∷ [])) (accepted tt)
-    ∷ row (over 2 2 1 (x ∷ x ∷ []) (𝟙 ∷ 𝟘 ∷ [])) (absence (𝟙 ∷ 𝟙 ∷ [])) (accepted tt)
+    ∷ row case-3 (absence (𝟙 ∷ 𝟙 ∷ [])) (accepted tt)
     ∷ row (over 2 1 1 (𝟘 ∷ []) (𝟘 ∷ [])) (solution 𝟙 (𝟘 ∷ []) 𝟙 (𝟘 ∷ [])) (accepted tt)
     ∷ row (over 2 1 1 (𝟘 ∷ []) (𝟙 ∷ [])) (absence (𝟙 ∷ [])) (accepted tt)
     ∷ row (over 3 1 2 (x² ∷ x²+x ∷ []) (x ∷ [])) (solution 𝟙 (𝟚 ∷ 𝟙 ∷ []) 𝟙 (𝟘 ∷ [])) (accepted tt)
-    ∷ row (over 3 1 2 (x² ∷ x²+x ∷ []) (𝟙 ∷ [])) (solution x (𝟚 ∷ 𝟙 ∷ []) x (𝟙 ∷ [])) (accepted tt)
+    ∷ row case-7 (solution x (𝟚 ∷ 𝟙 ∷ []) x (𝟙 ∷ [])) (accepted tt)
     ∷ row (over 2 2 2 (x ∷ 𝟙 ∷ 𝟘 ∷ x ∷ []) (𝟘 ∷ 𝟙 ∷ [])) (solution x² (𝟙 ∷ x ∷ []) x² (x ∷ 𝟙 ∷ [])) (accepted tt)
     ∷ row case-1 (solution x² (x ∷ []) x (𝟙 ∷ [])) (refused 34 0)
     ∷ row case-1 (solution x (𝟙 ∷ []) x² (x ∷ [])) (accepted tt)

@@ -9,9 +9,11 @@ use native.Mathlib.Omega.{arith}
 use Rattle.words.specs.Limits.{Limits}
 use Rattle.words.specs.LimitsLaws.{LimitsFit}
 use Rattle.words.specs.Outcome.Outcome.{accepted}
-use Rattle.words.specs.System.{System, shape, SystemWithin, systemWords}
-use Rattle.words.specs.Certificate.{Certificate, CertificateWithin, certificateWords}
+use Rattle.words.specs.System.{System, shape, SystemWithin}
+use Rattle.words.specs.Certificate.{Certificate, CertificateWithin}
 use Rattle.words.specs.Certificate.Certificate.{solution, absence}
+use Rattle.words.specs.Pair.{WrittenPair}
+use Rattle.words.specs.PairLaws.{written-map}
 use Rattle.truth.specs.Right.{Right}
 use Rattle.truth.specs.Verdict.{verdict}
 use Rattle.truth.specs.Accepted.{AcceptedWords, words-of-accepted, accepted-of-words, proper, proper-solution, all-canonical}
@@ -19,14 +21,8 @@ use Rattle.truth.specs.Certified.{Certified}
 use Rattle.truth.specs.CertifiedLaws.{right-iff-certified, absent-iff-certified}
 
 -- the words are the written forms of a system within the limits and of a certificate of which the conditions hold
-pub record CertifiedWords (limits : Limits) (ws cs : List ℕ) : Type 0 where
-  pub system : System
-  pub certificate : Certificate
-  pub system-words : ws ≡ systemWords system
-  pub system-within : SystemWithin limits system
-  pub certificate-words : cs ≡ certificateWords certificate
-  pub certificate-within : CertificateWithin limits (shape system) certificate
-  pub certified : Certified system certificate
+abbrev pub CertifiedWords : Limits → (ws cs : List ℕ) → Type 0
+CertifiedWords limits ws cs = WrittenPair limits Certified ws cs
 
 module _ (limits : Limits) where
   -- of values within the limits
@@ -42,24 +38,8 @@ module _ (limits : Limits) where
 
   pub words-iff-certified : (ws cs : List ℕ) → AcceptedWords limits ws cs ↔ CertifiedWords limits ws cs
   words-iff-certified ws cs = (
-    λ a. record {
-      system = a .system;
-      certificate = a .certificate;
-      system-words = a .system-words;
-      system-within = a .system-within;
-      certificate-words = a .certificate-words;
-      certificate-within = a .certificate-within;
-      certified = within-certified (a .system) (a .system-within) (a .certificate) (a .certificate-within) .0 (a .right);
-    },
-    λ a. record {
-      system = a .system;
-      certificate = a .certificate;
-      system-words = a .system-words;
-      system-within = a .system-within;
-      certificate-words = a .certificate-words;
-      certificate-within = a .certificate-within;
-      right = within-certified (a .system) (a .system-within) (a .certificate) (a .certificate-within) .1 (a .certified);
-    },
+    written-map limits (λ s h c k. within-certified s h c k .0),
+    written-map limits (λ s h c k. within-certified s h c k .1),
   )
 
   pub accepted-iff-certified : LimitsFit limits → (ws cs : List ℕ) → (verdict limits ws cs ≡ accepted tt) ↔ CertifiedWords limits ws cs

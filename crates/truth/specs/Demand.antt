@@ -10,10 +10,11 @@ use Rattle.words.specs.SystemLaws.{systemWords-injective, system-written-of-rea
 use Rattle.words.specs.Certificate.{Certificate, CertificateWithin, certificateWords, readCertificate}
 use Rattle.words.specs.CertificateLaws.{certificate-written-of-read}
 use Rattle.words.specs.Certificate.Certificate.{solution, absence}
+use Rattle.words.specs.Pair.{WrittenPair}
 use Rattle.truth.specs.Solution.{RationalSolution, Denominator, LeastDenominator}
 use Rattle.truth.specs.Right.{Right}
 use Rattle.truth.specs.Verdict.{verdict}
-use Rattle.truth.specs.Truth.{right-solves, right-denominator, right-least, right-absent, never-both}
+use Rattle.truth.specs.Truth.{right-solves, right-denominator, right-least, right-absent}
 use Rattle.truth.specs.Accepted.{AcceptedWords, words-of-accepted, verdict-of-written, verdict-right, proper, proper-solution, all-canonical}
 
 -- what a solution says: N/d solves the system, d is its denominator, and the least one
@@ -41,7 +42,7 @@ module _ (limits : Limits) where
       → (a : AcceptedWords limits ws cs) × True (a .system) (a .certificate)
   accepted-true fit ws cs e =
       let a = words-of-accepted limits fit ws cs e in
-      (a, right-true (a .system) (a .system-within) (a .certificate) (a .certificate-within) (a .right))
+      (a, right-true (a .system) (a .system-within) (a .certificate) (a .certificate-within) (a .holds))
 
   -- so also of a system and a certificate whose written forms read back as themselves
   pub verdict-true : (fit : LimitsFit limits) (s : System) (c : Certificate) → readSystem limits (systemWords s) ≡ accepted s
@@ -49,19 +50,13 @@ module _ (limits : Limits) where
   verdict-true fit s c e f g =
       let h = system-written-of-read limits fit (systemWords s) s e .1 in
       let k = certificate-written-of-read limits (shape s) (certificateWords c) c f .1 in
-      right-true s h c k (verdict-right limits fit s h c k (sym (verdict-of-written limits fit s c refl h refl k) ∙ g))
-
-  -- no system's words are accepted with certificates of both kinds
-  pub accepted-once : (fit : LimitsFit limits) (ws cs es : List ℕ) (a : AcceptedWords limits ws cs) (b : AcceptedWords limits ws es)
-      → (d : List ℕ) (N : List (List ℕ)) (w : List ℕ) (Z q : List (List ℕ)) → a .certificate ≡ solution d N w Z → b .certificate ≡ absence q → ⊥
-  unfolding Right CertificateWithin
-  accepted-once fit ws cs es a b d N w Z q e f =
-      let s = a .system in
-      let same : b .system ≡ s = systemWords-injective limits fit (b .system) s (b .system-within) (a .system-within)
-      (sym (b .system-words) ∙ a .system-words) in
-      let k = subst (CertificateWithin limits (shape s)) e (a .certificate-within) in
-      let r = subst (Right s) e (a .right) in
-      let l = subst (λ t. CertificateWithin limits (shape t) (absence q)) same (subst (CertificateWithin limits (shape (b .system))) f (b .certificate-within)) in
-      let t = subst (λ t. Right t (absence q)) same (subst (Right (b .system)) f (b .right)) in
-      never-both s (proper limits s (a .system-within)) (proper-solution limits s d N w Z k) r
-      (all-canonical (s .modulus) (limits .certificateCoefficients) q (l .entries)) t
+      let w : WrittenPair limits (λ s c. Unit {0}) (systemWords s) (certificateWords c) = record {
+        system = s;
+        certificate = c;
+        system-words = refl;
+        system-within = h;
+        certificate-words = refl;
+        certificate-within = k;
+        holds = tt;
+      } in
+      right-true s h c k (verdict-right limits fit s h c k (sym (verdict-of-written limits fit w) ∙ g))

@@ -81,7 +81,7 @@ module _ (limits : Limits) (fit : LimitsFit limits) where
   pub accepted-says : (ws cs : List ℕ) → verdict limits ws cs ≡ accepted tt → (a : AcceptedWords limits ws cs) × Says (a .system) (a .certificate)
   accepted-says ws cs e =
       let a = words-of-accepted limits fit ws cs e in
-      (a, true-says (a .system) (a .certificate) (right-true limits (a .system) (a .system-within) (a .certificate) (a .certificate-within) (a .right)))
+      (a, true-says (a .system) (a .certificate) (right-true limits (a .system) (a .system-within) (a .certificate) (a .certificate-within) (a .holds)))
 
   -- "No sheet can have accepted cards of both kinds."
   module _ (ws cs es : List ℕ) where
@@ -90,9 +90,9 @@ module _ (limits : Limits) (fit : LimitsFit limits) where
         let same : b .system ≡ a .system = systemWords-injective limits fit (b .system) (a .system) (b .system-within) (a .system-within)
         (sym (b .system-words) ∙ a .system-words) in
         true-agree limits (a .system) (a .system-within) (a .certificate) (b .certificate)
-        (right-true limits (a .system) (a .system-within) (a .certificate) (a .certificate-within) (a .right))
+        (right-true limits (a .system) (a .system-within) (a .certificate) (a .certificate-within) (a .holds))
         (subst (λ s. True s (b .certificate)) same
-        (right-true limits (b .system) (b .system-within) (b .certificate) (b .certificate-within) (b .right)))
+        (right-true limits (b .system) (b .system-within) (b .certificate) (b .certificate-within) (b .holds)))
 
     pub verdicts-agree : verdict limits ws cs ≡ accepted tt → verdict limits ws es ≡ accepted tt
         → (a : AcceptedWords limits ws cs) × (b : AcceptedWords limits ws es) × Agree (a .certificate) (b .certificate)

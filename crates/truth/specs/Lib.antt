@@ -1,5 +1,5 @@
 -- interface, what contracts, other crates and PROVED.md cite: Solution, Listed, Right, Chosen, Verdict, Truth, RefusalLaws, Accepted,
---   Demand, Denominators, Cases, ChosenCases, Places, Prefix, Certified, CertifiedLaws, CertifiedWords, TurnedBack, TurnedBackLaws,
+--   Demand, Denominators, Cases, ChosenCases, RowExamples, Prefix, Certified, CertifiedLaws, CertifiedWords, TurnedBack, TurnedBackLaws,
 --   DemandLaws, RefusedWords
 -- inside: Witness, Lift, Fractions, CertifiedTruth
 pub mod Witness
@@ -16,7 +16,7 @@ pub mod Demand
 pub mod Denominators
 pub mod Cases
 pub mod ChosenCases
-pub mod Places
+pub mod RowExamples
 pub mod Prefix
 pub mod Fractions
 pub mod Certified

@@ -16,6 +16,7 @@ use Rattle.words.specs.OutcomeLaws.{refused-accepted}
 use Rattle.words.specs.System.{System, shape, sideEntry, SystemWithin}
 use Rattle.words.specs.Certificate.{Certificate, CertificateWithin}
 use Rattle.words.specs.Certificate.Certificate.{solution, absence}
+use Rattle.words.specs.Rows.{InRow, InRows, rowWith, valueRows}
 use Rattle.truth.specs.Solution.{rowOf, columnOf, sideOf, Monic}
 use Rattle.truth.specs.Right.{certified}
 use Rattle.truth.specs.Verdict.{monic?, zero?, same?, refuseFirst, solutionVerdict, absenceVerdict, certificateVerdict}
@@ -330,6 +331,9 @@ module _ (s : System) (q : List (List ℕ)) where
 
 -- ---- any certificate within the limits
 
+in-row : {n below number place : ℕ} → number ≡ n → place < below → InRow (rowWith n n 0 below) number place
+in-row e h = record { from = omega arith; to = omega arith; after = omega arith; before = h }
+
 pub refused-iff-fault : (limits : Limits) (s : System) → SystemWithin limits s → (c : Certificate) → CertificateWithin limits (shape s) c
     → (number place : ℕ) → (certificateVerdict s c ≡ refused number place) ↔ Fault s c number place
 unfolding certificateVerdict CertificateWithin Fault
@@ -337,12 +341,13 @@ refused-iff-fault limits s h (solution d N w Z) k number place =
     solution-refused-iff s (proper limits s h) (proper-solution limits s d N w Z k)
 refused-iff-fault limits s h (absence q) k number place = absence-refused-iff s q
 
-pub fault-number : (s : System) (c : Certificate) (number place : ℕ) → Fault s c number place → (31 ≤ number) × (number ≤ 36)
-unfolding Fault
-fault-number s (solution d N w Z) number place (not-monic e f a) = omega arith
-fault-number s (solution d N w Z) number place (certifying-not-monic e f a b) = omega arith
-fault-number s (solution d N w Z) number place (row e a b f) = omega arith
-fault-number s (solution d N w Z) number place (column e a b r f) = omega arith
-fault-number s (solution d N w Z) number place (denominators e f a b r c n) = omega arith
-fault-number s (absence q) number place (product e f) = omega arith
-fault-number s (absence q) number place (side e f c z) = omega arith
+-- "31: d (place 0, tried first) or w (place 1)"; 32 at a row; 33 and 35 at a column; 34 and 36 at 0
+pub fault-rows : (s : System) (c : Certificate) (number place : ℕ) → Fault s c number place → InRows (valueRows (shape s)) number place
+unfolding Fault InRows
+fault-rows s (solution d N w Z) number place (not-monic e f a) = inl (in-row e (omega arith))
+fault-rows s (solution d N w Z) number place (certifying-not-monic e f a b) = inl (in-row e (omega arith))
+fault-rows s (solution d N w Z) number place (row e a b f) = inr (inl (in-row e (f .inside)))
+fault-rows s (solution d N w Z) number place (column e a b r f) = inr (inr (inl (in-row e (f .inside))))
+fault-rows s (solution d N w Z) number place (denominators e f a b r c n) = inr (inr (inr (inl (in-row e (omega arith)))))
+fault-rows s (absence q) number place (product e f) = inr (inr (inr (inr (inl (in-row e (f .inside))))))
+fault-rows s (absence q) number place (side e f c z) = inr (inr (inr (inr (inr (inl (in-row e (omega arith)))))))

@@ -1,5 +1,5 @@
 -- Places of what is said of two files: at most one more than the number of words of the longest certificate.
-use Prim.Native.Nat.{ℕ, _+_, _*_, _/_, _≤_, min}
+use Prim.Native.Nat.{ℕ, suc, _+_, _*_, _/_, _≤_, min}
 use native.Mathlib.Nat.{min-le-left, min-le-right}
 use mathlib.Core.Path.{_≡_, refl, _∙_}
 use mathlib.Core.Bool.{Bool, true, false, _||_}
@@ -14,8 +14,10 @@ use Rattle.words.specs.Outcome.{refuse}
 use Rattle.words.specs.Outcome.Outcome.{refused}
 use Rattle.words.specs.Bytes.{wordsOf, broken, tooLong}
 use Rattle.words.specs.BytesLaws.{length-wordsOf}
+use Rattle.words.specs.Rows.{checkRows}
+use Rattle.words.specs.RowLaws.{places-below, check-below}
 use Rattle.truth.specs.Verdict.{verdict}
-use Rattle.truth.specs.Places.{verdict-place}
+use Rattle.truth.specs.RefusedWords.{words-rows}
 use Rattle.truth.specs.Prefix.{verdict-room}
 use Rattle.answers.specs.Packed.{VerdictMost}
 use Rattle.verifier.specs.File.{fileVerdict}
@@ -28,7 +30,7 @@ passed-short false false most n e h = omega (arith, ltb-false (4 * most) n e)
 
 module _ (limits : Limits) (fit : LimitsFit limits) (system certificate : List ℕ) (b : ℕ)
     (longest-system : longestSystem limits ≤ b) (longest-certificate : longestCertificate limits + 1 ≤ b)
-    (rows : limits .rows ≤ b) (columns : limits .columns ≤ b) where
+    (heads : 15 ≤ b) where
   -- as many of the certificate's words as decide
   first-words : List ℕ
   first-words = take (min (length (wordsOf certificate)) (longestCertificate limits + 1)) (wordsOf certificate)
@@ -49,9 +51,11 @@ module _ (limits : Limits) (fit : LimitsFit limits) (system certificate : List �
   by-tests false true {place = place} long e = let same : place ≡ 0 = cc in omega arith
   by-tests false false {number} {place} long words =
       let short = passed-short (broken system) (tooLong limits system) (longestSystem limits) (length system) refl long in
-      verdict-place limits fit (wordsOf system) first-words b (omega (arith, length-wordsOf system, short))
-      (omega (arith, few-words)) rows columns (omega arith)
-      (verdict-room limits fit (wordsOf system) (wordsOf certificate) (longestCertificate limits + 1) (omega arith) ∙ words)
+      let refused = verdict-room limits fit (wordsOf system) (wordsOf certificate) (longestCertificate limits + 1) (omega arith) ∙ words in
+      let below = places-below number place (suc b) (checkRows (wordsOf system) first-words)
+      (check-below (wordsOf system) first-words (omega (arith, length-wordsOf system, short)) (omega (arith, few-words)) heads)
+      (words-rows limits fit (wordsOf system) first-words .in-rows number place refused) in
+      omega arith
 
   pub file-verdict-most : VerdictMost b (fileVerdict limits system certificate)
   unfolding fileVerdict

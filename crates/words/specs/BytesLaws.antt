@@ -87,9 +87,13 @@ pub file-passed : (limits : Limits) (bytes : List ℕ) → length bytes % 4 ≡ 
 unfolding readSystemFile
 file-passed limits bytes h k = simp (eq-eqb _ _ h, le-ltb _ _ k)
 
-or-false : (a b : Bool) → a || b ≡ false → a ≡ false
-or-false true b e = e
-or-false false b e = refl
+pub or-left : (a b : Bool) → a || b ≡ false → a ≡ false
+or-left true b e = e
+or-left false b e = refl
+
+pub or-right : (a b : Bool) → a || b ≡ false → b ≡ false
+or-right true b e = absurd (let z : _≡_ {A = ℕ} 0 1 = cc in omega arith)
+or-right false b e = e
 
 module _ (limits : Limits) (fit : LimitsFit limits) (s : System) where
   pub file-read-of-written : SystemWithin limits s → readSystemFile limits (bytesOf (systemWords s)) ≡ accepted s
@@ -112,7 +116,7 @@ module _ (limits : Limits) (fit : LimitsFit limits) (s : System) where
     unfolding readSystemFile
     file-written-of-read e =
         let t = refuse-passed (broken bytes || tooLong limits bytes) 10 0 _ e in
-        let whole = eqb-true _ _ (not-false _ (or-false (broken bytes) (tooLong limits bytes) (t .0))) in
+        let whole = eqb-true _ _ (not-false _ (or-left (broken bytes) (tooLong limits bytes) (t .0))) in
         let r = system-written-of-read limits fit (wordsOf bytes) s (t .1) in
         (sym (bytesOf-wordsOf bytes small whole) ∙ ap bytesOf (r .0), r .1)
 

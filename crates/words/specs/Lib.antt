@@ -1,7 +1,7 @@
 -- interface, what contracts, other crates and PROVED.md cite: Limits, Word, Outcome, OutcomeLaws, Reading, Polynomial, Frame,
 --   System, Certificate, Bytes, Examples, WordLaws, ReadingLaws, PolynomialLaws, FrameLaws, LimitsLaws, VectorLaws,
 --   SystemHeadLaws, SystemLaws, CertificateLaws, LongestLaws, WidthLaws, BytesLaws, ForwardLaws, PlaceLaws, PrefixLaws,
---   FaultLaws, Table, FirstFault, RefusedLaws
+--   Table, FirstFault, TenFirst, RefusedLaws, Rows, RowLaws, Pair, PairLaws
 -- inside: FormatLaws, TableLaws, PassLaws, CompleteLaws, OnTableLaws, FirstFaultLaws, TableExamples
 pub mod Limits
 pub mod Word
@@ -30,9 +30,11 @@ pub mod BytesLaws
 pub mod ForwardLaws
 pub mod PlaceLaws
 pub mod PrefixLaws
-pub mod FaultLaws
+pub mod Rows
+pub mod RowLaws
 pub mod Table
 pub mod FirstFault
+pub mod TenFirst
 pub mod TableLaws
 pub mod PassLaws
 pub mod CompleteLaws
@@ -40,3 +42,5 @@ pub mod OnTableLaws
 pub mod FirstFaultLaws
 pub mod RefusedLaws
 pub mod TableExamples
+pub mod Pair
+pub mod PairLaws

@@ -1,6 +1,7 @@
 -- What the table says at a place: a row of the word there, or that a word is missing; and which numbers stand at which places.
 use mathlib.Core.Path.{_≡_, refl, sym, ap, _∙_}
 use mathlib.Core.Bool.{Bool, true, false, not, _&&_}
+use mathlib.Core.Logic.{inl, inr}
 use mathlib.Core.Option.{Option, none, some}
 use mathlib.Core.List.{List, [], _∷_}
 use Prim.Native.Nat.{ℕ, zero, suc, _+_, _≤_, _<_}
@@ -11,10 +12,10 @@ use lib.Seq.{drop-cons}
 use lib.Dec.{eqb, leb, ltb}
 use Rattle.words.specs.Word.{kind, payload}
 use Rattle.words.specs.Table.{Expected, HeadTable, tableRow, polynomialsDue, coefficientsDue, numberAt, missingAt, after, dueAfter}
-use Rattle.words.specs.Table.{firstAt, ByTable, OnTable}
-use Rattle.words.specs.Table.OnTable.{at-head, at-end, behind-head}
+use Rattle.words.specs.Table.{firstAt, ByTable}
 use Rattle.words.specs.Table.Expected.{head, start, coefficient, end, nothing}
 use Rattle.words.specs.PassLaws.{none-some}
+use Rattle.words.specs.Rows.{InRows, wordsRows}
 
 -- ---- where the words end
 
@@ -107,20 +108,21 @@ module _ (T : HeadTable) (by : ℕ) where
   word-five nothing count w {n} b h = let same : 9 + by ≡ n = cc in (omega arith, omega arith)
 
   module _ (lowest highest : ℕ) (heads : (w n : ℕ) → T .number w ≡ some n → (lowest ≤ n) × (n ≤ highest)) where
-    placed : (ws : List ℕ) (n k : ℕ) → ByTable T by ws n k → Dec (k < length ws) → OnTable lowest highest by ws n k
-    unfolding numberAt dueAfter
+    placed : (ws : List ℕ) (n k : ℕ) → ByTable T by ws n k → Dec (k < length ws) → InRows (wordsRows lowest highest by (length ws)) n k
+    unfolding InRows numberAt dueAfter
     placed ws n k h (no less) =
         let few = h .within in
         let all : k ≡ length ws = omega arith in
-        at-end (row-at-end ws h all) all
+        let four = row-at-end ws h all in
+        inr (inl (record { from = omega arith; to = omega arith; after = omega arith; before = omega arith }))
     placed [] n k h (yes more) = absurd (omega arith)
     placed (w ∷ ws) n zero h (yes more) =
         let of-head = heads w n (row-at-word (w ∷ ws) h more) in
-        at-head (of-head .0) (of-head .1) refl more
+        inl (record { from = of-head .0; to = of-head .1; after = omega arith; before = omega arith })
     placed (w ∷ ws) n (suc k) h (yes more) =
         let five = word-five _ (suc (suc k)) _ (behind-words (after T head w) (take k ws) (behind-after head w))
         (row-at-word (w ∷ ws) h more) in
-        behind-head (five .0) (five .1) (omega arith) more
+        inr (inr (inl (record { from = five .0; to = five .1; after = omega arith; before = more })))
 
-    pub on-table : (ws : List ℕ) {n k : ℕ} → ByTable T by ws n k → OnTable lowest highest by ws n k
+    pub on-table : (ws : List ℕ) {n k : ℕ} → ByTable T by ws n k → InRows (wordsRows lowest highest by (length ws)) n k
     on-table ws {n} {k} h = placed ws n k h (decLt k (length ws))

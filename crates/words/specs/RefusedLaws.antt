@@ -5,16 +5,19 @@ use mathlib.Core.Bool.{Bool, true, false, not, _&&_, _||_}
 use mathlib.Core.Logic.{_⊎_, inl, inr, ⊎-elim, _↔_}
 use mathlib.Core.Option.{Option, none, some}
 use mathlib.Core.List.{List, _∷_, _++_}
-use Prim.Native.Nat.{ℕ, suc, _/_, _%_, _≤_, _<_}
+use Prim.Native.Nat.{ℕ, suc, _*_, _/_, _%_, _≤_, _<_}
 use native.Mathlib.Omega.{arith}
 use lib.ListN.{length, getD, take}
 use lib.Dec.{eqb}
+use borrow.Author.Tests.{ltb-false}
 use Rattle.modular.specs.Prime.{prime?}
 use Rattle.modular.specs.Primality.{prime-of-true}
-use Rattle.words.specs.Limits.{Limits}
+use Rattle.words.specs.Limits.{Limits, longestSystem}
 use Rattle.words.specs.Word.{kind, payload}
 use Rattle.words.specs.Outcome.{Outcome, refuse}
 use Rattle.words.specs.Outcome.Outcome.{refused}
+use Rattle.words.specs.OutcomeLaws.{refuse-refused-iff}
+use Rattle.words.specs.BytesLaws.{length-wordsOf, or-right}
 use Rattle.words.specs.Reading.{Reading, turnBack}
 use Rattle.words.specs.System.{Shape, ShapeWithin, headShape, countsWithin, systemWords, systemHeadFrom, systemDue, readSystem}
 use Rattle.words.specs.Certificate.{formWhen, certificateHeadFrom, certificateDue, certificateWords, readCertificate}
@@ -23,14 +26,17 @@ use Rattle.words.specs.Bytes.{wordsOf, broken, tooLong, readSystemFile}
 use Rattle.words.specs.LimitsLaws.{LimitsFit}
 use Rattle.words.specs.SystemLaws.{systemFormat, system-laws, system-expressible}
 use Rattle.words.specs.CertificateLaws.{certificateFormat, certificate-laws, certificate-expressible}
-use Rattle.words.specs.Table.{tableRow, numberAt, dueAfter, Passed, ByTable, OnTable}
+use Rattle.words.specs.Table.{tableRow, numberAt, dueAfter, Passed, ByTable}
 use Rattle.words.specs.Table.{systemHeadNumber, certificateHeadNumber, systemTable, certificateTable}
-use Rattle.words.specs.Table.OnTable.{at-head, at-end, behind-head}
 use Rattle.words.specs.Table.Expected.{head}
 use Rattle.words.specs.TableLaws.{turned, HeadWalk}
 use Rattle.words.specs.PassLaws.{none-some}
 use Rattle.words.specs.FirstFault.{SystemBegins, SystemWhole, CertificateBegins, CertificateWhole, FirstFault}
 use Rattle.words.specs.OnTableLaws as place
+use Rattle.words.specs.TenFirst.{TenFirst, FileRefused}
+use Rattle.words.specs.TenFirst.TenFirst.{ten, others}
+use Rattle.words.specs.Rows.{RefusesBy, systemRows, certificateRows, fileRows}
+use Rattle.words.specs.RowLaws.{by-row}
 use Rattle.words.specs.FirstFaultLaws as first
 use Rattle.words.specs.FirstFaultLaws.{Tabled, Roomy}
 
@@ -102,9 +108,10 @@ module _ (limits : Limits) where
   system-number ws {n} {k} e more = place.row-at-word (systemTable limits) 0 ws (system-refused-iff ws n k .0 e) more
 
   -- 1 to 3 at 0, 4 at the number of words, 5 to 9 at a word behind the head
-  pub system-on-table : (ws : List ℕ) {n k : ℕ} → readSystem limits ws ≡ refused n k → OnTable 1 3 0 ws n k
-  system-on-table ws {n} {k} e =
-      place.on-table (systemTable limits) 0 1 3 (system-head-numbers limits) ws (system-refused-iff ws n k .0 e)
+  pub system-rows : (ws : List ℕ) → RefusesBy (systemRows ws) (readSystem limits ws)
+  system-rows ws = record {
+    in-rows = λ n k e. place.on-table (systemTable limits) 0 1 3 (system-head-numbers limits) ws (system-refused-iff ws n k .0 e);
+  }
 
   -- a first fault has one place
   pub system-fault-once : (ws : List ℕ) {n k m j : ℕ} → FirstFault (SystemBegins limits) (SystemWhole limits) 4 ws n k
@@ -172,9 +179,11 @@ module _ (limits : Limits) (h : Shape) where
       place.row-at-word (certificateTable limits h) 20 cs (certificate-refused-iff cs n k .0 e) more
 
   -- 21 at 0, 24 at the number of words, 25 to 29 at a word behind the head
-  pub certificate-on-table : (cs : List ℕ) {n k : ℕ} → readCertificate limits h cs ≡ refused n k → OnTable 21 21 20 cs n k
-  certificate-on-table cs {n} {k} e =
-      place.on-table (certificateTable limits h) 20 21 21 certificate-head-numbers cs (certificate-refused-iff cs n k .0 e)
+  pub certificate-rows : (cs : List ℕ) → RefusesBy (certificateRows cs) (readCertificate limits h cs)
+  certificate-rows cs = record {
+    in-rows = λ n k e.
+        place.on-table (certificateTable limits h) 20 21 21 certificate-head-numbers cs (certificate-refused-iff cs n k .0 e);
+  }
 
   pub certificate-fault-once : (cs : List ℕ) {n k m j : ℕ}
       → FirstFault (CertificateBegins limits h) (CertificateWhole limits h) 24 cs n k
@@ -216,40 +225,38 @@ module _ (limits : Limits) (h : Shape) where
 
 -- ---- files: "Number 10 comes before all others."
 
-ten-or : {A : Type 0} (b : Bool) (o : Outcome A) (n k : ℕ)
-    → (refuse b 10 0 o ≡ refused n k) ↔ (((b ≡ true) × (n ≡ 10) × (k ≡ 0)) ⊎ ((b ≡ false) × (o ≡ refused n k)))
-ten-or {A} true o n k =
-    (λ e. inl (refl, cc, cc), ⊎-elim (λ t. let en = t .1 in let ek = t .2 in cc) (λ t. let z = t .0 in cc))
-ten-or false o n k = (λ e. inr (refl, e), ⊎-elim (λ t. let z = t .0 in cc) (λ t. t .1))
+-- 10 at 0 just of files at fault; of any others, what their words are refused by
+pub ten-first-iff : {A : Type 0} (at-fault : Bool) (o : Outcome A) (Others : (number place : ℕ) → Type 0)
+    → ((n k : ℕ) → (o ≡ refused n k) ↔ Others n k) → (n k : ℕ) → (refuse at-fault 10 0 o ≡ refused n k) ↔ TenFirst at-fault Others n k
+ten-first-iff at-fault o Others iff n k = (
+  λ e. ⊎-elim (λ t. ten (t .0) (t .1) (t .2)) (λ t. others (t .0) (iff n k .0 (t .1))) (first .0 e),
+  back,
+)
+  where
+    first : (refuse at-fault 10 0 o ≡ refused n k)
+        ↔ (((at-fault ≡ true) × (n ≡ 10) × (k ≡ 0)) ⊎ ((at-fault ≡ false) × (o ≡ refused n k)))
+    first = refuse-refused-iff at-fault 10 0 o n k
 
--- 10 at 0 just of a file that is not a multiple of four bytes, or too long; of any other file, what its words are refused by
-pub file-refused-iff : (limits : Limits) (file : List ℕ) (n k : ℕ) → (readSystemFile limits file ≡ refused n k)
-    ↔ (((broken file || tooLong limits file ≡ true) × (n ≡ 10) × (k ≡ 0))
-    ⊎ ((broken file || tooLong limits file ≡ false) × ByTable (systemTable limits) 0 (wordsOf file) n k))
+    back : TenFirst at-fault Others n k → refuse at-fault 10 0 o ≡ refused n k
+    back (ten b en ek) = first .1 (inl (b, en, ek))
+    back (others b h) = first .1 (inr (b, iff n k .1 h))
+
+pub file-refused-iff : (limits : Limits) (file : List ℕ) (n k : ℕ) → (readSystemFile limits file ≡ refused n k) ↔ FileRefused limits file n k
 unfolding readSystemFile
-file-refused-iff limits file n k =
-    let ten = ten-or (broken file || tooLong limits file) (readSystem limits (wordsOf file)) n k in
-    let words = system-refused-iff limits (wordsOf file) n k in (
-      λ e. ⊎-elim inl (λ t. inr (t .0, words .0 (t .1))) (ten .0 e),
-      ⊎-elim (λ t. ten .1 (inl t)) (λ t. ten .1 (inr (t .0, words .1 (t .1)))),
-    )
+file-refused-iff limits file =
+    ten-first-iff (broken file || tooLong limits file) (readSystem limits (wordsOf file)) _ (system-refused-iff limits (wordsOf file))
 
--- ---- the numbers alone
+-- 10 at 0, else a row of its words
+pub file-rows : (limits : Limits) (file : List ℕ) → RefusesBy (fileRows (wordsOf file)) (readSystemFile limits file)
+unfolding readSystemFile
+file-rows limits file = by-row (broken file || tooLong limits file) 10 (system-rows limits (wordsOf file))
 
-pub system-numbers : (limits : Limits) (ws : List ℕ) {n k : ℕ} → readSystem limits ws ≡ refused n k
-    → (1 ≤ n) × (n ≤ 9)
-system-numbers limits ws {n} e = of-row (system-on-table limits ws e)
+-- so a place in a file that passes 10 is at most the number of words of the longest system
+pub file-place : (limits : Limits) (file : List ℕ) {n k : ℕ} → readSystemFile limits file ≡ refused n k → k ≤ longestSystem limits
+file-place limits file {n} {k} e = by (file-refused-iff limits file n k .0 e)
   where
-    of-row : {place : ℕ} → OnTable 1 3 0 ws n place → (1 ≤ n) × (n ≤ 9)
-    of-row (at-head l h _ _) = (omega arith, omega arith)
-    of-row (at-end m _) = (omega arith, omega arith)
-    of-row (behind-head l h _ _) = (omega arith, omega arith)
-
-pub certificate-numbers : (limits : Limits) (h : Shape) (cs : List ℕ) {n k : ℕ} → readCertificate limits h cs ≡ refused n k
-    → (n ≡ 21) ⊎ ((24 ≤ n) × (n ≤ 29))
-certificate-numbers limits h cs {n} e = of-row (certificate-on-table limits h cs e)
-  where
-    of-row : {place : ℕ} → OnTable 21 21 20 cs n place → (n ≡ 21) ⊎ ((24 ≤ n) × (n ≤ 29))
-    of-row (at-head l m _ _) = inl (omega arith)
-    of-row (at-end m _) = inr (omega arith, omega arith)
-    of-row (behind-head l m _ _) = inr (omega arith, omega arith)
+    by : FileRefused limits file n k → k ≤ longestSystem limits
+    by (ten b en ek) = omega arith
+    by (others b h) =
+        let short = ltb-false (4 * longestSystem limits) (length file) (or-right (broken file) (tooLong limits file) b) in
+        omega (arith, h .within, length-wordsOf file, short)

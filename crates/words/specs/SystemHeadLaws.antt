@@ -1,9 +1,10 @@
 -- The head of a system: reading what was written, and what was read.
-use mathlib.Core.Path.{_≡_, ap, subst₂}
+use mathlib.Core.Path.{_≡_, refl, ap, subst₂}
 use mathlib.Core.Bool.{true, not, _&&_}
 use mathlib.Core.List.{List, [], _∷_}
 use Prim.Native.Nat.{ℕ, _+_, _*_, _/_, _%_, _≤_, _<_}
 use native.Mathlib.Omega.{arith}
+use lib.ListN.{getD}
 use lib.Dec.{eqb, leb}
 use borrow.Author.Tests.{eqb-true, eq-eqb, not-false, le-leb, leb-true}
 use Rattle.modular.specs.Prime.{prime?}
@@ -66,6 +67,7 @@ module _ (limits : Limits) where
 
   pub record HeadRead (ws : List ℕ) (h : Shape) (rest : List ℕ) : Type 0 where
     pub words : ws ≡ headWord h ∷ rest
+    pub says : h ≡ headShape (getD ws 0 0)
     pub within : ShapeWithin limits h
 
   pub head-read : (ws : List ℕ) (h : Shape) (rest : List ℕ) → systemHeadFrom limits ws ≡ read h rest → HeadRead ws h rest
@@ -83,6 +85,7 @@ module _ (limits : Limits) where
       let er : ws ≡ rest = cc in
       subst₂ (HeadRead (w ∷ ws)) eh er
       (record {
+        says = refl;
         words = ap (λ (v : ℕ). v ∷ ws) (head-word w (eqb-true (kind w) 1 (k .0)) (eqb-true (w / 16777216 % 16) 0 (k .1)));
         within = record {
           prime = prime;

@@ -106,12 +106,6 @@ pub record ByTable (T : HeadTable) (by : ℕ) (ws : List ℕ) (number place : �
   pub before : Passed T by 0 head (take place ws)
   pub row : firstAt T by place (dueAfter T head (take place ws)) (drop place ws) ≡ some number
 
--- "Condition and place": a head's numbers at place 0; 4 (24) at the number of words; 5 to 9 (25 to 29) at a word behind the head
-pub data OnTable (lowest highest by : ℕ) (ws : List ℕ) (number place : ℕ) : Type 0 where
-  at-head : lowest ≤ number → number ≤ highest → place ≡ 0 → place < length ws → OnTable lowest highest by ws number place
-  at-end : number ≡ 4 + by → place ≡ length ws → OnTable lowest highest by ws number place
-  behind-head : 5 + by ≤ number → number ≤ 9 + by → 1 ≤ place → place < length ws → OnTable lowest highest by ws number place
-
 -- ---- the heads
 
 -- 1: kind not 1 or bits 24 to 27 not zero; 2: p not prime; 3: n or m outside 1 to 8

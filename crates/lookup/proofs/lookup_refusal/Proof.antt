@@ -26,7 +26,7 @@ returns c =
 
 returns-2 : tie.Need-returns-2
 returns-2 c =
-    let e = c .before .part .given in
+    let e = c .before .found .given in
     let f = c .before .before .before in
     refused-companion (told f) _ _ (found f _ (e .1))
 

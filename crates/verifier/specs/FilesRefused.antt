@@ -1,0 +1,32 @@
+-- The refusals of the check on files, each under its condition only (demand 1): 10 before all others, then those of the files' words.
+use Prim.Native.Nat.{ℕ}
+use mathlib.Core.Path.{_≡_}
+use mathlib.Core.Logic.{_↔_}
+use mathlib.Core.List.{List}
+use Rattle.words.specs.Limits.{Limits}
+use Rattle.words.specs.LimitsLaws.{LimitsFit}
+use Rattle.words.specs.Outcome.Outcome.{refused}
+use Rattle.words.specs.Bytes.{wordsOf}
+use Rattle.words.specs.TenFirst.{TenFirst}
+use Rattle.words.specs.RefusedLaws.{ten-first-iff}
+use Rattle.words.specs.Rows.{RefusesBy, checkFileRows}
+use Rattle.words.specs.RowLaws.{by-row}
+use Rattle.words.specs.Pair.{PairRefused}
+use Rattle.truth.specs.Verdict.{verdict}
+use Rattle.truth.specs.TurnedBack.{Fault}
+use Rattle.truth.specs.RefusedWords.{words-refused-iff, words-rows}
+use Rattle.verifier.specs.File.{filesBroken, fileVerdict}
+
+abbrev pub FilesRefused : Limits → (f g : List ℕ) (number place : ℕ) → Type 0
+FilesRefused limits f g = TenFirst (filesBroken limits f g) (PairRefused limits Fault (wordsOf f) (wordsOf g))
+
+module _ (limits : Limits) (fit : LimitsFit limits) (f g : List ℕ) where
+  pub files-refused-iff : (number place : ℕ) → (fileVerdict limits f g ≡ refused number place) ↔ FilesRefused limits f g number place
+  unfolding fileVerdict
+  files-refused-iff =
+      ten-first-iff (filesBroken limits f g) (verdict limits (wordsOf f) (wordsOf g)) _ (words-refused-iff limits fit (wordsOf f) (wordsOf g))
+
+  -- 10 at 0, or a row of the words
+  pub files-rows : RefusesBy (checkFileRows (wordsOf f) (wordsOf g)) (fileVerdict limits f g)
+  unfolding fileVerdict
+  files-rows = by-row (filesBroken limits f g) 10 (words-rows limits fit (wordsOf f) (wordsOf g))
