@@ -4,12 +4,24 @@ use mathlib.Core.List.{List, [], _∷_, _++_, map, append-assoc}
 use Prim.Native.Nat.{ℕ, zero, suc, _+_, _*_, _≤_, _<_}
 use native.Mathlib.Nat.{mul-le-mul-left}
 use native.Mathlib.Omega.{arith}
-use lib.ListN.{length, getD, take, drop, length-append, length-take, length-drop, length-map, take-append-drop, List·getD-append, List·getD-map}
-use lib.Seq.{take-at, drop-at, drop-append-le, take-append-add, drop-append-add, drop-drop, drop-cons, length-take-le, ext-getD}
+use lib.ListN.{length, getD, take, drop, length-append, length-take, length-drop, length-map, take-append-drop, replicate, List·getD-append, List·getD-map}
+use lib.Seq.{take-at, drop-at, drop-append-le, take-append-add, drop-append-add, drop-drop, drop-cons, getD-drop, length-take-le, ext-getD}
+use Rattle.words.specs.Word.{AllBelow}
+use Rattle.words.specs.WidthLaws.{below-nil, below-cons, below-append}
 use Rattle.write_frame.specs.Overwriting.{overwritten}
 use Rattle.write_frame.specs.Values.{numbersFrom, polynomialIn, polynomialsIn}
 use Rattle.write_frame.specs.ValuesLaws.{numbersFrom-part, length-polynomialsIn, getD-polynomialsIn}
 use Rattle.values.specs.Laid.{sizesOver, laidOver}
+
+pub length-sizes : (fs : List (List ℕ)) (lent : List ℕ) → length fs ≤ length lent → length (sizesOver fs lent) ≡ length lent
+unfolding sizesOver
+length-sizes fs lent room =
+    omega (
+      arith,
+      length-map fs length,
+      length-append (map length fs) (drop (length (map length fs)) lent),
+      length-drop (length (map length fs)) lent,
+    )
 
 module _ (stride : ℕ) where
   -- no polynomial is longer than its room
@@ -118,3 +130,41 @@ module _ (stride : ℕ) where
         getD-polynomialsIn stride (sizesOver fs sizes) (laidOver stride fs v) 0 (length fs) k some
         ∙ ap (polynomialIn stride (sizesOver fs sizes) (laidOver stride fs v)) place
         ∙ polynomial-laid k some)
+
+-- ---- numbers below a bound
+
+module _ (bound : ℕ) where
+  pub below-replicate : (n : ℕ) → 0 < bound → AllBelow bound (replicate n 0)
+  below-replicate zero positive = below-nil bound positive
+  below-replicate (suc n) positive = below-cons bound 0 (replicate n 0) positive (below-replicate n positive)
+
+  below-take : (n : ℕ) (v : List ℕ) → AllBelow bound v → AllBelow bound (take n v)
+  below-take zero v h i = let positive = h 0 in omega arith
+  below-take (suc n) [] h i = h i
+  below-take (suc n) (a ∷ v) h zero = h zero
+  below-take (suc n) (a ∷ v) h (suc i) = below-take n v (λ j. h (suc j)) i
+
+  below-drop : (n : ℕ) (v : List ℕ) → AllBelow bound v → AllBelow bound (drop n v)
+  below-drop n v h i = rw getD-drop (h (n + i))
+
+  below-lengths : (fs : List (List ℕ)) → 0 < bound → ((k : ℕ) → length (getD fs k []) < bound) → AllBelow bound (map length fs)
+  below-lengths [] positive each = below-nil bound positive
+  below-lengths (f ∷ fs) positive each =
+      below-cons bound (length f) (map length fs) (each 0) (below-lengths fs positive (λ k. each (suc k)))
+
+  pub below-sizes : (fs : List (List ℕ)) (lent : List ℕ) → ((k : ℕ) → length (getD fs k []) < bound) → AllBelow bound lent
+      → AllBelow bound (sizesOver fs lent)
+  unfolding sizesOver
+  below-sizes fs lent each h =
+      let some = each 0 in
+      below-append bound (map length fs) (drop (length (map length fs)) lent) (below-lengths fs (omega arith) each)
+      (below-drop (length (map length fs)) lent h)
+
+  pub below-laid : (stride : ℕ) (fs : List (List ℕ)) (v : List ℕ) → ((k : ℕ) → AllBelow bound (getD fs k [])) → AllBelow bound v
+      → AllBelow bound (laidOver stride fs v)
+  unfolding laidOver
+  below-laid stride [] v each h = h
+  below-laid stride (f ∷ fs) v each h =
+      below-append bound (overwritten f (take stride v)) (laidOver stride fs (drop stride v))
+      (below-append bound f (drop (length f) (take stride v)) (each 0) (below-drop (length f) (take stride v) (below-take stride v h)))
+      (below-laid stride fs (drop stride v) (λ k. each (suc k)) (below-drop stride v h))
