@@ -25,7 +25,7 @@ use Rattle.answers.specs.Answer.{shapeOf, formOf, systemOutcome, certificateOut
 use Rattle.write_frame.specs.declared.format.Format.{Format}
 use Rattle.write_frame.specs.Framing.{Covers}
 use Rattle.write_frame.specs.Trial.{passed}
-use Rattle.write_frame.specs.TrialLaws.{after}
+use Rattle.write_frame.specs.TrialLaws.{nextAfter}
 use Rattle.writer.specs.declared.format.Kind.the-variants as kind
 use Rattle.writer.specs.Writing.{refuseShape}
 use Rattle.writer.specs.WritingLaws.{shape-first, shape-passed, shape-within}
@@ -114,7 +114,7 @@ module _ (h : Shape) (ws : List ℕ) where
       → LoadsCertificate office h ws (certificate.Refused r) sizes sizes values values
   shape-refused sizes values r told =
       refuses sizes values r
-      (shape-first office h (readCertificate office h ws) ∙ ap (λ (t : Outcome (Unit {0})). after t (readCertificate office h ws)) (sym told))
+      (shape-first office h (readCertificate office h ws) ∙ ap (λ (t : Outcome (Unit {0})). nextAfter t (readCertificate office h ws)) (sym told))
 
   module _ (passed-shape : passed ≡ refuseShape office h passed) where
     certificate-shape : ShapeWithin office h

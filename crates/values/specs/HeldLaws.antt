@@ -18,7 +18,7 @@ use Rattle.words.specs.Certificate.{Certificate, Form, CertificateWithin, certi
 use Rattle.words.specs.CertificateLaws.{certificateFormat, certificate-laws, entryCount-most}
 use Rattle.words.specs.FormatLaws.{Format, FormatLaws}
 use Rattle.write_frame.specs.Values.{polynomialsIn}
-use Rattle.writer.specs.Values.{systemIn, certificateIn, certificateStride}
+use Rattle.writer.specs.Values.{systemInArrays, certificateIn, certificateStride}
 use Rattle.writer.specs.ValuesLaws.{systemIn-shape, systemIn-entries, certificateIn-entries, certificateIn-form, canonical-below}
 use Rattle.writer.specs.WrittenLaws.{system-within, certificate-within}
 use Rattle.values.specs.Laid.{sizesOver, laidOver}
@@ -45,12 +45,12 @@ module _ (limits : Limits) (fit : LimitsFit limits) (s : System) (within : Syste
 
   pub system-laid : (sizes values : List ℕ)
       → limits .systemCoefficients * systemCount (limits .rows) (limits .columns) ≤ length values
-      → systemIn limits (shape s) (sizesOver (systemEntries s) sizes) (laidOver (limits .systemCoefficients) (systemEntries s) values) ≡ s
+      → systemInArrays limits (shape s) (sizesOver (systemEntries s) sizes) (laidOver (limits .systemCoefficients) (systemEntries s) values) ≡ s
   system-laid sizes values room =
       let stride = limits .systemCoefficients in
       let fs = systemEntries s in
       let few = systemCount-most (within .shape .rows .1) (within .shape .columns .1) in
-      let same : systemEntries (systemIn limits (shape s) (sizesOver fs sizes) (laidOver stride fs values)) ≡ fs =
+      let same : systemEntries (systemInArrays limits (shape s) (sizesOver fs sizes) (laidOver stride fs values)) ≡ fs =
       systemIn-entries limits (shape s) (sizesOver fs sizes) (laidOver stride fs values)
       ∙ entries-held fs entries (le-refl stride) sizes values (le-trans (mul-le-mul-left stride few) room) in
       same-parts (systemFormat limits) (system-laws limits fit)
@@ -121,7 +121,7 @@ held-by {p} {limit} {count} {most} {stride} fs within apart few small narrow sta
 pub system-held : (limits : Limits) → LimitsFit limits → (s : System) → SystemWithin limits s → Held
     (systemCount (limits .rows) (limits .columns))
     (limits .systemCoefficients * systemCount (limits .rows) (limits .columns))
-    (λ sizes values. systemIn limits (shape s) sizes values ≡ s)
+    (λ sizes values. systemInArrays limits (shape s) sizes values ≡ s)
 system-held limits fit s within =
     let few = systemCount-most (within .shape .rows .1) (within .shape .columns .1) in
     let small = within .shape .modulus in

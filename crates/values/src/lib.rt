@@ -10,10 +10,8 @@ use answers::Verdict;
 use limits::Office;
 use reader::certificate::read_certificate;
 use reader::system::read_system;
-use writer::format::CERTIFICATE_POLYNOMIALS;
 use writer::format::CERTIFICATE_VALUES;
 use writer::format::Kind;
-use writer::format::SYSTEM_POLYNOMIALS;
 use writer::format::SYSTEM_VALUES;
 use writer::format::format_for;
 use writer::shape::try_shape;
@@ -24,7 +22,7 @@ ghost use Rattle.values.specs.Loading.{LoadsSystem, LoadsCertificate};
 // Reads a system and stores its values. Polynomial k, of A row by row and then of b, has its size in `sizes[k]`, and its coefficients,
 // lowest power first, from `values[Office::COEFFICIENTS * k]` on.
 pub fn load_system(
-    sizes: &mut [usize; SYSTEM_POLYNOMIALS],
+    sizes: &mut [usize; Office::SYSTEM_POLYNOMIALS],
     values: &mut [u64; SYSTEM_VALUES],
     words: &[u32],
 ) -> SystemRead
@@ -50,7 +48,7 @@ pub fn load_system(
 // Tries p, n and m, 2, then 3, at place 0; then reads a certificate for a system of that shape and stores its values. Polynomial k, of d,
 // N, w and Z or else of q, has its size in `sizes[k]`, and its coefficients, lowest power first, from `values[STRIDE * k]` on.
 pub fn load_certificate(
-    sizes: &mut [usize; CERTIFICATE_POLYNOMIALS],
+    sizes: &mut [usize; Office::CERTIFICATE_POLYNOMIALS],
     values: &mut [u64; CERTIFICATE_VALUES],
     words: &[u32],
     shape: Shape,

@@ -26,7 +26,7 @@ use Rattle.write_frame.specs.Trial.{refusePolynomials}
 use Rattle.write_frame.specs.TrialLaws.{polynomials-passed, polynomials-within}
 use Rattle.writer.specs.Writing.{refuseShape, refuseRoom, writeSystem, writeCertificate, lentAfter, Writes}
 use Rattle.writer.specs.WritingLaws.{shape-passed, shape-within}
-use Rattle.writer.specs.Values.{systemIn, certificateIn, certificateStride}
+use Rattle.writer.specs.Values.{systemInArrays, certificateIn, certificateStride}
 
 -- ---- both writers
 
@@ -64,17 +64,17 @@ all-split p limit (f ∷ fs) gs h = let t = all-split p limit fs gs (h .1) in ((
 
 -- arrays that stand for polynomials within the limit stand for a system within the limits
 pub system-within : (limits : Limits) (h : Shape) (sizes coefficients : List ℕ) → ShapeWithin limits h
-    → AllWithin (h .modulus) (limits .systemCoefficients) (systemEntries (systemIn limits h sizes coefficients))
-    → SystemWithin limits (systemIn limits h sizes coefficients)
-unfolding systemIn
+    → AllWithin (h .modulus) (limits .systemCoefficients) (systemEntries (systemInArrays limits h sizes coefficients))
+    → SystemWithin limits (systemInArrays limits h sizes coefficients)
+unfolding systemInArrays
 system-within limits h sizes coefficients shape entries =
     let limit = limits .systemCoefficients in
-    let s = systemIn limits h sizes coefficients in
-    let each = all-split (h .modulus) limit (s .matrix) (s .right) entries in
+    let s = systemInArrays limits h sizes coefficients in
+    let each = all-split (h .modulus) limit (s .matrix) (s .side) entries in
     record {
       shape = shape;
       matrix = record { entries = each .0; count = length-polynomialsIn limit sizes coefficients _ _ };
-      right = record { entries = each .1; count = length-polynomialsIn limit sizes coefficients _ _ };
+      side = record { entries = each .1; count = length-polynomialsIn limit sizes coefficients _ _ };
     }
 
 module _ (limits : Limits) (lent : ℕ) where
@@ -88,11 +88,11 @@ module _ (limits : Limits) (lent : ℕ) where
 
   module _ (h : Shape) (sizes coefficients : List ℕ) where
     abbrev system : System
-    system = systemIn limits h sizes coefficients
+    system = systemInArrays limits h sizes coefficients
 
     pub system-accepted : (ws : List ℕ) → writeSystem limits lent system ≡ accepted ws
         → SystemWithin limits system × (systemWords system ≡ ws)
-    unfolding writeSystem systemIn
+    unfolding writeSystem systemInArrays
     system-accepted ws e =
         let w = write-accepted limits h (limits .systemCoefficients) 0 (longestSystem limits) lent (systemEntries system)
         (systemWords system) ws e in
@@ -175,8 +175,8 @@ count-words (accepted ws) {entry} {exit} {n} w =
 count-words (refused number place) w = absurd (let t = w .told in let z : _≡_ {A = ℕ} 0 1 = cc in omega arith)
 
 module _ (limits : Limits) (fit : LimitsFit limits) (h : Shape) (sizes coefficients : List ℕ) {entry exit : List ℕ} {n : ℕ} where
-  pub system-call-is-read : Writes (writeSystem limits (length entry) (systemIn limits h sizes coefficients)) entry (Count n) exit
-      → readSystem limits (take n exit) ≡ accepted (systemIn limits h sizes coefficients)
+  pub system-call-is-read : Writes (writeSystem limits (length entry) (systemInArrays limits h sizes coefficients)) entry (Count n) exit
+      → readSystem limits (take n exit) ≡ accepted (systemInArrays limits h sizes coefficients)
   system-call-is-read w = system-written-is-read limits (length entry) h sizes coefficients fit (take n exit) (count-words _ w)
 
   pub certificate-call-is-read : (form : Form)
