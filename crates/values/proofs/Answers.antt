@@ -1,7 +1,7 @@
 -- What the calls answer: from what the reader says of the words, and what the loop then stores.
 use mathlib.Core.Path.{_≡_, refl, sym, ap, _∙_, subst}
 use mathlib.Core.List.{List}
-use Prim.Native.Nat.{ℕ, _≤_}
+use Prim.Native.Nat.{ℕ, _*_, _≤_}
 use native.Mathlib.Omega.{arith}
 use lib.ListN.{length}
 use Rattle.words.specs.Limits.{office, systemCount}
@@ -14,6 +14,7 @@ use Rattle.words.specs.SystemLaws.{system-laws, system-written-of-read}
 use Rattle.words.specs.Certificate.{Certificate, Form, CertificateWithin, certificateForm, certificateEntries, certificateWords}
 use Rattle.words.specs.Certificate.{formWord, entryCount, readCertificate}
 use Rattle.words.specs.CertificateLaws.{certificate-laws, certificate-written-of-read}
+use Rattle.limits.specs.Counts.{systemPolynomials, certificatePolynomials}
 use Rattle.answers.specs.declared.answer.Refusal.{Refusal}
 use Rattle.answers.specs.declared.shape.Shape.{Shape as ShapeValue}
 use Rattle.answers.specs.declared.shape.Form.{Form as FormValue}
@@ -28,20 +29,21 @@ use Rattle.write_frame.specs.Trial.{passed}
 use Rattle.write_frame.specs.TrialLaws.{nextAfter}
 use Rattle.writer.specs.declared.format.Kind.the-variants as kind
 use Rattle.writer.specs.Writing.{refuseShape}
+use Rattle.writer.specs.Values.{certificateStride}
 use Rattle.writer.specs.WritingLaws.{shape-first, shape-passed, shape-within}
 use Rattle.writer.specs.Formats.{formatOf}
 use Rattle.writer.proofs.Ready.{kind-ready}
 use Rattle.values.specs.Laid.{sizesOver, laidOver}
-use Rattle.values.specs.Holding.{Holds}
+use Rattle.values.specs.Holding.{HoldsEntries}
 use Rattle.values.specs.Loading.{sizesAfter, valuesAfter, LoadsSystem, certificateToLoad, LoadsCertificate}
 
 -- what the loop asks, and what it gives
 abbrev pub Asked : Format → List ℕ → List ℕ → List ℕ → Type 0
 Asked format ws sizes values =
-    ((fs : List (List ℕ)) × Holds (format .limit) (format .count) ws fs) × Covers format sizes values
+    ((fs : List (List ℕ)) × HoldsEntries (format .limit) (format .count) ws fs) × Covers format sizes values
 
 abbrev pub Given : Format → List ℕ → List ℕ → List ℕ → List ℕ → List ℕ → Type 0
-Given format ws sizes sizes′ values values′ = (fs : List (List ℕ)) → Holds (format .limit) (format .count) ws fs
+Given format ws sizes sizes′ values values′ = (fs : List (List ℕ)) → HoldsEntries (format .limit) (format .count) ws fs
     → (sizes′ ≡ sizesOver fs sizes) × (values′ ≡ laidOver (format .stride) fs values)
 
 -- ---- systems
@@ -69,12 +71,12 @@ module _ (ws : List ℕ) where
     pub system-shape : ShapeWithin office h
     system-shape = subst (ShapeWithin office) (read .2) (written .1 .shape)
 
-    holds : Holds 16 (systemCount (h .rows) (h .columns)) ws (systemEntries s)
+    holds : HoldsEntries (office .systemCoefficients) (systemCount (h .rows) (h .columns)) ws (systemEntries s)
     unfolding systemWords
     holds =
         let within = system-laws office office-fits .apart s (written .1) .entries in
         let small = written .1 .shape .modulus in
-        subst (λ (g : Shape). Holds 16 (systemCount (g .rows) (g .columns)) ws (systemEntries s)) (read .2)
+        subst (λ (g : Shape). HoldsEntries (office .systemCoefficients) (systemCount (g .rows) (g .columns)) ws (systemEntries s)) (read .2)
         (record {
           head = headWord (shape s);
           words = written .0;
@@ -85,7 +87,7 @@ module _ (ws : List ℕ) where
         })
 
     module _ {format : Format} (is : format ≡ formatOf office h kind.System) (sizes values : List ℕ) where
-      pub system-asked : 72 ≤ length sizes → 1152 ≤ length values → Asked format ws sizes values
+      pub system-asked : systemPolynomials ≤ length sizes → office .systemCoefficients * systemPolynomials ≤ length values → Asked format ws sizes values
       system-asked sized roomy =
           subst (λ (f : Format). Asked f ws sizes values) (sym is)
           ((systemEntries s, holds), kind-ready office office-fits h system-shape kind.System sizes values (omega arith) sized roomy .0)
@@ -139,12 +141,12 @@ module _ (h : Shape) (ws : List ℕ) where
       written-as : (ws ≡ certificateWords c) × CertificateWithin office h c
       written-as = certificate-written-of-read office h ws c (read-as .1)
 
-      holds-as : Holds 121 (entryCount h (formOf form)) ws (certificateEntries c)
+      holds-as : HoldsEntries (office .certificateCoefficients) (entryCount h (formOf form)) ws (certificateEntries c)
       unfolding certificateWords
       holds-as =
           let within = certificate-laws office h .apart c (written-as .1) .entries in
           let small = certificate-shape .modulus in
-          subst (λ (f : Form). Holds 121 (entryCount h f) ws (certificateEntries c)) (read-as .2)
+          subst (λ (f : Form). HoldsEntries (office .certificateCoefficients) (entryCount h f) ws (certificateEntries c)) (read-as .2)
           (record {
             head = formWord (certificateForm c);
             words = written-as .0;
@@ -155,7 +157,7 @@ module _ (h : Shape) (ws : List ℕ) where
           })
 
       module _ {format : Format} (is : format ≡ formatOf office h (kind.Certificate form)) (sizes values : List ℕ) where
-        pub certificate-asked : 18 ≤ length sizes → 2304 ≤ length values → Asked format ws sizes values
+        pub certificate-asked : certificatePolynomials ≤ length sizes → certificateStride * certificatePolynomials ≤ length values → Asked format ws sizes values
         certificate-asked sized roomy =
             subst (λ (f : Format). Asked f ws sizes values) (sym is) (
               (certificateEntries c, holds-as),

@@ -20,7 +20,7 @@ use Rattle.write_frame.specs.Overwriting.{overwritten}
 use Rattle.write_frame.proofs.Overwriting.{set-written, part-over}
 use Rattle.values.specs.Laid.{sizesOver, laidOver}
 use Rattle.values.specs.LaidLaws.{Few, laid-next, length-laid}
-use Rattle.values.specs.Holding.{Holds}
+use Rattle.values.specs.Holding.{HoldsEntries}
 
 payloads-of : (p : ℕ) → p ≤ 268435456 → (f : List ℕ) → Canonical p f → map payload (map (word 3) f) ≡ f
 unfolding Canonical
@@ -44,7 +44,7 @@ withPart values from part = take from values ++ (part ++ drop (length values - f
 
 -- ---- the words at the place of polynomial k
 
-module _ {limit count : ℕ} {ws : List ℕ} {fs : List (List ℕ)} (h : Holds limit count ws fs) (k : ℕ) (some : k < length fs) where
+module _ {limit count : ℕ} {ws : List ℕ} {fs : List (List ℕ)} (h : HoldsEntries limit count ws fs) (k : ℕ) (some : k < length fs) where
   abbrev f : List ℕ
   f = getD fs k []
 
@@ -97,7 +97,7 @@ pub record Loads (ws sizes₀ values₀ : List ℕ) (stride count : ℕ) (sizes 
   pub within : k ≤ count
   pub same-sizes : length sizes ≡ length sizes₀
   pub same-values : length values ≡ length values₀
-  pub stored : (limit : ℕ) → limit ≤ stride → (fs : List (List ℕ)) → Holds limit count ws fs
+  pub stored : (limit : ℕ) → limit ≤ stride → (fs : List (List ℕ)) → HoldsEntries limit count ws fs
       → Stored stride fs sizes₀ values₀ sizes values at k
 
 pub loads-start : (ws sizes values : List ℕ) (stride count : ℕ) → Loads ws sizes values stride count sizes values 1 0
@@ -119,7 +119,7 @@ module _ {ws sizes₀ values₀ : List ℕ} {stride count : ℕ} {sizes values :
       let same = so-far .same-values in
       omega (arith, mul-le-mul-left stride n)
 
-  module _ {limit : ℕ} (apart : limit ≤ stride) {fs : List (List ℕ)} (h : Holds limit count ws fs) where
+  module _ {limit : ℕ} (apart : limit ≤ stride) {fs : List (List ℕ)} (h : HoldsEntries limit count ws fs) where
     abbrev next : List ℕ
     next = getD fs k []
 
@@ -194,7 +194,7 @@ module _ {ws sizes₀ values₀ : List ℕ} {stride count : ℕ} {sizes values :
       values-are = values-next size e part p;
     }
 
-  pub turn : {limit : ℕ} → limit ≤ stride → {fs : List (List ℕ)} → Holds limit count ws fs
+  pub turn : {limit : ℕ} → limit ≤ stride → {fs : List (List ℕ)} → HoldsEntries limit count ws fs
       → Turn ws sizes values stride at k
   turn apart h =
       let size = turn-size apart h in
@@ -207,7 +207,7 @@ module _ {ws sizes₀ values₀ : List ℕ} {stride count : ℕ} {sizes values :
       }
 
   -- a turn stores the size and the coefficients of polynomial k
-  pub loads-turn : {limit : ℕ} → limit ≤ stride → {fs : List (List ℕ)} → Holds limit count ws fs → (size : ℕ)
+  pub loads-turn : {limit : ℕ} → limit ≤ stride → {fs : List (List ℕ)} → HoldsEntries limit count ws fs → (size : ℕ)
       → size ≡ payload (getD ws at 0) → (part : List ℕ) → part ≡ overwritten (payloadsIn ws (at + 1) size) (lentPart values (stride * k))
       → Loads ws sizes₀ values₀ stride count (set sizes k size) (withPart values (stride * k) part) (at + 1 + size) (k + 1)
   loads-turn apart h size e part p = record {
@@ -219,7 +219,7 @@ module _ {ws sizes₀ values₀ : List ℕ} {stride count : ℕ} {sizes values :
 
 pub loads-end : {ws sizes₀ values₀ : List ℕ} {stride count : ℕ} {sizes values : List ℕ} {at k : ℕ}
     → Loads ws sizes₀ values₀ stride count sizes values at k → count ≤ k → (limit : ℕ) → limit ≤ stride
-    → (fs : List (List ℕ)) → Holds limit count ws fs → (sizes ≡ sizesOver fs sizes₀) × (values ≡ laidOver stride fs values₀)
+    → (fs : List (List ℕ)) → HoldsEntries limit count ws fs → (sizes ≡ sizesOver fs sizes₀) × (values ≡ laidOver stride fs values₀)
 loads-end {sizes₀ = sizes₀} {values₀ = values₀} {stride = stride} {k = k} done past limit apart fs h =
     let all : take k fs ≡ fs = take-all k fs (omega (arith, h .within .count)) in
     let now = done .stored limit apart fs h in (

@@ -87,7 +87,7 @@ module _ (limits : Limits) (fit : LimitsFit limits) (fits : limits .certificateC
 -- ---- arrays of zeros as long as those that the writers take
 
 -- values stand in arrays of so many numbers, each below 65,536
-pub record Held (sizesCount valuesCount : ℕ) (Stand : List ℕ → List ℕ → Type 0) : Type 0 where
+pub record InArrays (sizesCount valuesCount : ℕ) (Stand : List ℕ → List ℕ → Type 0) : Type 0 where
   pub sizes : List ℕ
   pub values : List ℕ
   pub sizes-count : length sizes ≡ sizesCount
@@ -98,7 +98,7 @@ pub record Held (sizesCount valuesCount : ℕ) (Stand : List ℕ → List ℕ �
 
 held-by : {p limit count most stride : ℕ} (fs : List (List ℕ)) → VectorWithin p limit count fs → limit ≤ stride → count ≤ most
     → p ≤ 65536 → limit ≤ 65535 → {Stand : List ℕ → List ℕ → Type 0}
-    → Stand (sizesOver fs (replicate most 0)) (laidOver stride fs (replicate (stride * most) 0)) → Held most (stride * most) Stand
+    → Stand (sizesOver fs (replicate most 0)) (laidOver stride fs (replicate (stride * most) 0)) → InArrays most (stride * most) Stand
 held-by {p} {limit} {count} {most} {stride} fs within apart few small narrow stand =
     let each = all-at p limit fs (within .entries) in
     let zeros : (n : ℕ) → AllBelow 65536 (replicate n 0) = λ n. below-replicate 65536 n (omega arith) in
@@ -118,7 +118,7 @@ held-by {p} {limit} {count} {most} {stride} fs within apart few small narrow sta
     }
 
 -- every system within the limits
-pub system-held : (limits : Limits) → LimitsFit limits → (s : System) → SystemWithin limits s → Held
+pub system-held : (limits : Limits) → LimitsFit limits → (s : System) → SystemWithin limits s → InArrays
     (systemCount (limits .rows) (limits .columns))
     (limits .systemCoefficients * systemCount (limits .rows) (limits .columns))
     (λ sizes values. systemInArrays limits (shape s) sizes values ≡ s)
@@ -130,7 +130,7 @@ system-held limits fit s within =
 
 -- every certificate within the limits, for a system of the shape h
 pub certificate-held : (limits : Limits) → LimitsFit limits → limits .certificateCoefficients ≤ certificateStride → (h : Shape)
-    → ShapeWithin limits h → (c : Certificate) → CertificateWithin limits h c → Held
+    → ShapeWithin limits h → (c : Certificate) → CertificateWithin limits h c → InArrays
     (solutionCount (limits .rows) (limits .columns))
     (certificateStride * solutionCount (limits .rows) (limits .columns))
     (λ sizes values. certificateIn h (certificateForm c) sizes values ≡ c)

@@ -5,7 +5,7 @@ use Prim.Native.Nat.{ℕ, _≤_, _<_}
 use Rattle.words.specs.Polynomial.{VectorWithin}
 use Rattle.words.specs.Frame.{framedWords}
 
-pub record Holds (limit count : ℕ) (ws : List ℕ) (fs : List (List ℕ)) : Type 0 where
+pub record HoldsEntries (limit count : ℕ) (ws : List ℕ) (fs : List (List ℕ)) : Type 0 where
   pub head : ℕ
   pub words : ws ≡ framedWords head fs
   pub modulus : ℕ

@@ -9,7 +9,7 @@ ghost use Rattle.words.specs.Word.{payload};
 ghost use Rattle.write_frame.specs.Framing.{Covers};
 ghost use Rattle.write_frame.specs.Overwriting.{overwritten};
 ghost use Rattle.values.specs.Laid.{sizesOver, laidOver};
-ghost use Rattle.values.specs.Holding.{Holds};
+ghost use Rattle.values.specs.Holding.{HoldsEntries};
 
 // Stores the payloads of the words over the first of the lent numbers.
 fn store_payloads(values: &mut [u64], words: &[u32])
@@ -25,8 +25,8 @@ fn store_payloads(values: &mut [u64], words: &[u32])
 
 // Stores the polynomials that stand behind the head of the words.
 pub fn load_entries(sizes: &mut [usize], values: &mut [u64], words: &[u32], format: Format)
-    requires { ⌜ ((fs : List (List ℕ)) × Holds (format .limit) (format .count) (now words) fs) × Covers format (now sizes) (now values) ⌝ }
-    ensures { λ _. ⌜ ((fs : List (List ℕ)) → Holds (format .limit) (format .count) (now (words .entry)) fs
+    requires { ⌜ ((fs : List (List ℕ)) × HoldsEntries (format .limit) (format .count) (now words) fs) × Covers format (now sizes) (now values) ⌝ }
+    ensures { λ _. ⌜ ((fs : List (List ℕ)) → HoldsEntries (format .limit) (format .count) (now (words .entry)) fs
         → (now (sizes .exit) ≡ sizesOver fs (now (sizes .entry)))
         × (now (values .exit) ≡ laidOver (format .stride) fs (now (values .entry)))) ⌝ }
 {
