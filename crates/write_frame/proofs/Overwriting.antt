@@ -37,15 +37,21 @@ set-written vs lent now at w e l h =
     ∙ ap (λ (r : List ℕ). take at r ++ overwritten (w ∷ []) (drop at r)) e
     ∙ overwritten-append vs (w ∷ []) lent at l
 
--- A second list behind a first, by a callee to which the slice was lent from `at` on: as the part comes and goes in code.
-pub part-written : (vs ws lent now : List ℕ) (at : ℕ) (part : List ℕ) → now ≡ overwritten vs lent → at ≡ length vs
-    → part ≡ overwritten ws (take (length now - at) (drop at now))
-    → take at now ++ (part ++ drop (length now - at) (drop at now)) ≡ overwritten (vs ++ ws) lent
-part-written vs ws lent now at part e l p =
+-- Words written by a callee to which the slice was lent from `at` on: as the part comes and goes in code.
+pub part-over : (ws now : List ℕ) (at : ℕ) (part : List ℕ) → part ≡ overwritten ws (take (length now - at) (drop at now))
+    → take at now ++ (part ++ drop (length now - at) (drop at now)) ≡ take at now ++ overwritten ws (drop at now)
+part-over ws now at part p =
     let whole : take (length now - at) (drop at now) ≡ drop at now = take-all (length now - at) (drop at now)
     (le-of-eq (length-drop at now)) in
     let none : drop (length now - at) (drop at now) ≡ [] = drop-of-length-le (drop at now) (le-of-eq (length-drop at now)) in
     ap (λ (r : List ℕ). take at now ++ r) (ap (λ (r : List ℕ). part ++ r) none ∙ append-nil part ∙ p ∙ ap (overwritten ws) whole)
+
+-- a second list behind a first
+pub part-written : (vs ws lent now : List ℕ) (at : ℕ) (part : List ℕ) → now ≡ overwritten vs lent → at ≡ length vs
+    → part ≡ overwritten ws (take (length now - at) (drop at now))
+    → take at now ++ (part ++ drop (length now - at) (drop at now)) ≡ overwritten (vs ++ ws) lent
+part-written vs ws lent now at part e l p =
+    part-over ws now at part p
     ∙ ap (λ (r : List ℕ). take at r ++ overwritten ws (drop at r)) e
     ∙ overwritten-append vs ws lent at l
 

@@ -8,3 +8,6 @@ pub mod ValuesLaws
 pub mod Trial
 -- interface: laws of it
 pub mod TrialLaws
+-- interface: the first value at fault, and that trials refuse just it
+pub mod Fault
+pub mod FaultLaws

@@ -34,7 +34,7 @@ module _ {A : Type 0} where
 
 -- ---- polynomials
 
-ends-passed : (a : ℕ) (f : List ℕ) → last? f && eqb a 0 ≡ false → LastNonzero a f
+pub ends-passed : (a : ℕ) (f : List ℕ) → last? f && eqb a 0 ≡ false → LastNonzero a f
 unfolding LastNonzero
 ends-passed a [] e = let n = eqb-false a 0 e in omega arith
 ends-passed a (b ∷ f) e = tt

@@ -1,12 +1,10 @@
 -- What a writer answers, trial by trial, and that it leaves the lent words so.
 use mathlib.Core.Path.{_≡_, sym, ap, _∙_, subst}
-use mathlib.Core.List.{List, [], _∷_}
+use mathlib.Core.List.{List}
 use Prim.Native.Nat.{ℕ, _+_, _≤_, _<_}
 use native.Mathlib.Omega.{arith}
 use lib.ListN.{length}
 use borrow.Author.Tests.{lt-ltb, le-ltb}
-use Rattle.modular.specs.Canonical.{Canonical}
-use Rattle.words.specs.Word.{AllBelow}
 use Rattle.words.specs.Outcome.{Outcome, mapped}
 use Rattle.words.specs.Outcome.Outcome.{accepted, refused}
 use Rattle.words.specs.Polynomial.{Within, AllWithin}
@@ -14,7 +12,6 @@ use Rattle.words.specs.Limits.{Limits}
 use Rattle.words.specs.Frame.{framedWords}
 use Rattle.words.specs.System.{Shape}
 use Rattle.words.specs.VectorLaws.{all-at}
-use Rattle.words.specs.WidthLaws.{below-nil, below-cons}
 use Rattle.answers.specs.declared.answer.Refusal.{Refusal}
 use Rattle.answers.specs.declared.answer.Counted.{Counted}
 use Rattle.answers.specs.declared.answer.Counted.the-variants.{Count, Refused}
@@ -23,6 +20,7 @@ use Rattle.writer.specs.Writing.{refuseShape, refuseRoom, lentAfter, Wri
 use Rattle.write_frame.specs.Trial.{passed, refusePolynomials}
 use Rattle.write_frame.specs.TrialLaws.{nextAfter, polynomials-first, polynomials-passed}
 use Rattle.writer.specs.WritingLaws.{shape-first}
+use Rattle.writer.specs.ValuesLaws.{canonical-below}
 use Rattle.write_frame.specs.Values.{polynomialIn}
 use Rattle.write_frame.specs.ValuesLaws.{length-polynomialIn, getD-polynomialsIn}
 use Rattle.write_frame.specs.Framing.{Writable, Wrote, entriesIn}
@@ -66,12 +64,6 @@ module _ (longest lent : ℕ) (ws entry : List ℕ) where
       record { told = simp (le-ltb lent longest h) (ap accepted (w .count)); lent = simp (le-ltb lent longest h) (w .words) }
 
 -- ---- polynomials in which nothing was refused can be written
-
-canonical-below : (p bound : ℕ) → p ≤ bound → 0 < bound → (f : List ℕ) → Canonical p f → AllBelow bound f
-unfolding Canonical
-canonical-below p bound small pos [] h = below-nil bound pos
-canonical-below p bound small pos (a ∷ f) h =
-    let b = h .0 in below-cons bound a f (omega arith) (canonical-below p bound small pos f (h .2))
 
 writable : (format : Format) (sizes coefficients : List ℕ) (p : ℕ) → p ≤ 268435456
     → AllWithin p (format .limit) (entriesIn format sizes coefficients)

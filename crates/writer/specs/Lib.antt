@@ -2,9 +2,13 @@
 pub mod Writing
 pub mod Values
 pub mod Output
--- what a caller may cite: what is written is read back; what sizes say
+-- what a caller may cite: what is written is read back, what is read is written back; what sizes say
 pub mod WrittenLaws
+pub mod WrittenBackLaws
 pub mod OutputLaws
+-- what the writers refuse, and that they refuse just that
+pub mod Refused
+pub mod RefusedLaws
 -- inside
 pub mod Formats
 pub mod ValuesLaws

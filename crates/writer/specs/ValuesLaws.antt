@@ -1,12 +1,15 @@
--- The values that arrays stand for: the polynomials of a system or a certificate in written order.
+-- The values that arrays stand for: the polynomials of a system or a certificate in written order, and how large their numbers are.
 use mathlib.Core.Path.{_≡_, refl, sym, ap, _∙_}
-use mathlib.Core.List.{List, _∷_, _++_}
-use Prim.Native.Nat.{ℕ, suc, _+_, _*_}
+use mathlib.Core.List.{List, [], _∷_, _++_}
+use Prim.Native.Nat.{ℕ, suc, _+_, _*_, _≤_, _<_}
 use native.Mathlib.Omega.{arith}
+use Rattle.modular.specs.Canonical.{Canonical}
+use Rattle.words.specs.Word.{AllBelow}
 use Rattle.words.specs.Limits.{Limits, systemCount}
 use Rattle.words.specs.System.{Shape, shape, systemEntries}
 use Rattle.words.specs.Certificate.{Form, certificateForm, certificateEntries, entryCount}
 use Rattle.words.specs.Certificate.Form.{solving, absent}
+use Rattle.words.specs.WidthLaws.{below-nil, below-cons}
 use Rattle.write_frame.specs.Values.{polynomialIn, polynomialsIn}
 use Rattle.write_frame.specs.ValuesLaws.{polynomialsIn-append}
 use Rattle.writer.specs.Values.{systemInArrays, certificateIn, certificateStride}
@@ -43,3 +46,10 @@ module _ (h : Shape) (sizes coefficients : List ℕ) where
       (polynomialsIn-append certificateStride sizes coefficients 1 m (suc n))
       ∙ ap (polynomialsIn certificateStride sizes coefficients 0) (sym e)
   certificateIn-entries absent = refl
+
+-- the coefficients of a polynomial modulo p
+pub canonical-below : (p bound : ℕ) → p ≤ bound → 0 < bound → (f : List ℕ) → Canonical p f → AllBelow bound f
+unfolding Canonical
+canonical-below p bound small pos [] h = below-nil bound pos
+canonical-below p bound small pos (a ∷ f) h =
+    let b = h .0 in below-cons bound a f (omega arith) (canonical-below p bound small pos f (h .2))

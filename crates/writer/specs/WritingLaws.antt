@@ -18,7 +18,7 @@ use Rattle.write_frame.specs.Trial.{passed}
 use Rattle.write_frame.specs.TrialLaws.{nextAfter, refuse-after}
 use Rattle.writer.specs.Writing.{refuseShape}
 
-or-passed : (a b : Bool) → a || b ≡ false → (a ≡ false) × (b ≡ false)
+pub or-passed : (a b : Bool) → a || b ≡ false → (a ≡ false) × (b ≡ false)
 or-passed false false e = (refl, refl)
 or-passed false true e = absurd (let z : _≡_ {A = ℕ} 0 1 = cc in omega arith)
 or-passed true b e = absurd (let z : _≡_ {A = ℕ} 0 1 = cc in omega arith)

@@ -62,6 +62,21 @@ all-split p limit (f ∷ fs) gs h = let t = all-split p limit fs gs (h .1) in ((
 
 -- ---- systems
 
+-- arrays that stand for polynomials within the limit stand for a system within the limits
+pub system-within : (limits : Limits) (h : Shape) (sizes coefficients : List ℕ) → ShapeWithin limits h
+    → AllWithin (h .modulus) (limits .systemCoefficients) (systemEntries (systemInArrays limits h sizes coefficients))
+    → SystemWithin limits (systemInArrays limits h sizes coefficients)
+unfolding systemInArrays
+system-within limits h sizes coefficients shape entries =
+    let limit = limits .systemCoefficients in
+    let s = systemInArrays limits h sizes coefficients in
+    let each = all-split (h .modulus) limit (s .matrix) (s .side) entries in
+    record {
+      shape = shape;
+      matrix = record { entries = each .0; count = length-polynomialsIn limit sizes coefficients _ _ };
+      side = record { entries = each .1; count = length-polynomialsIn limit sizes coefficients _ _ };
+    }
+
 module _ (limits : Limits) (lent : ℕ) where
   pub system-writes : LimitsFit limits → (s : System) → SystemWithin limits s → longestSystem limits ≤ lent
       → writeSystem limits lent s ≡ accepted (systemWords s)
@@ -79,16 +94,9 @@ module _ (limits : Limits) (lent : ℕ) where
         → SystemWithin limits system × (systemWords system ≡ ws)
     unfolding writeSystem systemInArrays
     system-accepted ws e =
-        let limit = limits .systemCoefficients in
-        let w = write-accepted limits h limit 0 (longestSystem limits) lent (systemEntries system) (systemWords system) ws e in
-        let each = all-split (h .modulus) limit (system .matrix) (system .side) (w .entries) in (
-          record {
-            shape = w .shape;
-            matrix = record { entries = each .0; count = length-polynomialsIn limit sizes coefficients _ _ };
-            side = record { entries = each .1; count = length-polynomialsIn limit sizes coefficients _ _ };
-          },
-          w .form,
-        )
+        let w = write-accepted limits h (limits .systemCoefficients) 0 (longestSystem limits) lent (systemEntries system)
+        (systemWords system) ws e in
+        (system-within limits h sizes coefficients (w .shape) (w .entries), w .form)
 
     pub system-written-is-read : LimitsFit limits → (ws : List ℕ) → writeSystem limits lent system ≡ accepted ws
         → readSystem limits ws ≡ accepted system
@@ -124,7 +132,7 @@ module _ (limits : Limits) (lent : ℕ) (h : Shape) where
     abbrev certificate : Form → Certificate
     certificate form = certificateIn h form sizes coefficients
 
-    certificate-within : (form : Form)
+    pub certificate-within : (form : Form)
         → AllWithin (h .modulus) (limits .certificateCoefficients) (certificateEntries (certificate form))
         → CertificateWithin limits h (certificate form)
     unfolding certificateIn certificateEntries CertificateWithin

@@ -5,6 +5,6 @@ pub mod certificate;
 pub mod file;
 pub mod format;
 pub mod output;
-mod shape;
+pub mod shape;
 pub mod system;
 mod values;

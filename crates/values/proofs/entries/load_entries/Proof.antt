@@ -1,0 +1,78 @@
+-- The loop keeps a `Loads`.
+use Prim.Native.Nat.{ℕ, _+_, _-_, _*_, _≤_, _<_}
+use native.Mathlib.Omega.{arith}
+use lib.ListN.{length-take, length-drop}
+use borrow.Author.Needs.{needs}
+use Rattle.values.proofs.Turns.{Loads, loads-start, Turn, turn, loads-turn, loads-end}
+use Rattle.values.proofs.entries.load_entries.Statement.{statement}
+use Rattle.values.proofs.entries.load_entries.Tie as tie
+use Rattle.values.proofs.entries.load_entries.Reads as reads
+use Rattle.values.proofs.entries.load_entries.Lts as lts
+
+abbrev Inv-loop : tie.InvT-loop
+Inv-loop sizes₀ values₀ words stride count at₀ k₀ sizes values at k = Loads words sizes₀ values₀ stride count sizes values at k
+
+abbrev μ-loop : tie.MeasureT-loop
+μ-loop sizes₀ values₀ words stride count at₀ k₀ sizes values at k = count - k
+
+-- polynomial k
+turn-at : (c : tie.In-loop Inv-loop μ-loop) →
+    let l = c .before in
+    let S = l .before .before .before .before .args in
+    Turn (S .words .now) (l .loop .sizes) (l .loop .values) (S .format .stride) (l .loop .at) (l .loop .k)
+turn-at c =
+    let l = c .before in
+    let P = l .before .before .before .before .pre in
+    turn (l .loop .inv) (c .loop-test .taken) (P .1 .sized) (P .1 .roomy) (P .1 .apart) (P .0 .1)
+
+store-payloads-requires : tie.Need-store-payloads-requires Inv-loop μ-loop
+store-payloads-requires c κs =
+    let t = turn-at (c .before .before .before .before) in
+    let e = c .before .before .payload-of .ensures in
+    simp (length-take, length-drop) (omega arith)
+
+loop-again : tie.Need-loop-again Inv-loop μ-loop
+loop-again c =
+    let l = c .before .before .before .before .before .before .before .before in
+    let P = l .before .before .before .before .pre in
+    let taken = c .before .before .before .before .before .before .before .loop-test .taken in
+    loads-turn (l .loop .inv) taken (P .1 .sized) (P .1 .roomy) (P .1 .apart) (P .0 .1) _
+    (c .before .before .before .before .before .payload-of .ensures) _ (c .before .before .store-payloads .ensures)
+
+returns : tie.Need-returns Inv-loop μ-loop
+returns c =
+    let P = c .before .before .before .before .before .pre in
+    λ fs h. loads-end (c .before .loop .inv) (c .loop-test .left) _ (P .1 .apart) fs h
+
+pub load-entries-spec : {M : Type 1} → statement M
+load-entries-spec =
+    tie.close
+    (tie.spec
+    Inv-loop
+    μ-loop
+    (λ c. loads-start _ _ _ _ _)
+    (λ c. let t = turn-at c in omega arith)
+    (λ c. let t = turn-at (c .before) in omega arith)
+    (λ c κs. search needs)
+    (λ c. search needs)
+    (λ c. let t = turn-at (c .before .before) in omega arith)
+    (λ c. let t = turn-at (c .before .before) in omega arith)
+    (λ c. let t = turn-at (c .before .before) in omega arith)
+    (λ c. let t = turn-at (c .before .before) in omega arith)
+    (λ c. let t = turn-at (c .before .before) in omega arith)
+    (λ c. let t = turn-at (c .before .before) in omega arith)
+    (λ c. let t = turn-at (c .before .before) in omega arith)
+    (λ c. let t = turn-at (c .before .before) in omega arith)
+    (λ c. let t = turn-at (c .before .before .before) in omega arith)
+    (λ c. let t = turn-at (c .before .before .before) in omega arith)
+    (λ c. let t = turn-at (c .before .before .before) in omega arith)
+    (λ c. let t = turn-at (c .before .before .before) in omega arith)
+    (λ c. let t = turn-at (c .before .before .before) in omega arith)
+    store-payloads-requires
+    (λ c. let t = turn-at (c .before .before .before .before .before .before .before) in omega arith)
+    (λ c. search needs)
+    (λ c. search needs)
+    loop-again
+    (λ c. c .before .loop .inv .same-sizes)
+    (λ c. c .before .loop .inv .same-values)
+    returns)
