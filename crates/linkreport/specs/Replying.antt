@@ -1,0 +1,14 @@
+-- What is handed to standard output.
+use Prim.Native.Nat.{ℕ}
+use mathlib.Core.Path.{_≡_}
+use mathlib.Core.List.{List}
+use lib.ListN.{take}
+use Rattle.streams.specs.declared.Input.{Input}
+use Rattle.streams.specs.declared.Input.the-variants as input
+use Rattle.words.specs.Limits.{office}
+use Rattle.report.specs.Reporting.{ReportsFile}
+
+-- the report of the bytes read; nothing where they could not be read, which is no refusal
+unfoldable pub Replies : Input → (file entry exit : List ℕ) → ℕ → Type 0
+Replies (input.Bytes n) file entry exit count = ReportsFile office (take n file) entry exit count
+Replies input.Failed file entry exit count = (count ≡ 0) × (exit ≡ entry)

@@ -1,0 +1,2 @@
+-- interface, what contracts and other crates cite: Reading
+pub mod Reading
