@@ -1,0 +1,56 @@
+-- What is handed on, by what reading gave and what the solver answered.
+use Prim.Native.Nat.{ℕ, _≤_}
+use mathlib.Core.Path.{_≡_, refl, sym, ap, subst}
+use mathlib.Core.List.{List}
+use lib.ListN.{length, take}
+use Rattle.streams.specs.declared.Input.{Input}
+use Rattle.streams.specs.declared.Input.the-variants as input
+use Rattle.words.specs.Limits.{office}
+use Rattle.words.specs.Outcome.Outcome.{accepted}
+use Rattle.answers.specs.declared.answer.Counted.{Counted}
+use Rattle.answers.specs.declared.answer.Counted.the-variants as counted
+use Rattle.answers.specs.declared.answer.Refusal.{Refusal}
+use Rattle.answers.specs.Answer.{countedOutcome}
+use Rattle.solver.specs.Solving.{SolvesFile}
+use Rattle.solver.specs.SolvingLaws.{solves-fits}
+use Rattle.linksolve.specs.declared.Replied.{Replied}
+use Rattle.linksolve.specs.declared.Replied.the-variants as replied
+use Rattle.linksolve.specs.Replying.{Replies}
+
+module _ (file entry exit : List ℕ) where
+  pub replies-nothing : {i : Input} → i ≡ input.Failed → exit ≡ entry → Replies i file entry exit replied.Nothing
+  unfolding Replies
+  replies-nothing e same = subst (λ read. Replies read file entry exit replied.Nothing) (sym e) same
+
+  -- the solver's answer, handed on
+  handed-on : Counted → Replied
+  handed-on (counted.Count count) = replied.Card count
+  handed-on (counted.Refused refusal) = replied.Refused refusal
+
+  by-answer : (n : ℕ) (answer : Counted) → SolvesFile office (take n file) entry exit (countedOutcome answer)
+      → Replies (input.Bytes n) file entry exit (handed-on answer)
+  unfolding Replies handed-on
+  by-answer n (counted.Count count) solved = solved
+  by-answer n (counted.Refused refusal) solved = solved
+
+  module _ {i : Input} {n : ℕ} (e : i ≡ input.Bytes n) (answer : Counted)
+      (solved : SolvesFile office (take n file) entry exit (countedOutcome answer)) where
+    replies-answer : Replies i file entry exit (handed-on answer)
+    replies-answer = subst (λ read. Replies read file entry exit (handed-on answer)) (sym e) (by-answer n answer solved)
+
+    pub replies-card : {count : ℕ} → answer ≡ counted.Count count → Replies i file entry exit (replied.Card count)
+    unfolding handed-on
+    replies-card a = subst (λ o. Replies i file entry exit (handed-on o)) a replies-answer
+
+    pub replies-refusal : {refusal : Refusal} → answer ≡ counted.Refused refusal → Replies i file entry exit (replied.Refused refusal)
+    unfolding handed-on
+    replies-refusal a = subst (λ o. Replies i file entry exit (handed-on o)) a replies-answer
+
+  -- a card is among the lent bytes
+  by-input : (i : Input) (count : ℕ) → Replies i file entry exit (replied.Card count) → count ≤ length exit
+  unfolding Replies
+  by-input (input.Bytes n) count solved = solves-fits office _ _ entry exit (accepted count) solved count refl
+  by-input input.Failed count none = absurd none
+
+  pub card-most : (i : Input) (r : Replied) {count : ℕ} → Replies i file entry exit r → r ≡ replied.Card count → count ≤ length exit
+  card-most i r {count} replies e = by-input i count (subst (Replies i file entry exit) e replies)
