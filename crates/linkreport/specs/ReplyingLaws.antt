@@ -1,21 +1,28 @@
 -- What is handed to standard output, by what reading gave.
 use Prim.Native.Nat.{ℕ, _≤_}
-use mathlib.Core.Path.{_≡_, refl, sym, subst}
-use mathlib.Core.List.{List}
 use native.Mathlib.Omega.{arith}
-use lib.ListN.{length, take}
+use mathlib.Core.Path.{_≡_, sym, ap, subst}
+use mathlib.Core.Bool.{false}
+use mathlib.Core.List.{List}
+use lib.ListN.{length, take, drop, length-append}
+use lib.Dec.{ltb}
+use borrow.Author.Tests.{le-ltb}
 use Rattle.streams.specs.declared.Input.{Input}
 use Rattle.streams.specs.declared.Input.the-variants as input
 use Rattle.words.specs.Limits.{office}
-use Rattle.report.specs.Reporting.{ReportsFile}
-use Rattle.report.specs.ReportingLaws.{reports-most}
+use Rattle.words.specs.Bytes.{readSystemFile}
+use Rattle.report_text.specs.Longest.{reportSpace}
+use Rattle.report.specs.Reporting.{GivenUnless, ReportsFile}
 use Rattle.linkreport.specs.Replying.{Replies}
 
 module _ (file entry exit : List ℕ) (count : ℕ) where
-  pub replies-read : {i : Input} {n : ℕ} → i ≡ input.Bytes n → ReportsFile office (take n file) entry exit count
-      → Replies i file entry exit count
-  unfolding Replies
-  replies-read e report = subst (λ read. Replies read file entry exit count) (sym e) report
+  -- where bytes enough are lent, there is a report
+  pub replies-read : {i : Input} {n : ℕ} → i ≡ input.Bytes n → reportSpace ≤ length entry
+      → ReportsFile office (take n file) entry exit count → Replies i file entry exit count
+  unfolding Replies GivenUnless
+  replies-read {n = n} e room report =
+      subst (λ read. Replies read file entry exit count) (sym e)
+      (subst (λ b. GivenUnless b (readSystemFile office (take n file)) entry exit count) (le-ltb (length entry) reportSpace room) report)
 
   pub replies-nothing : {i : Input} → i ≡ input.Failed → count ≡ 0 → exit ≡ entry → Replies i file entry exit count
   unfolding Replies
@@ -24,5 +31,7 @@ module _ (file entry exit : List ℕ) (count : ℕ) where
   -- what is printed is among the lent bytes
   pub replies-most : (i : Input) → Replies i file entry exit count → count ≤ length exit
   unfolding Replies
-  replies-most (input.Bytes n) report = reports-most entry exit office (take n file) report
+  replies-most (input.Bytes n) given =
+      let length-of = length-append (given .text) (drop (length (given .text)) entry) in
+      omega (arith, given .written .count, ap length (given .written .bytes), length-of)
   replies-most input.Failed nothing = omega (arith, nothing .0)

@@ -1,22 +1,22 @@
 // linkreport: reads a sheet (a system's file) from standard input and prints its report on standard output, and nothing else.
 use libc::STDERR_FILENO;
-use limits::Office;
 use report::SPACE;
 use report::write_report;
 use streams::Input;
+use streams::SHEET;
 use streams::print;
 use streams::read_input;
+ghost use Prim.Native.Nat.{_≤_};
 ghost use lib.ListN.{length};
 ghost use Rattle.streams.specs.Reading.{Within};
+ghost use Rattle.streams.specs.Sheet.{sheetSpace};
+ghost use Rattle.report_text.specs.Longest.{reportSpace};
 ghost use Rattle.linkreport.specs.Replying.{Replies};
-
-// A byte more than the longest sheet has: what fills it is refused, like all that is longer.
-const INPUT: usize = Office::FILE_BYTES + 1;
 
 // Writes what is to be printed: the report of the bytes read, or nothing where they could not be read. Returns the number of its
 // bytes.
 fn reply(text: &mut [u8], file: &[u8], input: Input) -> usize
-    requires { ⌜ Within (length (now file)) input ⌝ }
+    requires { ⌜ (reportSpace ≤ length (now text)) × (sheetSpace ≤ length (now file)) × Within (length (now file)) input ⌝ }
     ensures { λ r. ⌜ Replies input (now (file .entry)) (now (text .entry)) (now (text .exit)) r ⌝ }
 {
     match input {
@@ -30,7 +30,7 @@ fn main() {
         io::write_all(STDERR_FILENO, b"usage: linkreport < SHEET\n");
         return;
     }
-    let mut file = [0u8; INPUT];
+    let mut file = [0u8; SHEET];
     let input = read_input(&mut file, b"linkreport: standard input");
     let mut text = [0u8; SPACE];
     let n = reply(&mut text, &file, input);

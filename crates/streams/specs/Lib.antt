@@ -1,2 +1,3 @@
--- interface, what contracts and other crates cite: Reading
+-- interface, what contracts, other crates and PROVED.md cite: Reading, Sheet
 pub mod Reading
+pub mod Sheet

@@ -12,12 +12,13 @@ slice-aggregate-write-report : tie.Need-slice-aggregate-write-report
 slice-aggregate-write-report c =
     let read = c .before .before .before in
     let start = read .before .before .before .before in
-    sym (length-take-le _ _ (subst (Within (length (start .args .file .now))) (read .input .given .1) (start .pre)))
+    sym (length-take-le _ _ (subst (Within (length (start .args .file .now))) (read .input .given .1) (start .pre .2)))
 
 returns : tie.Need-returns
 returns c =
     let read = c .before .before .before .before .before .before in
-    replies-read _ _ _ _ (read .input .given .1) (c .before .before .write-report .ensures)
+    let start = read .before .before .before .before in
+    replies-read _ _ _ _ (read .input .given .1) (start .pre .0) (c .before .before .write-report .ensures)
 
 returns-2 : tie.Need-returns-2
 returns-2 c = replies-nothing _ _ _ _ (c .enum-told .given .1) refl refl
