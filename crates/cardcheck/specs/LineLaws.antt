@@ -14,6 +14,6 @@ pub same-line : {o o′ : Outcome (Unit {0})} {before after : List ℕ} {n : ℕ
 same-line {before = before} {after} {n} e written = subst (λ o. Written (verdictLine o) before after n) e written
 
 -- it is among the lent bytes
-pub written-most : {text before after : List ℕ} {n : ℕ} → Written text before after n → n ≤ length after
-written-most {text} {before} written =
+pub line-most : {text before after : List ℕ} {n : ℕ} → Written text before after n → n ≤ length after
+line-most {text} {before} written =
     omega (arith, written .count, ap length (written .bytes), length-append text (drop (length text) before))

@@ -1,5 +1,5 @@
 -- What is looked at of a file decides: the verdict on it is that on the whole file, however long that is.
-use Prim.Native.Nat.{ℕ, _+_, _-_, _*_, _/_, _%_, _≤_, _<_}
+use Prim.Native.Nat.{ℕ, _+_, _*_, _/_, _%_, _≤_, _<_}
 use native.Mathlib.Decide.{decLt}
 use native.Mathlib.Omega.{arith}
 use mathlib.Core.Path.{_≡_, refl, sym, ap, ap₂, _∙_}
@@ -18,14 +18,14 @@ use Rattle.words.specs.BytesLaws.{length-wordsOf, wordsOf-at}
 use Rattle.truth.specs.Verdict.{verdict}
 use Rattle.truth.specs.Prefix.{verdict-prefix}
 use Rattle.verifier.specs.File.{fileVerdict}
-use Rattle.cardcheck.specs.Seen.{space, seen}
+use Rattle.cardcheck.specs.Seen.{fileSpace, bytesSeen}
 
-pub seen-most : (n : ℕ) → seen n < space
-seen-most n = by (decLt n space)
+pub seen-most : (n : ℕ) → bytesSeen n < fileSpace
+seen-most n = by (decLt n fileSpace)
   where
-    by : Dec (n < space) → seen n < space
-    by (yes h) = rw (lt-ltb n space h) h
-    by (no h) = rw (le-ltb n space (omega arith)) (omega arith)
+    by : Dec (n < fileSpace) → bytesSeen n < fileSpace
+    by (yes h) = rw (lt-ltb n fileSpace h) h
+    by (no h) = rw (le-ltb n fileSpace (omega arith)) (omega arith)
 
 -- the words of a file's start are the first of its words
 words-of-start : (k : ℕ) (bytes : List ℕ) → k ≤ length bytes → wordsOf (take k bytes) ≡ take (k / 4) (wordsOf bytes)
@@ -54,40 +54,40 @@ words-of-start k bytes h = ext-getD 0 (wordsOf (take k bytes)) (take (k / 4) (wo
         ∙ sym (getD-take (k / 4) (wordsOf bytes) i 0 (omega (arith, first)))
 
 -- what is looked at of a file
-abbrev pub start : List ℕ → List ℕ
-start file = take (seen (length file)) file
+abbrev pub fileStart : List ℕ → List ℕ
+fileStart file = take (bytesSeen (length file)) file
 
 module _ (file : List ℕ) where
-  start-short : length file < space → start file ≡ file
+  start-short : length file < fileSpace → fileStart file ≡ file
   start-short h =
-      let all : seen (length file) ≡ length file = rw (lt-ltb (length file) space h) in
+      let all : bytesSeen (length file) ≡ length file = rw (lt-ltb (length file) fileSpace h) in
       ap (λ k. take k file) all ∙ take-all (length file) file (omega arith)
 
-  module _ (long : space ≤ length file) where
-    seen-long : seen (length file) ≡ space - 4 + length file % 4
-    seen-long = rw (le-ltb (length file) space long)
+  module _ (long : fileSpace ≤ length file) where
+    seen-long : bytesSeen (length file) ≡ 4 * (longestCertificate office + 1) + length file % 4
+    seen-long = rw (le-ltb (length file) fileSpace long)
 
-    start-length : length (start file) ≡ space - 4 + length file % 4
-    start-length = length-take-le (seen (length file)) file (omega (arith, seen-long)) ∙ seen-long
+    start-length : length (fileStart file) ≡ 4 * (longestCertificate office + 1) + length file % 4
+    start-length = length-take-le (bytesSeen (length file)) file (omega (arith, seen-long)) ∙ seen-long
 
-    start-broken : broken (start file) ≡ broken file
+    start-broken : broken (fileStart file) ≡ broken file
     start-broken =
-        let same : length (start file) % 4 ≡ length file % 4 = omega (arith, start-length) in ap (λ n. not (eqb n 0)) same
+        let same : length (fileStart file) % 4 ≡ length file % 4 = omega (arith, start-length) in ap (λ n. not (eqb n 0)) same
 
-    start-words : wordsOf (start file) ≡ take (longestCertificate office + 1) (wordsOf file)
+    start-words : wordsOf (fileStart file) ≡ take (longestCertificate office + 1) (wordsOf file)
     start-words =
-        let words : seen (length file) / 4 ≡ longestCertificate office + 1 = omega (arith, seen-long) in
-        words-of-start (seen (length file)) file (omega (arith, seen-long)) ∙ ap (λ k. take k (wordsOf file)) words
+        let words : bytesSeen (length file) / 4 ≡ longestCertificate office + 1 = omega (arith, seen-long) in
+        words-of-start (bytesSeen (length file)) file (omega (arith, seen-long)) ∙ ap (λ k. take k (wordsOf file)) words
 
 module _ (system certificate : List ℕ) where
-  certificate-start : fileVerdict office system (start certificate) ≡ fileVerdict office system certificate
+  certificate-start : fileVerdict office system (fileStart certificate) ≡ fileVerdict office system certificate
   unfolding fileVerdict
-  certificate-start = by (decLt (length certificate) space)
+  certificate-start = by (decLt (length certificate) fileSpace)
     where
-      by : Dec (length certificate < space) → fileVerdict office system (start certificate) ≡ fileVerdict office system certificate
+      by : Dec (length certificate < fileSpace) → fileVerdict office system (fileStart certificate) ≡ fileVerdict office system certificate
       by (yes h) = ap (fileVerdict office system) (start-short certificate h)
       by (no h) =
-          let long : space ≤ length certificate = omega arith in
+          let long : fileSpace ≤ length certificate = omega arith in
           ap₂ (λ b o. refuse ((broken system || tooLong office system) || b) 10 0 o) (start-broken certificate long)
           (ap (verdict office (wordsOf system)) (start-words certificate long)
           ∙ verdict-prefix office office-fits (wordsOf system) (wordsOf certificate) (longestCertificate office + 1) (omega arith)
@@ -104,18 +104,18 @@ module _ (system certificate : List ℕ) where
       by true = refl
       by false = refl
 
-  system-start : fileVerdict office (start system) certificate ≡ fileVerdict office system certificate
-  system-start = by (decLt (length system) space)
+  system-start : fileVerdict office (fileStart system) certificate ≡ fileVerdict office system certificate
+  system-start = by (decLt (length system) fileSpace)
     where
-      by : Dec (length system < space) → fileVerdict office (start system) certificate ≡ fileVerdict office system certificate
+      by : Dec (length system < fileSpace) → fileVerdict office (fileStart system) certificate ≡ fileVerdict office system certificate
       by (yes h) = ap (λ s. fileVerdict office s certificate) (start-short system h)
       by (no h) =
-          let long : space ≤ length system = omega arith in
+          let long : fileSpace ≤ length system = omega arith in
           let limit = 4 * longestSystem office in
-          too-long (start system) (lt-ltb limit (length (start system)) (omega (arith, start-length system long)))
+          too-long (fileStart system) (lt-ltb limit (length (fileStart system)) (omega (arith, start-length system long)))
           ∙ sym (too-long system (lt-ltb limit (length system) (omega arith)))
 
 -- the verdict on what is looked at is that on the files
 pub verdict-seen : (system certificate : List ℕ)
-    → fileVerdict office (start system) (start certificate) ≡ fileVerdict office system certificate
-verdict-seen system certificate = system-start system (start certificate) ∙ certificate-start system certificate
+    → fileVerdict office (fileStart system) (fileStart certificate) ≡ fileVerdict office system certificate
+verdict-seen system certificate = system-start system (fileStart certificate) ∙ certificate-start system certificate

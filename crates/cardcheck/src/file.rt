@@ -5,8 +5,8 @@ use libc::STDERR_FILENO;
 use streams::Input;
 use streams::read_start;
 ghost use mathlib.Core.Path.{_≡_};
-ghost use Rattle.streams.specs.Reading.{Within};
-ghost use Rattle.cardcheck.specs.Seen.{told};
+ghost use Rattle.streams.specs.Reading.{ReadWithin};
+ghost use Rattle.cardcheck.specs.Seen.{lengthTold};
 
 // What is known of a file.
 pub enum File {
@@ -34,14 +34,14 @@ const TURN: usize = 65536;
 
 // Returns the length that an answer of the system tells; 0 where it tells none.
 fn length_told(answer: i64) -> usize
-    ensures { λ r. ⌜ r ≡ told answer ⌝ }
+    ensures { λ r. ⌜ r ≡ lengthTold answer ⌝ }
 {
     if answer > 0 { answer as usize } else { 0 }
 }
 
 // Reads up to `TURN` bytes more.
 fn read_more(fd: i32) -> Input
-    ensures { λ r. ⌜ Within 65536 r ⌝ }
+    ensures { λ r. ⌜ ReadWithin 65536 r ⌝ }
 {
     let mut space = io::large_buffer();
     read_start(&mut space, fd)

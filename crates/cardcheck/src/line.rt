@@ -12,8 +12,7 @@ ghost use Rattle.verifier.specs.File.{fileVerdict};
 ghost use Rattle.report_text.specs.Longest.{reportSpace};
 ghost use Rattle.report_text.specs.Written.{Written};
 ghost use Rattle.cardcheck.specs.Line.{verdictLine};
-ghost use Rattle.cardcheck.specs.Seen.{space};
-ghost use Rattle.cardcheck.specs.Seen.{seen as Seen·seen};
+ghost use Rattle.cardcheck.specs.Seen.{fileSpace, bytesSeen};
 
 // Two words more than the longest certificate has: the room for the start of a file.
 pub const SPACE: usize = 4 * (Office::CERTIFICATE_WORDS + 2);
@@ -42,9 +41,9 @@ fn write_verdict(line: &mut [u8], verdict: Verdict) -> usize
     }
 }
 
-// Returns how many bytes of a file of so many decide: all, or, where they would fill the space, as many modulo four.
-fn seen(length: usize) -> usize
-    ensures { λ r. ⌜ r ≡ Seen·seen length ⌝ }
+// Returns how many bytes of a file of so many are looked at: all, or, where they would fill the space, fewer, but as many modulo four.
+fn bytes_seen(length: usize) -> usize
+    ensures { λ r. ⌜ r ≡ bytesSeen length ⌝ }
 {
     if length < SPACE {
         length
@@ -55,13 +54,13 @@ fn seen(length: usize) -> usize
 
 // Writes the line of the verdict on two files, of which the starts and the lengths are given. Returns its length.
 pub fn judge(line: &mut [u8], system: &[u8], certificate: &[u8], n: usize, m: usize) -> usize
-    requires { ⌜ (reportSpace ≤ length (now line)) × (space ≤ length (now system)) × (space ≤ length (now certificate)) ⌝ }
+    requires { ⌜ (reportSpace ≤ length (now line)) × (fileSpace ≤ length (now system)) × (fileSpace ≤ length (now certificate)) ⌝ }
     ensures { λ r. ⌜ Written
         (verdictLine
-        (fileVerdict office (take (Seen·seen n) (now (system .entry))) (take (Seen·seen m) (now (certificate .entry)))))
+        (fileVerdict office (take (bytesSeen n) (now (system .entry))) (take (bytesSeen m) (now (certificate .entry)))))
         (now (line .entry)) (now (line .exit)) r ⌝ }
 {
-    let n = seen(n);
-    let m = seen(m);
+    let n = bytes_seen(n);
+    let m = bytes_seen(m);
     write_verdict(line, check_files(&system[..n], &certificate[..m]))
 }

@@ -1,11 +1,11 @@
 // Names of files, as they are said.
 ghost use mathlib.Core.Path.{_≡_};
 ghost use mathlib.Core.List.{map};
-ghost use Rattle.cardcheck.specs.Name.{shown};
+ghost use Rattle.cardcheck.specs.Name.{masked};
 
 // Returns a byte of a name as it is said: `?` for one that would end or change the line.
-fn show(byte: u8) -> u8
-    ensures { λ r. ⌜ r ≡ shown byte ⌝ }
+fn mask_byte(byte: u8) -> u8
+    ensures { λ r. ⌜ r ≡ masked byte ⌝ }
 {
     if byte < 32 {
         b'?'
@@ -18,11 +18,11 @@ fn show(byte: u8) -> u8
 
 // Makes a name one that can be said in a line.
 pub fn mask(name: &mut [u8])
-    ensures { λ _. ⌜ now (name .exit) ≡ map shown (now (name .entry)) ⌝ }
+    ensures { λ _. ⌜ now (name .exit) ≡ map masked (now (name .entry)) ⌝ }
 {
     let mut i: usize = 0;
     while i < name.len() {
-        name[i] = show(name[i]);
+        name[i] = mask_byte(name[i]);
         i += 1;
     }
 }

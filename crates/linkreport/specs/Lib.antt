@@ -1,4 +1,4 @@
--- interface, what contracts and PROVED.md cite: Replying
--- inside: ReplyingLaws
-pub mod Replying
-pub mod ReplyingLaws
+-- interface, what contracts and PROVED.md cite: Printing
+-- inside: PrintingLaws
+pub mod Printing
+pub mod PrintingLaws

@@ -8,16 +8,16 @@ use streams::print;
 use streams::read_input;
 ghost use Prim.Native.Nat.{_≤_};
 ghost use lib.ListN.{length};
-ghost use Rattle.streams.specs.Reading.{Within};
+ghost use Rattle.streams.specs.Reading.{ReadWithin};
 ghost use Rattle.streams.specs.Sheet.{sheetSpace};
 ghost use Rattle.report_text.specs.Longest.{reportSpace};
-ghost use Rattle.linkreport.specs.Replying.{Replies};
+ghost use Rattle.linkreport.specs.Printing.{Prints};
 
 // Writes what is to be printed: the report of the bytes read, or nothing where they could not be read. Returns the number of its
 // bytes.
 fn reply(text: &mut [u8], file: &[u8], input: Input) -> usize
-    requires { ⌜ (reportSpace ≤ length (now text)) × (sheetSpace ≤ length (now file)) × Within (length (now file)) input ⌝ }
-    ensures { λ r. ⌜ Replies input (now (file .entry)) (now (text .entry)) (now (text .exit)) r ⌝ }
+    requires { ⌜ (reportSpace ≤ length (now text)) × (sheetSpace ≤ length (now file)) × ReadWithin (length (now file)) input ⌝ }
+    ensures { λ r. ⌜ Prints input (now (file .entry)) (now (text .entry)) (now (text .exit)) r ⌝ }
 {
     match input {
         Input::Bytes(n) => write_report(text, &file[..n]),

@@ -3,19 +3,28 @@ use Prim.Native.Nat.{ℕ, _≤_}
 use mathlib.Core.Path.{_≡_, refl, sym, ap, subst}
 use mathlib.Core.List.{List}
 use lib.ListN.{length, take}
+use borrow.Author.Tests.{le-ltb}
 use Rattle.streams.specs.declared.Input.{Input}
 use Rattle.streams.specs.declared.Input.the-variants as input
 use Rattle.words.specs.Limits.{office}
-use Rattle.words.specs.Outcome.Outcome.{accepted}
+use Rattle.words.specs.Outcome.{Outcome, refuse}
+use Rattle.words.specs.Outcome.Outcome.{accepted, refused}
+use Rattle.words.specs.System.{System}
+use Rattle.words.specs.Bytes.{readSystemFile}
 use Rattle.answers.specs.declared.answer.Counted.{Counted}
 use Rattle.answers.specs.declared.answer.Counted.the-variants as counted
 use Rattle.answers.specs.declared.answer.Refusal.{Refusal}
 use Rattle.answers.specs.Answer.{countedOutcome}
-use Rattle.solver.specs.Solving.{SolvesFile}
+use Rattle.solver.specs.Solving.{withRoom, certificateBytes, SolvesOr, SolvesFile}
 use Rattle.solver.specs.SolvingLaws.{solves-fits}
 use Rattle.linksolve.specs.declared.Replied.{Replied}
 use Rattle.linksolve.specs.declared.Replied.the-variants as replied
-use Rattle.linksolve.specs.Replying.{Replies}
+use Rattle.linksolve.specs.Replying.{cardSpace, Replies}
+
+-- with bytes enough lent, what was read is the system to solve
+room-enough : (lent : ℕ) → cardSpace ≤ lent → (read : Outcome System) → withRoom cardSpace lent read ≡ read
+room-enough lent h (accepted s) = ap (λ b. refuse b 11 0 (accepted s)) (le-ltb lent cardSpace h)
+room-enough lent h (refused number place) = refl
 
 module _ (file entry exit : List ℕ) where
   pub replies-nothing : {i : Input} → i ≡ input.Failed → exit ≡ entry → Replies i file entry exit replied.Nothing
@@ -27,16 +36,21 @@ module _ (file entry exit : List ℕ) where
   handed-on (counted.Count count) = replied.Card count
   handed-on (counted.Refused refusal) = replied.Refused refusal
 
-  by-answer : (n : ℕ) (answer : Counted) → SolvesFile office (take n file) entry exit (countedOutcome answer)
+  by-answer : (n : ℕ) (answer : Counted)
+      → SolvesOr office certificateBytes (readSystemFile office (take n file)) entry exit (countedOutcome answer)
       → Replies (input.Bytes n) file entry exit (handed-on answer)
   unfolding Replies handed-on
   by-answer n (counted.Count count) solved = solved
   by-answer n (counted.Refused refusal) solved = solved
 
-  module _ {i : Input} {n : ℕ} (e : i ≡ input.Bytes n) (answer : Counted)
+  module _ {i : Input} {n : ℕ} (e : i ≡ input.Bytes n) (room : cardSpace ≤ length entry) (answer : Counted)
       (solved : SolvesFile office (take n file) entry exit (countedOutcome answer)) where
     replies-answer : Replies i file entry exit (handed-on answer)
-    replies-answer = subst (λ read. Replies read file entry exit (handed-on answer)) (sym e) (by-answer n answer solved)
+    replies-answer =
+        subst (λ read. Replies read file entry exit (handed-on answer)) (sym e)
+        (by-answer n answer
+        (subst (λ read. SolvesOr office certificateBytes read entry exit (countedOutcome answer))
+        (room-enough (length entry) room (readSystemFile office (take n file))) solved))
 
     pub replies-card : {count : ℕ} → answer ≡ counted.Count count → Replies i file entry exit (replied.Card count)
     unfolding handed-on

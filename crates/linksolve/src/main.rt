@@ -9,17 +9,17 @@ use report_text::SPACE;
 use report_text::write_refusal;
 use solver::file::solve_file;
 use streams::Input;
+use streams::SHEET;
 use streams::print;
 use streams::read_input;
+ghost use Prim.Native.Nat.{_≤_};
 ghost use lib.ListN.{length};
-ghost use Rattle.streams.specs.Reading.{Within};
-ghost use Rattle.linksolve.specs.Replying.{Replies};
-
-// A byte more than the longest sheet has: what fills it is refused, like all that is longer.
-const INPUT: usize = Office::FILE_BYTES + 1;
+ghost use Rattle.streams.specs.Reading.{ReadWithin};
+ghost use Rattle.streams.specs.Sheet.{sheetSpace};
+ghost use Rattle.linksolve.specs.Replying.{cardSpace, Replies};
 
 // The bytes of the longest card.
-const OUTPUT: usize = 4 * Office::CERTIFICATE_WORDS;
+const CARD: usize = 4 * Office::CERTIFICATE_WORDS;
 
 // What is to be handed on of a system.
 enum Replied {
@@ -51,7 +51,7 @@ fn deliver(card: &[u8]) {
 
 // Solves the system in the bytes read, and writes its card over the first of the lent bytes.
 fn reply(card: &mut [u8], file: &[u8], input: Input) -> Replied
-    requires { ⌜ Within (length (now file)) input ⌝ }
+    requires { ⌜ (cardSpace ≤ length (now card)) × (sheetSpace ≤ length (now file)) × ReadWithin (length (now file)) input ⌝ }
     ensures { λ r. ⌜ Replies input (now (file .entry)) (now (card .entry)) (now (card .exit)) r ⌝ }
 {
     let Input::Bytes(n) = input else {
@@ -69,9 +69,9 @@ fn main() {
         io::write_all(STDERR_FILENO, b"usage: linksolve < SHEET > CARD\n");
         return;
     }
-    let mut file = [0u8; INPUT];
+    let mut file = [0u8; SHEET];
     let input = read_input(&mut file, b"linksolve: standard input");
-    let mut card = [0u8; OUTPUT];
+    let mut card = [0u8; CARD];
     let replied = reply(&mut card, &file, input);
     match replied {
         Replied::Card(n) => deliver(&card[0..n]),

@@ -4,6 +4,6 @@ use Rattle.streams.specs.declared.Input.{Input}
 use Rattle.streams.specs.declared.Input.the-variants as input
 
 -- the bytes read are among so many
-abbrev pub Within : ℕ → Input → Type 0
-Within most (input.Bytes n) = n ≤ most
-Within most input.Failed = Unit {0}
+abbrev pub ReadWithin : ℕ → Input → Type 0
+ReadWithin most (input.Bytes n) = n ≤ most
+ReadWithin most input.Failed = Unit {0}

@@ -1,6 +1,6 @@
 // Standard input and standard output of the programs. What fails is said on standard error, with the system's reason.
 ghost use lib.ListN.{length};
-ghost use Rattle.streams.specs.Reading.{Within};
+ghost use Rattle.streams.specs.Reading.{ReadWithin};
 use libc::STDIN_FILENO;
 use libc::STDOUT_FILENO;
 use limits::Office;
@@ -18,7 +18,7 @@ pub enum Input {
 
 // Reads until `bytes` are full or the input ends.
 pub fn read_start(bytes: &mut [u8], fd: i32) -> Input
-    ensures { λ r. ⌜ Within (length (now (bytes .exit))) r ⌝ }
+    ensures { λ r. ⌜ ReadWithin (length (now (bytes .exit))) r ⌝ }
 {
     let mut done: usize = 0;
     while done < bytes.len() {
@@ -37,7 +37,7 @@ pub fn read_start(bytes: &mut [u8], fd: i32) -> Input
 
 // Reads standard input until `bytes` are full or it ends. Where a read fails, says so of `what`.
 pub fn read_input(bytes: &mut [u8], what: &[u8]) -> Input
-    ensures { λ r. ⌜ Within (length (now (bytes .exit))) r ⌝ }
+    ensures { λ r. ⌜ ReadWithin (length (now (bytes .exit))) r ⌝ }
 {
     let input = read_start(bytes, STDIN_FILENO);
     if let Input::Failed = input {

@@ -3,7 +3,7 @@ use mathlib.Core.Path.{refl, sym, subst}
 use lib.ListN.{length}
 use lib.Seq.{length-take-le}
 use borrow.Author.Needs.{needs}
-use Rattle.streams.specs.Reading.{Within}
+use Rattle.streams.specs.Reading.{ReadWithin}
 use Rattle.linksolve.specs.ReplyingLaws.{replies-nothing, replies-card, replies-refusal}
 use Rattle.linksolve.proofs.reply.Statement.{statement}
 use Rattle.linksolve.proofs.reply.Tie as tie
@@ -15,18 +15,20 @@ slice-aggregate-solve-file : tie.Need-slice-aggregate-solve-file
 slice-aggregate-solve-file c =
     let read = c .before .before .before in
     let start = read .before .before .before .before in
-    sym (length-take-le _ _ (subst (Within (length (start .args .file .now))) (read .input .given .1) (start .pre)))
+    sym (length-take-le _ _ (subst (ReadWithin (length (start .args .file .now))) (read .input .given .1) (start .pre .2)))
 
 returns-2 : tie.Need-returns-2
 returns-2 c =
     let solved = c .before .before .before .before .before in
-    replies-card _ _ _ (solved .before .before .before .before .input .given .1) _ (solved .solve-file .ensures)
+    let read = solved .before .before .before .before in
+    replies-card _ _ _ (read .input .given .1) (read .before .before .before .before .pre .0) _ (solved .solve-file .ensures)
     (c .before .solved .given .1)
 
 returns-3 : tie.Need-returns-3
 returns-3 c =
     let solved = c .before .before .before .before .before in
-    replies-refusal _ _ _ (solved .before .before .before .before .input .given .1) _ (solved .solve-file .ensures)
+    let read = solved .before .before .before .before in
+    replies-refusal _ _ _ (read .input .given .1) (read .before .before .before .before .pre .0) _ (solved .solve-file .ensures)
     (c .before .solved2 .given .1)
 
 pub reply-spec : {M : Type 1} → statement M

@@ -10,7 +10,7 @@ use borrow.Author.Tests.{ltb-true, ltb-false}
 use mir.Syntax.{w64}
 use mir.Val.{Fits, SFits}
 use mir.Facts.{toZ-ofZ}
-use Rattle.cardcheck.specs.Seen.{told}
+use Rattle.cardcheck.specs.Seen.{lengthTold}
 use Rattle.cardcheck.proofs.file.length_told.Statement.{statement}
 use Rattle.cardcheck.proofs.file.length_told.Tie as tie
 
@@ -25,11 +25,11 @@ cast-result c =
     subst (λ z. T (nonNeg z) × Fits w64 (natAbs z)) (sym same)
     (fits (c .before .args .answer) known (subst (λ z. ltZ (pos 0) z ≡ true) same (c .if1 .taken)))
 
-itself : (z : ℤ) → ltZ (pos 0) z ≡ true → natAbs z ≡ told z
+itself : (z : ℤ) → ltZ (pos 0) z ≡ true → natAbs z ≡ lengthTold z
 itself (pos n) t = refl
 itself (negsuc n) t = absurd (let z : _≡_ {A = ℕ} 0 1 = cc in omega arith)
 
-nothing : (z : ℤ) → ltZ (pos 0) z ≡ false → 0 ≡ told z
+nothing : (z : ℤ) → ltZ (pos 0) z ≡ false → 0 ≡ lengthTold z
 nothing (pos n) t = omega (arith, ltb-false 0 n t)
 nothing (negsuc n) t = refl
 

@@ -4,7 +4,7 @@ use mathlib.Core.Path.{subst}
 use native.Mathlib.Omega.{arith}
 use borrow.Author.Needs.{needs}
 use borrow.Author.Tests.{leb-true}
-use Rattle.streams.specs.Reading.{Within}
+use Rattle.streams.specs.Reading.{ReadWithin}
 use Rattle.cardcheck.proofs.file.read_on.Statement.{statement}
 use Rattle.cardcheck.proofs.file.read_on.Tie as tie
 
@@ -17,7 +17,7 @@ abbrev μ-loop : tie.MeasureT-loop
 module _ (c : tie.After-known-told Inv-loop μ-loop) where
   -- what a turn reads
   within : c .before .input .given .0 .0 ≤ 65536
-  within = subst (Within 65536) (c .before .input .given .1) (c .before .before .before .read-more .ensures)
+  within = subst (ReadWithin 65536) (c .before .input .given .1) (c .before .before .before .read-more .ensures)
 
   more : c .before .before .before .before .before .before .loop .length ≤ 16777216
   more = leb-true _ _ (c .before .before .before .before .if1 .taken)

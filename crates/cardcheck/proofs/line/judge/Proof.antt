@@ -15,13 +15,13 @@ slice-aggregate-check-files : tie.Need-slice-aggregate-check-files
 slice-aggregate-check-files c =
     let first = c .before .before .before in
     let start = first .before .before .before .before in
-    sym (length-take-le _ _ (omega (arith, first .seen .ensures, seen-most (start .args .n), start .pre .1)))
+    sym (length-take-le _ _ (omega (arith, first .bytes-seen .ensures, seen-most (start .args .n), start .pre .1)))
 
 slice-aggregate-check-files-2 : tie.Need-slice-aggregate-check-files-2
 slice-aggregate-check-files-2 c =
     let second = c .before .before .before in
     let start = second .before .before .before .before .before in
-    sym (length-take-le _ _ (omega (arith, second .seen2 .ensures, seen-most (start .args .m), start .pre .2)))
+    sym (length-take-le _ _ (omega (arith, second .bytes-seen2 .ensures, seen-most (start .args .m), start .pre .2)))
 
 returns : tie.Need-returns
 returns c =
@@ -31,7 +31,7 @@ returns c =
     same-line
     (checked .check-files .ensures
     ∙ ap₂ (λ i j. fileVerdict office (take i (files .system .now)) (take j (files .certificate .now)))
-    (second .before .seen .ensures) (second .seen2 .ensures))
+    (second .before .bytes-seen .ensures) (second .bytes-seen2 .ensures))
     (c .before .before .write-verdict .ensures)
 
 pub judge-spec : {M : Type 1} → statement M

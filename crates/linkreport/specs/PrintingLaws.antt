@@ -13,25 +13,25 @@ use Rattle.words.specs.Limits.{office}
 use Rattle.words.specs.Bytes.{readSystemFile}
 use Rattle.report_text.specs.Longest.{reportSpace}
 use Rattle.report.specs.Reporting.{GivenUnless, ReportsFile}
-use Rattle.linkreport.specs.Replying.{Replies}
+use Rattle.linkreport.specs.Printing.{Prints}
 
 module _ (file entry exit : List ℕ) (count : ℕ) where
   -- where bytes enough are lent, there is a report
-  pub replies-read : {i : Input} {n : ℕ} → i ≡ input.Bytes n → reportSpace ≤ length entry
-      → ReportsFile office (take n file) entry exit count → Replies i file entry exit count
-  unfolding Replies GivenUnless
-  replies-read {n = n} e room report =
-      subst (λ read. Replies read file entry exit count) (sym e)
+  pub prints-report : {i : Input} {n : ℕ} → i ≡ input.Bytes n → reportSpace ≤ length entry
+      → ReportsFile office (take n file) entry exit count → Prints i file entry exit count
+  unfolding Prints GivenUnless
+  prints-report {n = n} e room report =
+      subst (λ read. Prints read file entry exit count) (sym e)
       (subst (λ b. GivenUnless b (readSystemFile office (take n file)) entry exit count) (le-ltb (length entry) reportSpace room) report)
 
-  pub replies-nothing : {i : Input} → i ≡ input.Failed → count ≡ 0 → exit ≡ entry → Replies i file entry exit count
-  unfolding Replies
-  replies-nothing e none same = subst (λ read. Replies read file entry exit count) (sym e) (none, same)
+  pub prints-nothing : {i : Input} → i ≡ input.Failed → count ≡ 0 → exit ≡ entry → Prints i file entry exit count
+  unfolding Prints
+  prints-nothing e none same = subst (λ read. Prints read file entry exit count) (sym e) (none, same)
 
   -- what is printed is among the lent bytes
-  pub replies-most : (i : Input) → Replies i file entry exit count → count ≤ length exit
-  unfolding Replies
-  replies-most (input.Bytes n) given =
+  pub prints-most : (i : Input) → Prints i file entry exit count → count ≤ length exit
+  unfolding Prints
+  prints-most (input.Bytes n) given =
       let length-of = length-append (given .text) (drop (length (given .text)) entry) in
       omega (arith, given .written .count, ap length (given .written .bytes), length-of)
-  replies-most input.Failed nothing = omega (arith, nothing .0)
+  prints-most input.Failed nothing = omega (arith, nothing .0)

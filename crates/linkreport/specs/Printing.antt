@@ -7,9 +7,9 @@ use Rattle.streams.specs.declared.Input.{Input}
 use Rattle.streams.specs.declared.Input.the-variants as input
 use Rattle.words.specs.Limits.{office}
 use Rattle.words.specs.Bytes.{readSystemFile}
-use Rattle.report.specs.Reporting.{Given}
+use Rattle.report.specs.Reporting.{ReportGiven}
 
 -- the report of the bytes read; nothing where they could not be read, which is no refusal
-unfoldable pub Replies : Input → (file entry exit : List ℕ) → ℕ → Type 0
-Replies (input.Bytes n) file entry exit count = Given (readSystemFile office (take n file)) entry exit count
-Replies input.Failed file entry exit count = (count ≡ 0) × (exit ≡ entry)
+unfoldable pub Prints : Input → (file entry exit : List ℕ) → ℕ → Type 0
+Prints (input.Bytes n) file entry exit count = ReportGiven (readSystemFile office (take n file)) entry exit count
+Prints input.Failed file entry exit count = (count ≡ 0) × (exit ≡ entry)
