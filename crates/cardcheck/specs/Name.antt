@@ -4,5 +4,5 @@ use mathlib.Core.Bool.{cond, _||_}
 use lib.Dec.{ltb, eqb}
 
 -- `?` for a control character, by which a name could end the line or change it
-abbrev pub masked : ℕ → ℕ
-masked byte = cond (ltb byte 32 || eqb byte 127) 63 byte
+abbrev pub maskedByte : ℕ → ℕ
+maskedByte byte = cond (ltb byte 32 || eqb byte 127) 63 byte

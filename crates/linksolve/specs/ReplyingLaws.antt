@@ -19,11 +19,11 @@ use Rattle.solver.specs.Solving.{withRoom, certificateBytes, SolvesOr, SolvesFi
 use Rattle.solver.specs.SolvingLaws.{solves-fits}
 use Rattle.linksolve.specs.declared.Replied.{Replied}
 use Rattle.linksolve.specs.declared.Replied.the-variants as replied
-use Rattle.linksolve.specs.Replying.{cardSpace, Replies}
+use Rattle.linksolve.specs.Replying.{certificateSpace, Replies}
 
 -- with bytes enough lent, what was read is the system to solve
-room-enough : (lent : ℕ) → cardSpace ≤ lent → (read : Outcome System) → withRoom cardSpace lent read ≡ read
-room-enough lent h (accepted s) = ap (λ b. refuse b 11 0 (accepted s)) (le-ltb lent cardSpace h)
+room-enough : (lent : ℕ) → certificateSpace ≤ lent → (read : Outcome System) → withRoom certificateSpace lent read ≡ read
+room-enough lent h (accepted s) = ap (λ b. refuse b 11 0 (accepted s)) (le-ltb lent certificateSpace h)
 room-enough lent h (refused number place) = refl
 
 module _ (file entry exit : List ℕ) where
@@ -33,7 +33,7 @@ module _ (file entry exit : List ℕ) where
 
   -- the solver's answer, handed on
   handed-on : Counted → Replied
-  handed-on (counted.Count count) = replied.Card count
+  handed-on (counted.Count count) = replied.Certificate count
   handed-on (counted.Refused refusal) = replied.Refused refusal
 
   by-answer : (n : ℕ) (answer : Counted)
@@ -43,7 +43,7 @@ module _ (file entry exit : List ℕ) where
   by-answer n (counted.Count count) solved = solved
   by-answer n (counted.Refused refusal) solved = solved
 
-  module _ {i : Input} {n : ℕ} (e : i ≡ input.Bytes n) (room : cardSpace ≤ length entry) (answer : Counted)
+  module _ {i : Input} {n : ℕ} (e : i ≡ input.Bytes n) (room : certificateSpace ≤ length entry) (answer : Counted)
       (solved : SolvesFile office (take n file) entry exit (countedOutcome answer)) where
     replies-answer : Replies i file entry exit (handed-on answer)
     replies-answer =
@@ -52,19 +52,19 @@ module _ (file entry exit : List ℕ) where
         (subst (λ read. SolvesOr office certificateBytes read entry exit (countedOutcome answer))
         (room-enough (length entry) room (readSystemFile office (take n file))) solved))
 
-    pub replies-card : {count : ℕ} → answer ≡ counted.Count count → Replies i file entry exit (replied.Card count)
+    pub replies-certificate : {count : ℕ} → answer ≡ counted.Count count → Replies i file entry exit (replied.Certificate count)
     unfolding handed-on
-    replies-card a = subst (λ o. Replies i file entry exit (handed-on o)) a replies-answer
+    replies-certificate a = subst (λ o. Replies i file entry exit (handed-on o)) a replies-answer
 
     pub replies-refusal : {refusal : Refusal} → answer ≡ counted.Refused refusal → Replies i file entry exit (replied.Refused refusal)
     unfolding handed-on
     replies-refusal a = subst (λ o. Replies i file entry exit (handed-on o)) a replies-answer
 
-  -- a card is among the lent bytes
-  by-input : (i : Input) (count : ℕ) → Replies i file entry exit (replied.Card count) → count ≤ length exit
+  -- a certificate is among the lent bytes
+  by-input : (i : Input) (count : ℕ) → Replies i file entry exit (replied.Certificate count) → count ≤ length exit
   unfolding Replies
   by-input (input.Bytes n) count solved = solves-fits office _ _ entry exit (accepted count) solved count refl
   by-input input.Failed count none = absurd none
 
-  pub card-most : (i : Input) (r : Replied) {count : ℕ} → Replies i file entry exit r → r ≡ replied.Card count → count ≤ length exit
-  card-most i r {count} replies e = by-input i count (subst (Replies i file entry exit) e replies)
+  pub certificate-most : (i : Input) (r : Replied) {count : ℕ} → Replies i file entry exit r → r ≡ replied.Certificate count → count ≤ length exit
+  certificate-most i r {count} replies e = by-input i count (subst (Replies i file entry exit) e replies)

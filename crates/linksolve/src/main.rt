@@ -9,22 +9,22 @@ use report_text::SPACE;
 use report_text::write_refusal;
 use solver::file::solve_file;
 use streams::Input;
-use streams::SHEET;
+use streams::SYSTEM_SPACE;
 use streams::print;
 use streams::read_input;
 ghost use Prim.Native.Nat.{_≤_};
 ghost use lib.ListN.{length};
 ghost use Rattle.streams.specs.Reading.{ReadWithin};
-ghost use Rattle.streams.specs.Sheet.{sheetSpace};
-ghost use Rattle.linksolve.specs.Replying.{cardSpace, Replies};
+ghost use Rattle.streams.specs.SystemSpace.{systemSpace};
+ghost use Rattle.linksolve.specs.Replying.{certificateSpace, Replies};
 
-// The bytes of the longest card.
-const CARD: usize = 4 * Office::CERTIFICATE_WORDS;
+// The bytes of the longest certificate's file.
+const CERTIFICATE_SPACE: usize = 4 * Office::CERTIFICATE_WORDS;
 
 // What is to be handed on of a system.
 enum Replied {
-    // The number of the card's bytes.
-    Card(usize),
+    // The number of its certificate's bytes.
+    Certificate(usize),
     Refused(Refusal),
     // Nothing: the system could not be read.
     Nothing,
@@ -37,8 +37,8 @@ fn refuse(refusal: Refusal) {
     io::write_all(STDERR_FILENO, &line[0..n]);
 }
 
-// Writes a card to standard output, but to no terminal.
-fn deliver(card: &[u8]) {
+// Writes a certificate to standard output, but to no terminal.
+fn deliver(certificate: &[u8]) {
     if libc::isatty(STDOUT_FILENO) == 1 {
         io::write_all(
             STDERR_FILENO,
@@ -46,20 +46,21 @@ fn deliver(card: &[u8]) {
         );
         return;
     }
-    print(card, b"linksolve: standard output");
+    print(certificate, b"linksolve: standard output");
 }
 
-// Solves the system in the bytes read, and writes its card over the first of the lent bytes.
-fn reply(card: &mut [u8], file: &[u8], input: Input) -> Replied
-    requires { ⌜ (cardSpace ≤ length (now card)) × (sheetSpace ≤ length (now file)) × ReadWithin (length (now file)) input ⌝ }
-    ensures { λ r. ⌜ Replies input (now (file .entry)) (now (card .entry)) (now (card .exit)) r ⌝ }
+// Solves the system in the bytes read, and writes its certificate over the first of the lent bytes.
+fn reply(certificate: &mut [u8], file: &[u8], input: Input) -> Replied
+    requires { ⌜ (certificateSpace ≤ length (now certificate)) × (systemSpace ≤ length (now file))
+        × ReadWithin (length (now file)) input ⌝ }
+    ensures { λ r. ⌜ Replies input (now (file .entry)) (now (certificate .entry)) (now (certificate .exit)) r ⌝ }
 {
     let Input::Bytes(n) = input else {
         return Replied::Nothing;
     };
-    let solved = solve_file(card, &file[..n]);
+    let solved = solve_file(certificate, &file[..n]);
     match solved {
-        Counted::Count(count) => Replied::Card(count),
+        Counted::Count(count) => Replied::Certificate(count),
         Counted::Refused(refusal) => Replied::Refused(refusal),
     }
 }
@@ -69,12 +70,12 @@ fn main() {
         io::write_all(STDERR_FILENO, b"usage: linksolve < SHEET > CARD\n");
         return;
     }
-    let mut file = [0u8; SHEET];
+    let mut file = [0u8; SYSTEM_SPACE];
     let input = read_input(&mut file, b"linksolve: standard input");
-    let mut card = [0u8; CARD];
-    let replied = reply(&mut card, &file, input);
+    let mut certificate = [0u8; CERTIFICATE_SPACE];
+    let replied = reply(&mut certificate, &file, input);
     match replied {
-        Replied::Card(n) => deliver(&card[0..n]),
+        Replied::Certificate(n) => deliver(&certificate[0..n]),
         Replied::Refused(refusal) => refuse(refusal),
         Replied::Nothing => {}
     }

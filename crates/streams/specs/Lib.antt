@@ -1,3 +1,3 @@
--- interface, what contracts, other crates and PROVED.md cite: Reading, Sheet
+-- interface, what contracts, other crates and PROVED.md cite: Reading, SystemSpace
 pub mod Reading
-pub mod Sheet
+pub mod SystemSpace

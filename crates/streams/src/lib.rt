@@ -6,7 +6,7 @@ use libc::STDOUT_FILENO;
 use limits::Office;
 
 // The bytes that are read of a sheet (a system's file): one more than the longest has. All that is longer is refused as these are.
-pub const SHEET: usize = Office::FILE_BYTES + 1;
+pub const SYSTEM_SPACE: usize = Office::FILE_BYTES + 1;
 
 // What reading gives.
 pub enum Input {

@@ -1,13 +1,13 @@
--- The card is among the bytes lent for it.
+-- The certificate is among the bytes lent for it.
 use borrow.Author.Needs.{needs}
-use Rattle.linksolve.specs.ReplyingLaws.{card-most}
+use Rattle.linksolve.specs.ReplyingLaws.{certificate-most}
 use Rattle.linksolve.proofs.main.Statement.{statement}
 use Rattle.linksolve.proofs.main.Tie as tie
 
 part-deliver-end : tie.Need-part-deliver-end
 part-deliver-end c =
     let read = c .before .before in
-    card-most _ _ _ _ _ (read .before .before .before .reply .ensures) (read .replied .given .1)
+    certificate-most _ _ _ _ _ (read .before .before .before .reply .ensures) (read .replied .given .1)
 
 pub main-spec : {M : Type 1} → statement M
 main-spec =

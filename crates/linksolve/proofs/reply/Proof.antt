@@ -4,7 +4,7 @@ use lib.ListN.{length}
 use lib.Seq.{length-take-le}
 use borrow.Author.Needs.{needs}
 use Rattle.streams.specs.Reading.{ReadWithin}
-use Rattle.linksolve.specs.ReplyingLaws.{replies-nothing, replies-card, replies-refusal}
+use Rattle.linksolve.specs.ReplyingLaws.{replies-nothing, replies-certificate, replies-refusal}
 use Rattle.linksolve.proofs.reply.Statement.{statement}
 use Rattle.linksolve.proofs.reply.Tie as tie
 
@@ -21,7 +21,7 @@ returns-2 : tie.Need-returns-2
 returns-2 c =
     let solved = c .before .before .before .before .before in
     let read = solved .before .before .before .before in
-    replies-card _ _ _ (read .input .given .1) (read .before .before .before .before .pre .0) _ (solved .solve-file .ensures)
+    replies-certificate _ _ _ (read .input .given .1) (read .before .before .before .before .pre .0) _ (solved .solve-file .ensures)
     (c .before .solved .given .1)
 
 returns-3 : tie.Need-returns-3

@@ -15,8 +15,8 @@ use Rattle.words.specs.System.{readSystem}
 use Rattle.words.specs.Bytes.{wordsOf, broken, tooLong, readSystemFile}
 
 -- one byte more than the longest has
-abbrev pub sheetSpace : ℕ
-sheetSpace = 4 * longestSystem office + 1
+abbrev pub systemSpace : ℕ
+systemSpace = 4 * longestSystem office + 1
 
 too-long : (file : List ℕ) → tooLong office file ≡ true → readSystemFile office file ≡ refused 10 0
 unfolding readSystemFile
@@ -27,13 +27,13 @@ too-long file e = ap (λ t. refuse (broken file || t) 10 0 (readSystem office (w
     by false = refl
 
 -- a file is read as so many of its bytes are
-pub start-read : (file : List ℕ) → readSystemFile office (take sheetSpace file) ≡ readSystemFile office file
-start-read file = by (decLt (length file) sheetSpace)
+pub start-read : (file : List ℕ) → readSystemFile office (take systemSpace file) ≡ readSystemFile office file
+start-read file = by (decLt (length file) systemSpace)
   where
-    by : Dec (length file < sheetSpace) → readSystemFile office (take sheetSpace file) ≡ readSystemFile office file
-    by (yes h) = ap (readSystemFile office) (take-all sheetSpace file (omega arith))
+    by : Dec (length file < systemSpace) → readSystemFile office (take systemSpace file) ≡ readSystemFile office file
+    by (yes h) = ap (readSystemFile office) (take-all systemSpace file (omega arith))
     by (no h) =
         let limit = 4 * longestSystem office in
-        let all = length-take-le sheetSpace file (omega arith) in
-        too-long (take sheetSpace file) (lt-ltb limit (length (take sheetSpace file)) (omega (arith, all)))
+        let all = length-take-le systemSpace file (omega arith) in
+        too-long (take systemSpace file) (lt-ltb limit (length (take systemSpace file)) (omega (arith, all)))
         ∙ sym (too-long file (lt-ltb limit (length file) (omega arith)))
