@@ -1,77 +1,129 @@
-// Files by their names.
-ghost use Prim.Native.Nat.{_≤_, _<_};
-ghost use lib.ListN.{length};
+// Files by their names. What is wrong with one is said on standard error.
+use crate::name::mask;
+use libc::SEEK_END;
+use libc::STDERR_FILENO;
+use streams::Input;
+use streams::read_start;
+ghost use mathlib.Core.Path.{_≡_};
+ghost use Rattle.streams.specs.Reading.{ReadWithin};
+ghost use Rattle.cardcheck.specs.Seen.{lengthTold};
 
-// What reading a file gives.
-pub struct File {
-    // Whether it could be read.
-    pub found: bool,
-    // How many of its bytes stand at the start of the space lent. Of a file that fills the space these are not all, but of the same
-    // remainder modulo four.
-    pub count: usize,
+// What is known of a file.
+pub enum File {
+    // Its length. As many of its bytes as there is room for stand at the start of the space lent.
+    Length(usize),
+    // Nothing: it could not be read, which standard error says.
+    Unread,
 }
 
-// Returns what reading gives of a file that cannot be read.
-fn none() -> File
-    ensures { λ r. ⌜ r .count ≤ 0 ⌝ }
+// What reading to the end finds.
+enum End {
+    // The length of what was read.
+    At(usize),
+    // A read failed, and errno says why.
+    Failed,
+    // There is none within `MOST` bytes.
+    Beyond,
+}
+
+// The most bytes that are read to find an end that the system does not tell, as that of a pipe.
+const MOST: usize = 16777216;
+
+// The bytes that one turn reads.
+const TURN: usize = 65536;
+
+// Returns the length that an answer of the system tells; 0 where it tells none.
+fn length_told(answer: i64) -> usize
+    ensures { λ r. ⌜ r ≡ lengthTold answer ⌝ }
 {
-    File {
-        found: false,
-        count: 0,
+    if answer > 0 { answer as usize } else { 0 }
+}
+
+// Reads up to `TURN` bytes more.
+fn read_more(fd: i32) -> Input
+    ensures { λ r. ⌜ ReadWithin 65536 r ⌝ }
+{
+    let mut space = io::large_buffer();
+    read_start(&mut space, fd)
+}
+
+// Reads on to the end, behind `count` bytes that were read.
+fn read_on(fd: i32, count: usize) -> End {
+    let mut length = count;
+    let mut last = TURN;
+    while last == TURN && length <= MOST {
+        let input = read_more(fd);
+        let Input::Bytes(more) = input else {
+            return End::Failed;
+        };
+        last = more;
+        length += more;
     }
-}
-
-// Reads up to 4,096 bytes more. Returns their number.
-fn read_more(fd: i32) -> usize {
-    let mut space = io::buffer();
-    io::read_full(fd, &mut space)
-}
-
-// Reads to the end. Returns the number of these bytes modulo four: all reads but the last are of 4,096. A proved loop has to end,
-// and nothing says that a file does; so the turns are counted down from a number that no run uses up.
-fn read_on(fd: i32) -> usize
-    ensures { λ r. ⌜ r < 4 ⌝ }
-{
-    let mut turns = u64::MAX;
-    let mut last = read_more(fd);
-    while turns > 0 && last == 4096 {
-        last = read_more(fd);
-        turns -= 1;
+    if length > MOST {
+        return End::Beyond;
     }
-    last % 4
+    End::At(length)
 }
 
-// Returns how many bytes are handed on of a file of which `all` are in the space: all, or, where it may have more, as many modulo
-// four.
-fn kept(fd: i32, all: usize, bytes: &[u8]) -> usize
-    requires { ⌜ 4 ≤ length (now bytes) ⌝ }
-    ensures { λ r. ⌜ r ≤ length (now (bytes .entry)) ⌝ }
-{
-    if all < bytes.len() {
-        return all;
+// Finds the end of a file of which `count` bytes were read. The system tells that of a regular file; where it tells of no bytes behind
+// these, reads on.
+fn find_end(fd: i32, count: usize) -> End {
+    let end = length_told(libc::lseek(fd, 0, SEEK_END));
+    if end <= count {
+        return read_on(fd, count);
     }
-    bytes.len() - 4 + read_on(fd)
+    End::At(end)
 }
 
-// Reads a file into `bytes`, whole words and at least one.
-pub fn read_file(name: &[u8], bytes: &mut [u8]) -> File
-    requires { ⌜ 4 ≤ length (now bytes) ⌝ }
-    ensures { λ r. ⌜ r .count ≤ length (now (bytes .exit)) ⌝ }
-{
+// Reads as much of a file as `bytes` have room for, and finds its end.
+fn read_whole(bytes: &mut [u8], fd: i32) -> End {
+    let input = read_start(bytes, fd);
+    let Input::Bytes(count) = input else {
+        return End::Failed;
+    };
+    if count < bytes.len() {
+        return End::At(count);
+    }
+    find_end(fd, count)
+}
+
+// Says the system's reason why a file could not be read.
+fn fail(name: &mut [u8]) {
+    mask(name);
+    io::write_all(STDERR_FILENO, b"cardcheck: ");
+    os::fail(name);
+}
+
+// Says that a file has no end within `MOST` bytes.
+fn fail_endless(name: &mut [u8]) {
+    mask(name);
+    io::write_all(STDERR_FILENO, b"cardcheck: ");
+    io::write_all(STDERR_FILENO, name);
+    io::write_all(STDERR_FILENO, b": no end within ");
+    io::print_decimal(STDERR_FILENO, MOST as u64);
+    io::write_all(STDERR_FILENO, b" bytes\n");
+}
+
+// Reads the file of a name, which is masked where it is said.
+pub fn read_file(bytes: &mut [u8], name: &mut [u8]) -> File {
     let fd = os::open_read(name);
     if fd < 0 {
-        return none();
+        fail(name);
+        return File::Unread;
     }
-    let first = libc::read(fd, bytes);
-    if first < 0 {
-        return none();
-    }
-    let count = io::count(first, bytes);
-    let rest = io::read_full(fd, &mut bytes[count..]);
-    let all = kept(fd, count + rest, bytes);
-    libc::close(fd);
-    File {
-        found: true,
-        count: all,
+    let end = read_whole(bytes, fd);
+    match end {
+        End::At(length) => {
+            libc::close(fd);
+            File::Length(length)
+        }
+        End::Failed => {
+            fail(name);
+            File::Unread
+        }
+        End::Beyond => {
+            fail_endless(name);
+            File::Unread
+        }
     }
 }

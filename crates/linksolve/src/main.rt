@@ -1,20 +1,34 @@
-// linksolve: reads a sheet (a system's file) from standard input and writes its card (a certificate's file) to standard output. A
-// refusal is a line on standard error, and nothing is written to standard output.
+// linksolve: reads a sheet (a system's file) from standard input and writes its card (a certificate's file) to standard output, and
+// nothing else. A refusal is a line on standard error.
 use answers::Counted;
 use answers::Refusal;
 use libc::STDERR_FILENO;
-use libc::STDIN_FILENO;
 use libc::STDOUT_FILENO;
 use limits::Office;
 use report_text::SPACE;
 use report_text::write_refusal;
 use solver::file::solve_file;
+use streams::Input;
+use streams::SYSTEM_SPACE;
+use streams::print;
+use streams::read_input;
+ghost use Prim.Native.Nat.{_≤_};
+ghost use lib.ListN.{length};
+ghost use Rattle.streams.specs.Reading.{ReadWithin};
+ghost use Rattle.streams.specs.SystemSpace.{systemSpace};
+ghost use Rattle.linksolve.specs.Replying.{certificateSpace, Replies};
 
-// A byte more than the longest sheet has: what fills it is refused, like all that is longer.
-const INPUT: usize = Office::FILE_BYTES + 1;
+// The bytes of the longest certificate's file.
+const CERTIFICATE_SPACE: usize = 4 * Office::CERTIFICATE_WORDS;
 
-// The bytes of the longest card.
-const OUTPUT: usize = 4 * Office::CERTIFICATE_WORDS;
+// What is to be handed on of a system.
+enum Replied {
+    // The number of its certificate's bytes.
+    Certificate(usize),
+    Refused(Refusal),
+    // Nothing: the system could not be read.
+    Nothing,
+}
 
 // Prints a refusal on standard error, as the report does.
 fn refuse(refusal: Refusal) {
@@ -23,20 +37,46 @@ fn refuse(refusal: Refusal) {
     io::write_all(STDERR_FILENO, &line[0..n]);
 }
 
-// Solves the sheet in `file`: writes its card to standard output, or prints the refusal.
-fn answer(file: &[u8]) {
-    let mut certificate = [0u8; OUTPUT];
-    let solved = solve_file(&mut certificate, file);
+// Writes a certificate to standard output, but to no terminal.
+fn deliver(certificate: &[u8]) {
+    if libc::isatty(STDOUT_FILENO) == 1 {
+        io::write_all(
+            STDERR_FILENO,
+            b"linksolve: standard output is a terminal; write the card to a file: linksolve < SHEET > CARD\n",
+        );
+        return;
+    }
+    print(certificate, b"linksolve: standard output");
+}
+
+// Solves the system in the bytes read, and writes its certificate over the first of the lent bytes.
+fn reply(certificate: &mut [u8], file: &[u8], input: Input) -> Replied
+    requires { ⌜ (certificateSpace ≤ length (now certificate)) × (systemSpace ≤ length (now file))
+        × ReadWithin (length (now file)) input ⌝ }
+    ensures { λ r. ⌜ Replies input (now (file .entry)) (now (certificate .entry)) (now (certificate .exit)) r ⌝ }
+{
+    let Input::Bytes(n) = input else {
+        return Replied::Nothing;
+    };
+    let solved = solve_file(certificate, &file[..n]);
     match solved {
-        Counted::Count(n) => {
-            io::write_all(STDOUT_FILENO, &certificate[0..n]);
-        }
-        Counted::Refused(refusal) => refuse(refusal),
+        Counted::Count(count) => Replied::Certificate(count),
+        Counted::Refused(refusal) => Replied::Refused(refusal),
     }
 }
 
 fn main() {
-    let mut file = [0u8; INPUT];
-    let n = io::read_full(STDIN_FILENO, &mut file);
-    answer(&file[0..n]);
+    if os::arg_count() > 1 {
+        io::write_all(STDERR_FILENO, b"usage: linksolve < SHEET > CARD\n");
+        return;
+    }
+    let mut file = [0u8; SYSTEM_SPACE];
+    let input = read_input(&mut file, b"linksolve: standard input");
+    let mut certificate = [0u8; CERTIFICATE_SPACE];
+    let replied = reply(&mut certificate, &file, input);
+    match replied {
+        Replied::Certificate(n) => deliver(&certificate[0..n]),
+        Replied::Refused(refusal) => refuse(refusal),
+        Replied::Nothing => {}
+    }
 }

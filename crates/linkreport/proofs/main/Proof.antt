@@ -1,29 +1,30 @@
--- The report is among the bytes lent for it.
-use lib.ListN.{replicate}
-use Rattle.words.specs.Limits.{office}
-use Rattle.report.specs.ReportingLaws.{reports-most}
+-- What is printed is among the bytes lent for it.
+use native.Mathlib.Omega.{arith}
 use borrow.Author.Needs.{needs}
+use Rattle.linkreport.specs.PrintingLaws.{prints-most}
 use Rattle.linkreport.proofs.main.Statement.{statement}
 use Rattle.linkreport.proofs.main.Tie as tie
 
-part-write-all-end : tie.Need-part-write-all-end
-part-write-all-end c =
-    let report = c .before .before .write-report in
-    reports-most (replicate 1024 0) _ office _ (report .ensures)
+part-print-end : tie.Need-part-print-end
+part-print-end c = prints-most _ _ _ _ _ (c .before .before .reply .ensures)
 
 pub main-spec : {M : Type 1} → statement M
 main-spec =
     tie.close
     (tie.spec
+    (λ c κs. search needs)
     (λ c. search needs)
     (λ c κs. search needs)
     (λ c. search needs)
     (λ c. search needs)
     (λ c. search needs)
+    (λ c κs. search needs)
+    (λ c. search needs)
     (λ c. search needs)
     (λ c κs. search needs)
     (λ c. search needs)
     (λ c. search needs)
-    part-write-all-end
+    part-print-end
+    (λ c. search needs)
     (λ c κs. search needs)
     (λ c. search needs))

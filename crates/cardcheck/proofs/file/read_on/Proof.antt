@@ -1,13 +1,35 @@
--- The measure is the number of turns that are left; nothing has to hold from turn to turn.
+-- The loop keeps: a turn reads at most what it has room for. It reads something, or is the last.
+use Prim.Native.Nat.{_+_, _-_, _≤_}
+use mathlib.Core.Path.{subst}
 use native.Mathlib.Omega.{arith}
+use borrow.Author.Needs.{needs}
+use borrow.Author.Tests.{leb-true}
+use Rattle.streams.specs.Reading.{ReadWithin}
 use Rattle.cardcheck.proofs.file.read_on.Statement.{statement}
 use Rattle.cardcheck.proofs.file.read_on.Tie as tie
 
 abbrev Inv-loop : tie.InvT-loop
-Inv-loop fd turns₀ last₀ turns last = Unit {0}
+Inv-loop fd count length₀ last₀ length last = last ≤ 65536
 
 abbrev μ-loop : tie.MeasureT-loop
-μ-loop fd turns₀ last₀ turns last = turns
+μ-loop fd count length₀ last₀ length last = (16777217 - length) + last
+
+module _ (c : tie.After-known-told Inv-loop μ-loop) where
+  -- what a turn reads
+  within : c .before .input .given .0 .0 ≤ 65536
+  within = subst (ReadWithin 65536) (c .before .input .given .1) (c .before .before .before .read-more .ensures)
+
+  more : c .before .before .before .before .before .before .loop .length ≤ 16777216
+  more = leb-true _ _ (c .before .before .before .before .if1 .taken)
+
+add-length : tie.Need-add-length Inv-loop μ-loop
+add-length c = omega (arith, within c, more c)
+
+loop-less : tie.Need-loop-less Inv-loop μ-loop
+loop-less c = omega (arith, within c, more c, c .before .before .before .before .before .loop-test .taken)
+
+loop-again : tie.Need-loop-again Inv-loop μ-loop
+loop-again c = within c
 
 pub read-on-spec : {M : Type 1} → statement M
 read-on-spec =
@@ -15,10 +37,13 @@ read-on-spec =
     (tie.spec
     Inv-loop
     μ-loop
-    (λ c κs. tt)
-    (λ c. tt)
-    (λ c κs. tt)
-    (λ c. omega arith)
-    (λ c. omega arith)
-    (λ c. tt)
-    (λ c. omega arith))
+    (λ c. search needs)
+    (λ c κs. search needs)
+    (λ c. search needs)
+    (λ c. search needs)
+    (λ c. search needs)
+    add-length
+    loop-less
+    loop-again
+    (λ c. search needs)
+    (λ c. search needs))

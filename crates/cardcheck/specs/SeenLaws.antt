@@ -1,0 +1,121 @@
+-- What is looked at of a file decides: the verdict on it is that on the whole file, however long that is.
+use Prim.Native.Nat.{ℕ, _+_, _*_, _/_, _%_, _≤_, _<_}
+use native.Mathlib.Decide.{decLt}
+use native.Mathlib.Omega.{arith}
+use mathlib.Core.Path.{_≡_, refl, sym, ap, ap₂, _∙_}
+use mathlib.Core.Bool.{Bool, true, false, not, _||_}
+use mathlib.Core.List.{List}
+use lib.Dec.{eqb}
+use lib.ListN.{length, take, getD}
+use lib.Seq.{length-take-le, take-all, getD-take, ext-getD}
+use borrow.Author.Tests.{lt-ltb, le-ltb}
+use Rattle.words.specs.Limits.{office, longestSystem, longestCertificate}
+use Rattle.words.specs.LimitsLaws.{office-fits}
+use Rattle.words.specs.Outcome.{refuse}
+use Rattle.words.specs.Outcome.Outcome.{refused}
+use Rattle.words.specs.Bytes.{wordOf, wordAt, wordsOf, broken, tooLong}
+use Rattle.words.specs.BytesLaws.{length-wordsOf, wordsOf-at}
+use Rattle.truth.specs.Verdict.{verdict}
+use Rattle.truth.specs.Prefix.{verdict-prefix}
+use Rattle.verifier.specs.File.{fileVerdict}
+use Rattle.cardcheck.specs.Seen.{fileSpace, bytesSeen}
+
+pub seen-most : (n : ℕ) → bytesSeen n < fileSpace
+seen-most n = by (decLt n fileSpace)
+  where
+    by : Dec (n < fileSpace) → bytesSeen n < fileSpace
+    by (yes h) = rw (lt-ltb n fileSpace h) h
+    by (no h) = rw (le-ltb n fileSpace (omega arith)) (omega arith)
+
+-- the words of a file's start are the first of its words
+words-of-start : (k : ℕ) (bytes : List ℕ) → k ≤ length bytes → wordsOf (take k bytes) ≡ take (k / 4) (wordsOf bytes)
+words-of-start k bytes h = ext-getD 0 (wordsOf (take k bytes)) (take (k / 4) (wordsOf bytes)) (first ∙ sym second) each
+  where
+    first : length (wordsOf (take k bytes)) ≡ k / 4
+    first = length-wordsOf (take k bytes) ∙ ap (λ n. n / 4) (length-take-le k bytes h)
+
+    second : length (take (k / 4) (wordsOf bytes)) ≡ k / 4
+    second = length-take-le (k / 4) (wordsOf bytes) (omega (arith, length-wordsOf bytes))
+
+    byte : (i : ℕ) → i < k → getD (take k bytes) i 0 ≡ getD bytes i 0
+    byte i l = getD-take k bytes i 0 l
+
+    each : (i : ℕ) → i < length (wordsOf (take k bytes)) → getD (wordsOf (take k bytes)) i 0 ≡ getD (take (k / 4) (wordsOf bytes)) i 0
+    each i l =
+        wordsOf-at (take k bytes) i (omega (arith, length-wordsOf (take k bytes)))
+        ∙ rw (
+          byte (4 * i) (omega (arith, first)),
+          byte (4 * i + 1) (omega (arith, first)),
+          byte (4 * i + 2) (omega (arith, first)),
+          byte (4 * i + 3) (omega (arith, first)),
+        )
+        refl
+        ∙ sym (wordsOf-at bytes i (omega (arith, first)))
+        ∙ sym (getD-take (k / 4) (wordsOf bytes) i 0 (omega (arith, first)))
+
+-- what is looked at of a file
+abbrev pub fileStart : List ℕ → List ℕ
+fileStart file = take (bytesSeen (length file)) file
+
+module _ (file : List ℕ) where
+  start-short : length file < fileSpace → fileStart file ≡ file
+  start-short h =
+      let all : bytesSeen (length file) ≡ length file = rw (lt-ltb (length file) fileSpace h) in
+      ap (λ k. take k file) all ∙ take-all (length file) file (omega arith)
+
+  module _ (long : fileSpace ≤ length file) where
+    seen-long : bytesSeen (length file) ≡ 4 * (longestCertificate office + 1) + length file % 4
+    seen-long = rw (le-ltb (length file) fileSpace long)
+
+    start-length : length (fileStart file) ≡ 4 * (longestCertificate office + 1) + length file % 4
+    start-length = length-take-le (bytesSeen (length file)) file (omega (arith, seen-long)) ∙ seen-long
+
+    start-broken : broken (fileStart file) ≡ broken file
+    start-broken =
+        let same : length (fileStart file) % 4 ≡ length file % 4 = omega (arith, start-length) in ap (λ n. not (eqb n 0)) same
+
+    start-words : wordsOf (fileStart file) ≡ take (longestCertificate office + 1) (wordsOf file)
+    start-words =
+        let words : bytesSeen (length file) / 4 ≡ longestCertificate office + 1 = omega (arith, seen-long) in
+        words-of-start (bytesSeen (length file)) file (omega (arith, seen-long)) ∙ ap (λ k. take k (wordsOf file)) words
+
+module _ (system certificate : List ℕ) where
+  certificate-start : fileVerdict office system (fileStart certificate) ≡ fileVerdict office system certificate
+  unfolding fileVerdict
+  certificate-start = by (decLt (length certificate) fileSpace)
+    where
+      by : Dec (length certificate < fileSpace) → fileVerdict office system (fileStart certificate) ≡ fileVerdict office system certificate
+      by (yes h) = ap (fileVerdict office system) (start-short certificate h)
+      by (no h) =
+          let long : fileSpace ≤ length certificate = omega arith in
+          ap₂ (λ b o. refuse ((broken system || tooLong office system) || b) 10 0 o) (start-broken certificate long)
+          (ap (verdict office (wordsOf system)) (start-words certificate long)
+          ∙ verdict-prefix office office-fits (wordsOf system) (wordsOf certificate) (longestCertificate office + 1) (omega arith)
+          (omega (arith, length-wordsOf certificate)))
+
+  -- a system's file that is too long is 10 at 0
+  too-long : (file : List ℕ) → tooLong office file ≡ true → fileVerdict office file certificate ≡ refused 10 0
+  unfolding fileVerdict
+  too-long file e =
+      ap (λ t. refuse ((broken file || t) || broken certificate) 10 0 (verdict office (wordsOf file) (wordsOf certificate))) e
+      ∙ by (broken file)
+    where
+      by : (b : Bool) → refuse ((b || true) || broken certificate) 10 0 (verdict office (wordsOf file) (wordsOf certificate)) ≡ refused 10 0
+      by true = refl
+      by false = refl
+
+  system-start : fileVerdict office (fileStart system) certificate ≡ fileVerdict office system certificate
+  system-start = by (decLt (length system) fileSpace)
+    where
+      by : Dec (length system < fileSpace) → fileVerdict office (fileStart system) certificate ≡ fileVerdict office system certificate
+      by (yes h) = ap (λ s. fileVerdict office s certificate) (start-short system h)
+      by (no h) =
+          let long : fileSpace ≤ length system = omega arith in
+          let limit = 4 * longestSystem office in
+          too-long (fileStart system) (lt-ltb limit (length (fileStart system)) (omega (arith, start-length system long)))
+          ∙ sym (too-long system (lt-ltb limit (length system) (omega arith)))
+
+-- the verdict on what is looked at is that on the files
+pub verdict-seen : (system certificate : List ℕ)
+    → fileVerdict office (fileStart system) (fileStart certificate) ≡ fileVerdict office system certificate
+verdict-seen system certificate = system-start system (fileStart certificate) ∙ certificate-start system certificate

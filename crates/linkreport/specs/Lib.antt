@@ -1,0 +1,4 @@
+-- interface, what contracts and PROVED.md cite: Printing
+-- inside: PrintingLaws
+pub mod Printing
+pub mod PrintingLaws

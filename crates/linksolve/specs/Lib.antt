@@ -1,0 +1,4 @@
+-- interface, what contracts and PROVED.md cite: Replying
+-- inside: ReplyingLaws
+pub mod Replying
+pub mod ReplyingLaws

@@ -1,0 +1,3 @@
+-- interface, what contracts, other crates and PROVED.md cite: Reading, SystemSpace
+pub mod Reading
+pub mod SystemSpace

@@ -1,0 +1,61 @@
+// Standard input and standard output of the programs. What fails is said on standard error, with the system's reason.
+ghost use lib.ListN.{length};
+ghost use Rattle.streams.specs.Reading.{ReadWithin};
+use libc::STDIN_FILENO;
+use libc::STDOUT_FILENO;
+use limits::Office;
+
+// The bytes that are read of a sheet (a system's file): one more than the longest has. All that is longer is refused as these are.
+pub const SYSTEM_SPACE: usize = Office::FILE_BYTES + 1;
+
+// What reading gives.
+pub enum Input {
+    // The number of bytes read, which stand at the start of the space lent.
+    Bytes(usize),
+    // A read failed, and errno says why.
+    Failed,
+}
+
+// Reads until `bytes` are full or the input ends.
+pub fn read_start(bytes: &mut [u8], fd: i32) -> Input
+    ensures { λ r. ⌜ ReadWithin (length (now (bytes .exit))) r ⌝ }
+{
+    let mut done: usize = 0;
+    while done < bytes.len() {
+        let got = libc::read(fd, &mut bytes[done..]);
+        if got < 0 {
+            return Input::Failed;
+        }
+        let more = io::count(got, &bytes[done..]);
+        if more == 0 {
+            return Input::Bytes(done);
+        }
+        done += more;
+    }
+    Input::Bytes(done)
+}
+
+// Reads standard input until `bytes` are full or it ends. Where a read fails, says so of `what`.
+pub fn read_input(bytes: &mut [u8], what: &[u8]) -> Input
+    ensures { λ r. ⌜ ReadWithin (length (now (bytes .exit))) r ⌝ }
+{
+    let input = read_start(bytes, STDIN_FILENO);
+    if let Input::Failed = input {
+        os::fail(what);
+    }
+    input
+}
+
+// Writes `bytes`, if there are any, to standard output and closes it. Where either fails, says so of `what`.
+pub fn print(bytes: &[u8], what: &[u8]) {
+    if bytes.len() == 0 {
+        return;
+    }
+    if !io::write_all(STDOUT_FILENO, bytes) {
+        os::fail(what);
+        return;
+    }
+    if libc::close(STDOUT_FILENO) < 0 {
+        os::fail(what);
+    }
+}
