@@ -79,7 +79,8 @@ solver-refused-iff {limits} {file} {entry} {exit} {r} fit small h number place l
     let iff = solve-file-refused-iff limits file entry exit (h .answer) (h .solves) fit small number place in (
       λ e.
           iff .0 (sym (solver-unpacked h) ∙ ap unpacked e
-          ∙ ap₂ (λ n k. refusedUnless0 n k k) (packed-number number place m) (packed-place number place m) ∙ refused-by number place place l),
+          ∙ ap₂ (λ n k. refusedUnless0 n k k) (packed-number number place m) (packed-place number place m)
+          ∙ refused-by number place place l),
       λ a. h .packs ∙ ap packed (iff .1 a),
     )
 
@@ -104,7 +105,8 @@ check-unpacked limits fit system certificate =
     unpacked-packedVerdict (fileVerdict limits system certificate)
     (refusals-wider 1 36 (omega arith) (omega arith) (check-numbers limits fit system certificate))
 
-pub check-packs-apart : (limits limits′ : Limits) → LimitsFit limits → LimitsFit limits′ → (system certificate system′ certificate′ : List ℕ)
+pub check-packs-apart : (limits limits′ : Limits) → LimitsFit limits → LimitsFit limits′
+    → (system certificate system′ certificate′ : List ℕ)
     → packedVerdict (fileVerdict limits system certificate) ≡ packedVerdict (fileVerdict limits′ system′ certificate′)
     → fileVerdict limits system certificate ≡ fileVerdict limits′ system′ certificate′
 check-packs-apart limits limits′ fit fit′ system certificate system′ certificate′ e =

@@ -37,7 +37,8 @@ pub record Demand1 : Type 0 where
       → (readSystem office ws ≡ refused number place) ↔ ByTable (systemTable office) 0 ws number place
   pub certificate : (h : Shape) (cs : List ℕ) (number place : ℕ)
       → (readCertificate office h cs ≡ refused number place) ↔ ByTable (certificateTable office h) 20 cs number place
-  pub file : (bytes : List ℕ) (number place : ℕ) → (readSystemFile office bytes ≡ refused number place) ↔ FileRefused office bytes number place
+  pub file : (bytes : List ℕ) (number place : ℕ)
+      → (readSystemFile office bytes ≡ refused number place) ↔ FileRefused office bytes number place
   -- of the check's number: 10 before all others, then the sheet's rows, the card's, and 31 to 36
   pub check : (f g : List ℕ) (number place : ℕ) → 1 ≤ number → number ≤ 63
       → (checkGives f g ≡ 64 * place + number) ↔ FilesRefused office f g number place

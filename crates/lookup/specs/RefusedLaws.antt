@@ -16,7 +16,7 @@ use Rattle.words.specs.Rows.{RefusesBy, at-0, lookupRows}
 use Rattle.words.specs.RowLaws.{by-accepted, by-row}
 use Rattle.words.specs.Pair.{PairRefused}
 use Rattle.words.specs.PairLaws.{pair-refused-iff, pair-rows}
-use Rattle.lookup.specs.Lookup.{Side, Part, entriesOn, partOf, shown, polynomialLookup}
+use Rattle.lookup.specs.Lookup.{Side, entriesOn, partOf, shown, polynomialLookup}
 
 -- "12: no polynomial of that number; 0"
 abbrev pub NoPolynomial : Side → ℕ → System → Certificate → (number place : ℕ) → Type 0

@@ -1,6 +1,6 @@
 -- The solver's refusals, each under its condition only (demand 1): those of the system's words, on files 10 before them, then 11.
 use Prim.Native.Nat.{ℕ, _*_, _<_}
-use mathlib.Core.Path.{_≡_, refl, sym, _∙_}
+use mathlib.Core.Path.{_≡_, sym, _∙_}
 use mathlib.Core.Logic.{_↔_, inl, inr, ⊎-elim}
 use mathlib.Core.List.{List, _∷_, [], _++_}
 use lib.ListN.{length}

@@ -72,7 +72,8 @@ module _ (s : System) (h : Proper s) where
     pub column-divides : (j : ℕ) → remainder (modulo p) (columnOf s Z j) w ≡ [] → DividesModulo p w (columnOf s Z j)
     unfolding numbers
     column-divides j e = subst (DividesModulo p w) (column-list s h Z hZ j)
-        (divides-list p (h .prime) {d = W} {f = column j} (divisionLaws p (h .prime) .remainder-divides (column j) W (equal-numbers p _ _ (remainder-list j ∙ e))))
+        (divides-list p (h .prime) {d = W} {f = column j}
+        (divisionLaws p (h .prime) .remainder-divides (column j) W (equal-numbers p _ _ (remainder-list j ∙ e))))
 
     pub divides-column : (j : ℕ) → DividesModulo p w (columnOf s Z j) → remainder (modulo p) (columnOf s Z j) w ≡ []
     unfolding numbers
@@ -123,7 +124,8 @@ module _ (s : System) (h : Proper s) where
         (passed-refuse _ 31 1 _ (RefusalLaws.true-not (eq-eqb (leading (modulo p) w) 1 (C .certifyingMonic)))
         (RefusalLaws.passed-refuseFirst (s .rows) wrong-row 32 _ tt (λ i k. RefusalLaws.true-not (RefusalLaws.true-same? _ _ (C .rows i k)))
         (RefusalLaws.passed-refuseFirst (s .columns) wrong-column 33 _ tt
-        (λ j k. RefusalLaws.true-not (ap zero? (divides-column w Z (P .certifyingDenominator) (P .certifyingNumerators) j (C .columns j k))))
+        (λ j k.
+        RefusalLaws.true-not (ap zero? (divides-column w Z (P .certifyingDenominator) (P .certifyingNumerators) j (C .columns j k))))
         (passed-refuse _ 34 0 _ (RefusalLaws.true-not (RefusalLaws.true-same? _ _ (C .denominators))) refl))))
 
 -- the rows 35 and 36

@@ -44,8 +44,8 @@ abbrev pub 𝟚 : List ℕ
 abbrev pub over : ℕ → ℕ → ℕ → List (List ℕ) → List (List ℕ) → System
 over p n m A b = record { modulus = p; rows = n; columns = m; matrix = A; side = b }
 
-abbrev pub row : System → Certificate → Outcome (Unit {0}) → Case
-row s c o = record { system = s; certificate = c; expected = o }
+abbrev pub caseRow : System → Certificate → Outcome (Unit {0}) → Case
+caseRow s c o = record { system = s; certificate = c; expected = o }
 
 abbrev pub case-1 : System
 case-1 = over 2 1 1 (x ∷ []) (𝟙 ∷ [])
@@ -58,16 +58,16 @@ case-7 = over 3 1 2 (x² ∷ x²+x ∷ []) (𝟙 ∷ [])
 
 unfoldable pub cases : List Case
 cases =
-    row case-1 (solution x (𝟙 ∷ []) x (𝟙 ∷ [])) (accepted tt)
-    ∷ row (over 2 1 2 (x ∷ x+1 ∷ []) (𝟙 ∷ [])) (solution 𝟙 (𝟙 ∷ 𝟙 ∷ []) 𝟙 (𝟘 ∷ [])) (accepted tt)
-    ∷ row case-3 (absence (𝟙 ∷ 𝟙 ∷ [])) (accepted tt)
-    ∷ row (over 2 1 1 (𝟘 ∷ []) (𝟘 ∷ [])) (solution 𝟙 (𝟘 ∷ []) 𝟙 (𝟘 ∷ [])) (accepted tt)
-    ∷ row (over 2 1 1 (𝟘 ∷ []) (𝟙 ∷ [])) (absence (𝟙 ∷ [])) (accepted tt)
-    ∷ row (over 3 1 2 (x² ∷ x²+x ∷ []) (x ∷ [])) (solution 𝟙 (𝟚 ∷ 𝟙 ∷ []) 𝟙 (𝟘 ∷ [])) (accepted tt)
-    ∷ row case-7 (solution x (𝟚 ∷ 𝟙 ∷ []) x (𝟙 ∷ [])) (accepted tt)
-    ∷ row (over 2 2 2 (x ∷ 𝟙 ∷ 𝟘 ∷ x ∷ []) (𝟘 ∷ 𝟙 ∷ [])) (solution x² (𝟙 ∷ x ∷ []) x² (x ∷ 𝟙 ∷ [])) (accepted tt)
-    ∷ row case-1 (solution x² (x ∷ []) x (𝟙 ∷ [])) (refused 34 0)
-    ∷ row case-1 (solution x (𝟙 ∷ []) x² (x ∷ [])) (accepted tt)
+    caseRow case-1 (solution x (𝟙 ∷ []) x (𝟙 ∷ [])) (accepted tt)
+    ∷ caseRow (over 2 1 2 (x ∷ x+1 ∷ []) (𝟙 ∷ [])) (solution 𝟙 (𝟙 ∷ 𝟙 ∷ []) 𝟙 (𝟘 ∷ [])) (accepted tt)
+    ∷ caseRow case-3 (absence (𝟙 ∷ 𝟙 ∷ [])) (accepted tt)
+    ∷ caseRow (over 2 1 1 (𝟘 ∷ []) (𝟘 ∷ [])) (solution 𝟙 (𝟘 ∷ []) 𝟙 (𝟘 ∷ [])) (accepted tt)
+    ∷ caseRow (over 2 1 1 (𝟘 ∷ []) (𝟙 ∷ [])) (absence (𝟙 ∷ [])) (accepted tt)
+    ∷ caseRow (over 3 1 2 (x² ∷ x²+x ∷ []) (x ∷ [])) (solution 𝟙 (𝟚 ∷ 𝟙 ∷ []) 𝟙 (𝟘 ∷ [])) (accepted tt)
+    ∷ caseRow case-7 (solution x (𝟚 ∷ 𝟙 ∷ []) x (𝟙 ∷ [])) (accepted tt)
+    ∷ caseRow (over 2 2 2 (x ∷ 𝟙 ∷ 𝟘 ∷ x ∷ []) (𝟘 ∷ 𝟙 ∷ [])) (solution x² (𝟙 ∷ x ∷ []) x² (x ∷ 𝟙 ∷ [])) (accepted tt)
+    ∷ caseRow case-1 (solution x² (x ∷ []) x (𝟙 ∷ [])) (refused 34 0)
+    ∷ caseRow case-1 (solution x (𝟙 ∷ []) x² (x ∷ [])) (accepted tt)
     ∷ []
 
 -- what reading and the check give on the written forms of a row

@@ -31,7 +31,8 @@ module _ (limits : Limits) where
   unfolding Right Certified CertificateWithin
   within-certified s h (solution d N w Z) k = right-iff-certified s (proper limits s h) (proper-solution limits s d N w Z k)
   within-certified s h (absence q) k =
-      absent-iff-certified s (proper limits s h) q (all-canonical (s .modulus) (limits .certificateCoefficients) q (k .entries)) (1 ∷ []) one-nonzero
+      absent-iff-certified s (proper limits s h) q (all-canonical (s .modulus) (limits .certificateCoefficients) q (k .entries))
+      (1 ∷ []) one-nonzero
     where
       one-nonzero : ¬ (_≡_ {A = List ℕ} (1 ∷ []) [])
       one-nonzero e = let z : _≡_ {A = ℕ} 0 1 = cc in omega arith

@@ -1,12 +1,12 @@
 -- Demand 3's truth, of words: whatever the words are and however they came about, an accepted certificate tells the truth.
 use Prim.Native.Nat.{ℕ}
-use mathlib.Core.Path.{_≡_, refl, sym, _∙_, subst}
+use mathlib.Core.Path.{_≡_, refl, sym, _∙_}
 use mathlib.Core.List.{List}
 use Rattle.words.specs.Limits.{Limits}
 use Rattle.words.specs.LimitsLaws.{LimitsFit}
 use Rattle.words.specs.Outcome.Outcome.{accepted}
 use Rattle.words.specs.System.{System, SystemWithin, shape, systemWords, readSystem}
-use Rattle.words.specs.SystemLaws.{systemWords-injective, system-written-of-read}
+use Rattle.words.specs.SystemLaws.{system-written-of-read}
 use Rattle.words.specs.Certificate.{Certificate, CertificateWithin, certificateWords, readCertificate}
 use Rattle.words.specs.CertificateLaws.{certificate-written-of-read}
 use Rattle.words.specs.Certificate.Certificate.{solution, absence}
@@ -15,7 +15,8 @@ use Rattle.truth.specs.Solution.{RationalSolution, Denominator, LeastDen
 use Rattle.truth.specs.Right.{Right}
 use Rattle.truth.specs.Verdict.{verdict}
 use Rattle.truth.specs.Truth.{right-solves, right-denominator, right-least, right-absent}
-use Rattle.truth.specs.Accepted.{AcceptedWords, words-of-accepted, verdict-of-written, verdict-right, proper, proper-solution, all-canonical}
+use Rattle.truth.specs.Accepted.{AcceptedWords, words-of-accepted, verdict-of-written, verdict-right}
+use Rattle.truth.specs.Accepted.{proper, proper-solution, all-canonical}
 
 -- what a solution says: N/d solves the system, d is its denominator, and the least one
 pub record SolutionTrue (s : System) (d : List ℕ) (N : List (List ℕ)) : Type 0 where
@@ -46,7 +47,8 @@ module _ (limits : Limits) where
 
   -- so also of a system and a certificate whose written forms read back as themselves
   pub verdict-true : (fit : LimitsFit limits) (s : System) (c : Certificate) → readSystem limits (systemWords s) ≡ accepted s
-      → readCertificate limits (shape s) (certificateWords c) ≡ accepted c → verdict limits (systemWords s) (certificateWords c) ≡ accepted tt → True s c
+      → readCertificate limits (shape s) (certificateWords c) ≡ accepted c
+      → verdict limits (systemWords s) (certificateWords c) ≡ accepted tt → True s c
   verdict-true fit s c e f g =
       let h = system-written-of-read limits fit (systemWords s) s e .1 in
       let k = certificate-written-of-read limits (shape s) (certificateWords c) c f .1 in

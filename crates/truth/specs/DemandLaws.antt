@@ -78,10 +78,14 @@ certified-true limits s h c k r = right-true limits s h c k (within-certified li
 
 module _ (limits : Limits) (fit : LimitsFit limits) where
   -- "once the check accepts it for a sheet, it tells the truth"
-  pub accepted-says : (ws cs : List ℕ) → verdict limits ws cs ≡ accepted tt → (a : AcceptedWords limits ws cs) × Says (a .system) (a .certificate)
+  pub accepted-says : (ws cs : List ℕ) → verdict limits ws cs ≡ accepted tt
+      → (a : AcceptedWords limits ws cs) × Says (a .system) (a .certificate)
   accepted-says ws cs e =
-      let a = words-of-accepted limits fit ws cs e in
-      (a, true-says (a .system) (a .certificate) (right-true limits (a .system) (a .system-within) (a .certificate) (a .certificate-within) (a .holds)))
+      let a = words-of-accepted limits fit ws cs e in (
+        a,
+        true-says (a .system) (a .certificate)
+            (right-true limits (a .system) (a .system-within) (a .certificate) (a .certificate-within) (a .holds)),
+      )
 
   -- "No sheet can have accepted cards of both kinds."
   module _ (ws cs es : List ℕ) where

@@ -1,5 +1,5 @@
 -- 31 to 36: refused with a number at a place exactly when that row's condition holds there and no earlier one does.
-use Prim.Native.Nat.{ℕ, zero, suc, _<_, _≤_}
+use Prim.Native.Nat.{ℕ, zero, suc, _<_}
 use mathlib.Core.Path.{_≡_, refl, sym, _∙_, ap, subst}
 use mathlib.Core.Logic.{_↔_, _⊎_, inl, inr}
 use mathlib.Core.Bool.{Bool, true, false, not}
@@ -71,7 +71,8 @@ module _ {A : Type 0} (holds : ℕ → Bool) (Holds : ℕ → Type 0) (test : (i
   rows-here zero next place f = absurd (omega (arith, f .inside))
   rows-here (suc n) next place f = go (ℕ-discrete place n) (rows-here n (refuse (holds n) number n next) place)
     where
-      go : Dec (place ≡ n) → (FirstFailing n Holds place → refuseFirst n holds number (refuse (holds n) number n next) ≡ refused number place)
+      go : Dec (place ≡ n)
+          → (FirstFailing n Holds place → refuseFirst n holds number (refuse (holds n) number n next) ≡ refused number place)
           → refuseFirst n holds number (refuse (holds n) number n next) ≡ refused number place
       go (yes e) earlier = rows-past n (refuse (holds n) number n next) (λ i k. f .before i (omega arith))
           ∙ row-here (test n) number n next (subst (λ i. ¬ Holds i) e (f .fails)) ∙ ap (refused number) (sym e)
@@ -181,18 +182,21 @@ module _ (s : System) (h : Proper s) {d : List ℕ} {N : List (List ℕ)} {w : L
     fault-refused : SolutionFault s d N w Z number place → solutionVerdict s d N w Z ≡ refused number place
     unfolding solutionVerdict from-31 from-32 from-33 from-34 wrong-row wrong-column
     fault-refused (not-monic e f a) = row-here (monic-passes p d) 31 0 from-31 a ∙ (cc)
-    fault-refused (certifying-not-monic e f a b) = row-past (monic-passes p d) 31 0 from-31 a ∙ row-here (monic-passes p w) 31 1 from-32 b ∙ (cc)
+    fault-refused (certifying-not-monic e f a b) =
+        row-past (monic-passes p d) 31 0 from-31 a ∙ row-here (monic-passes p w) 31 1 from-32 b ∙ (cc)
     fault-refused (row e a b f) = past-31 a b ∙ rows-here wrong-row (RowSolved s d N) row-passes 32 (s .rows) from-33 place f ∙ (cc)
     fault-refused (column e a b r f) = past-31 a b ∙ past-32 r
         ∙ rows-here wrong-column (ColumnDivided s w Z) column-passes 33 (s .columns) from-34 place f ∙ (cc)
-    fault-refused (denominators e f a b r c n) = past-31 a b ∙ past-32 r ∙ past-33 c ∙ row-here (denominators-pass b) 34 0 (accepted tt) n ∙ (cc)
+    fault-refused (denominators e f a b r c n) =
+        past-31 a b ∙ past-32 r ∙ past-33 c ∙ row-here (denominators-pass b) 34 0 (accepted tt) n ∙ (cc)
 
     refused-fault : solutionVerdict s d N w Z ≡ refused number place → SolutionFault s d N w Z number place
     unfolding solutionVerdict from-31 from-32 from-33 from-34 wrong-row wrong-column
     refused-fault e = first (row-cases (monic-passes p d) 31 0 from-31 e)
       where
         fifth : Monic p d → Monic p w → All (s .rows) (RowSolved s d N) → All (s .columns) (ColumnDivided s w Z)
-            → ((number ≡ 34) × (place ≡ 0) × (¬ SameDenominators s d w Z)) ⊎ (SameDenominators s d w Z × (_≡_ {A = Outcome (Unit {0})} (accepted tt) (refused number place)))
+            → ((number ≡ 34) × (place ≡ 0) × (¬ SameDenominators s d w Z))
+            ⊎ (SameDenominators s d w Z × (_≡_ {A = Outcome (Unit {0})} (accepted tt) (refused number place)))
             → SolutionFault s d N w Z number place
         fifth a b r c (inl f) = denominators (f .0) (f .1) a b r c (f .2)
         fifth a b r c (inr f) = absurd (refused-accepted (sym (f .1)))
@@ -204,7 +208,8 @@ module _ (s : System) (h : Proper s) {d : List ℕ} {N : List (List ℕ)} {w : L
         fourth a b r (inr f) = fifth a b r (f .0) (row-cases (denominators-pass b) 34 0 (accepted tt) (f .1))
 
         third : Monic p d → Monic p w
-            → ((number ≡ 32) × FirstFailing (s .rows) (RowSolved s d N) place) ⊎ (All (s .rows) (RowSolved s d N) × (from-33 ≡ refused number place))
+            → ((number ≡ 32) × FirstFailing (s .rows) (RowSolved s d N) place)
+            ⊎ (All (s .rows) (RowSolved s d N) × (from-33 ≡ refused number place))
             → SolutionFault s d N w Z number place
         third a b (inl f) = row (f .0) a b (f .1)
         third a b (inr f) = fourth a b (f .0) (rows-cases wrong-column (ColumnDivided s w Z) column-passes 33 (s .columns) from-34 (f .1))
@@ -214,69 +219,13 @@ module _ (s : System) (h : Proper s) {d : List ℕ} {N : List (List ℕ)} {w : L
         second a (inl f) = certifying-not-monic (f .0) (f .1) a (f .2)
         second a (inr f) = third a (f .0) (rows-cases wrong-row (RowSolved s d N) row-passes 32 (s .rows) from-33 (f .1))
 
-        first : ((number ≡ 31) × (place ≡ 0) × (¬ Monic p d)) ⊎ (Monic p d × (from-31 ≡ refused number place)) → SolutionFault s d N w Z number place
+        first : ((number ≡ 31) × (place ≡ 0) × (¬ Monic p d)) ⊎ (Monic p d × (from-31 ≡ refused number place))
+            → SolutionFault s d N w Z number place
         first (inl f) = not-monic (f .0) (f .1) (f .2)
         first (inr f) = second (f .0) (row-cases (monic-passes p w) 31 1 from-32 (f .1))
 
     pub solution-refused-iff : (solutionVerdict s d N w Z ≡ refused number place) ↔ SolutionFault s d N w Z number place
     solution-refused-iff = (refused-fault, fault-refused)
-
-  -- number by number
-
-  pub refused-31 : (solutionVerdict s d N w Z ≡ refused 31 0)
-      ↔ (¬ Monic p d)
-  refused-31 = (λ e. only (refused-fault e), λ t. fault-refused (not-monic refl refl t))
-    where
-      only : SolutionFault s d N w Z 31 0 → ¬ Monic p d
-      only (not-monic e f a) = a
-      only (certifying-not-monic e f a b) = absurd (omega arith)
-      only (row e a b f) = absurd (omega arith)
-      only (column e a b r f) = absurd (omega arith)
-      only (denominators e f a b r c n) = absurd (omega arith)
-
-  pub refused-31-certifying : (solutionVerdict s d N w Z ≡ refused 31 1)
-      ↔ (Monic p d × (¬ Monic p w))
-  refused-31-certifying = (λ e. only (refused-fault e), λ t. fault-refused (certifying-not-monic refl refl (t .0) (t .1)))
-    where
-      only : SolutionFault s d N w Z 31 1 → Monic p d × (¬ Monic p w)
-      only (not-monic e f a) = absurd (omega arith)
-      only (certifying-not-monic e f a b) = (a, b)
-      only (row e a b f) = absurd (omega arith)
-      only (column e a b r f) = absurd (omega arith)
-      only (denominators e f a b r c n) = absurd (omega arith)
-
-  pub refused-32 : (i : ℕ) → (solutionVerdict s d N w Z ≡ refused 32 i)
-      ↔ (Monic p d × Monic p w × FirstFailing (s .rows) (RowSolved s d N) i)
-  refused-32 i = (λ e. only (refused-fault e), λ t. fault-refused (row refl (t .0) (t .1) (t .2)))
-    where
-      only : SolutionFault s d N w Z 32 i → Monic p d × Monic p w × FirstFailing (s .rows) (RowSolved s d N) i
-      only (not-monic e f a) = absurd (omega arith)
-      only (certifying-not-monic e f a b) = absurd (omega arith)
-      only (row e a b f) = (a, b, f)
-      only (column e a b r f) = absurd (omega arith)
-      only (denominators e f a b r c n) = absurd (omega arith)
-
-  pub refused-33 : (j : ℕ) → (solutionVerdict s d N w Z ≡ refused 33 j)
-      ↔ (Monic p d × Monic p w × All (s .rows) (RowSolved s d N) × FirstFailing (s .columns) (ColumnDivided s w Z) j)
-  refused-33 j = (λ e. only (refused-fault e), λ t. fault-refused (column refl (t .0) (t .1) (t .2) (t .3)))
-    where
-      only : SolutionFault s d N w Z 33 j → Monic p d × Monic p w × All (s .rows) (RowSolved s d N) × FirstFailing (s .columns) (ColumnDivided s w Z) j
-      only (not-monic e f a) = absurd (omega arith)
-      only (certifying-not-monic e f a b) = absurd (omega arith)
-      only (row e a b f) = absurd (omega arith)
-      only (column e a b r f) = (a, b, r, f)
-      only (denominators e f a b r c n) = absurd (omega arith)
-
-  pub refused-34 : (solutionVerdict s d N w Z ≡ refused 34 0)
-      ↔ (Monic p d × Monic p w × All (s .rows) (RowSolved s d N) × All (s .columns) (ColumnDivided s w Z) × (¬ SameDenominators s d w Z))
-  refused-34 = (λ e. only (refused-fault e), λ t. fault-refused (denominators refl refl (t .0) (t .1) (t .2) (t .3) (t .4)))
-    where
-      only : SolutionFault s d N w Z 34 0 → Monic p d × Monic p w × All (s .rows) (RowSolved s d N) × All (s .columns) (ColumnDivided s w Z) × (¬ SameDenominators s d w Z)
-      only (not-monic e f a) = absurd (omega arith)
-      only (certifying-not-monic e f a b) = absurd (omega arith)
-      only (row e a b f) = absurd (omega arith)
-      only (column e a b r f) = absurd (omega arith)
-      only (denominators e f a b r c n) = (a, b, r, c, n)
 
 -- ---- 35 and 36
 
@@ -314,20 +263,6 @@ module _ (s : System) (q : List (List ℕ)) where
 
     pub absence-refused-iff : (absenceVerdict s q ≡ refused number place) ↔ AbsenceFault s q number place
     absence-refused-iff = (absent-fault, fault-absent)
-
-  pub refused-35 : (j : ℕ) → (absenceVerdict s q ≡ refused 35 j) ↔ FirstFailing (s .columns) (ColumnZero s q) j
-  refused-35 j = (λ e. only (absent-fault e), λ t. fault-absent (product refl t))
-    where
-      only : AbsenceFault s q 35 j → FirstFailing (s .columns) (ColumnZero s q) j
-      only (product e f) = f
-      only (side e f c z) = absurd (omega arith)
-
-  pub refused-36 : (absenceVerdict s q ≡ refused 36 0) ↔ (All (s .columns) (ColumnZero s q) × (sideOf s q ≡ []))
-  refused-36 = (λ e. only (absent-fault e), λ t. fault-absent (side refl refl (t .0) (t .1)))
-    where
-      only : AbsenceFault s q 36 0 → All (s .columns) (ColumnZero s q) × (sideOf s q ≡ [])
-      only (product e f) = absurd (omega arith)
-      only (side e f c z) = (c, z)
 
 -- ---- any certificate within the limits
 

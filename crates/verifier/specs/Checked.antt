@@ -119,6 +119,13 @@ module _ (limits : Limits) (fit : LimitsFit limits) where
         (subst (λ s. True s (b .certificate)) same
         (certified-true limits (b .system) (b .system-within) (b .certificate) (b .certificate-within) (b .holds)))
 
+    pub file-verdicts-agree : Bytes f → Bytes g → Bytes h → fileVerdict limits f g ≡ accepted tt → fileVerdict limits f h ≡ accepted tt
+        → (a : CertifiedFiles limits f g) × (b : CertifiedFiles limits f h) × Agree (a .certificate) (b .certificate)
+    file-verdicts-agree small-f small-g small-h d e =
+        let a = files-iff-certified f g small-f small-g .0 d in
+        let b = files-iff-certified f h small-f small-h .0 e in
+        (a, b, files-agree a b)
+
     -- on the bytes: their first words, which say the kind, are the same
     pub files-same-head : fileVerdict limits f g ≡ accepted tt → fileVerdict limits f h ≡ accepted tt
         → getD (wordsOf g) 0 0 ≡ getD (wordsOf h) 0 0

@@ -24,7 +24,8 @@ module _ (limits : Limits) (fit : LimitsFit limits) (f g : List ℕ) where
   pub files-refused-iff : (number place : ℕ) → (fileVerdict limits f g ≡ refused number place) ↔ FilesRefused limits f g number place
   unfolding fileVerdict
   files-refused-iff =
-      ten-first-iff (filesBroken limits f g) (verdict limits (wordsOf f) (wordsOf g)) _ (words-refused-iff limits fit (wordsOf f) (wordsOf g))
+      ten-first-iff (filesBroken limits f g) (verdict limits (wordsOf f) (wordsOf g)) _
+      (words-refused-iff limits fit (wordsOf f) (wordsOf g))
 
   -- 10 at 0, or a row of the words
   pub files-rows : RefusesBy (checkFileRows (wordsOf f) (wordsOf g)) (fileVerdict limits f g)

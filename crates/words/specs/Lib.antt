@@ -1,7 +1,7 @@
 -- interface, what contracts, other crates and PROVED.md cite: Limits, Word, Outcome, OutcomeLaws, Reading, Polynomial, Frame,
 --   System, Certificate, Bytes, Examples, WordLaws, ReadingLaws, PolynomialLaws, FrameLaws, LimitsLaws, VectorLaws,
 --   SystemHeadLaws, SystemLaws, CertificateLaws, LongestLaws, WidthLaws, BytesLaws, ForwardLaws, PlaceLaws, PrefixLaws,
---   Table, FirstFault, TenFirst, RefusedLaws, Rows, RowLaws, Pair, PairLaws
+--   Table, FirstFault, TenFirst, RefusedLaws, Rows, RowLaws, PolynomialRows, Pair, PairLaws
 -- inside: FormatLaws, TableLaws, PassLaws, CompleteLaws, OnTableLaws, FirstFaultLaws, TableExamples
 pub mod Limits
 pub mod Word
@@ -32,6 +32,7 @@ pub mod PlaceLaws
 pub mod PrefixLaws
 pub mod Rows
 pub mod RowLaws
+pub mod PolynomialRows
 pub mod Table
 pub mod FirstFault
 pub mod TenFirst

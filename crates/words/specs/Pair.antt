@@ -31,7 +31,8 @@ pub record WrittenFiles (limits : Limits) (Of : System → Certificate → Type 
 
 -- A refusal: by the table's rows for a system's words; of a system's written form, by those for the words of a certificate for it; of
 -- both written forms, by what is asked of the values. No reader is in it.
-pub data PairRefused (limits : Limits) (Of : System → Certificate → (number place : ℕ) → Type 0) (ws cs : List ℕ) (number place : ℕ) : Type 0 where
+pub data PairRefused (limits : Limits) (Of : System → Certificate → (number place : ℕ) → Type 0) (ws cs : List ℕ) (number place : ℕ)
+    : Type 0 where
   by-system : ByTable (systemTable limits) 0 ws number place → PairRefused limits Of ws cs number place
   by-certificate : (s : System) → ws ≡ systemWords s → SystemWithin limits s
       → ByTable (certificateTable limits (shape s)) 20 cs number place → PairRefused limits Of ws cs number place

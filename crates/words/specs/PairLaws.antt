@@ -2,7 +2,7 @@
 use Prim.Native.Nat.{ℕ}
 use mathlib.Core.Path.{_≡_, refl, sym, ap, _∙_, subst}
 use mathlib.Core.Logic.{_↔_}
-use mathlib.Core.List.{List, [], _∷_, _++_}
+use mathlib.Core.List.{List, _++_}
 use lib.ListN.{length, getD}
 use Rattle.words.specs.Limits.{Limits}
 use Rattle.words.specs.LimitsLaws.{LimitsFit}
@@ -13,11 +13,11 @@ use Rattle.words.specs.Reading.{renumber}
 use Rattle.words.specs.Reading.Reading.{read}
 use Rattle.words.specs.ReadingLaws.{andThen-read, outcome-accepted}
 use Rattle.words.specs.Frame.{Framed, bodyFrom, framedFrom}
-use Rattle.words.specs.System.{System, Shape, shape, headShape, SystemWithin, systemWords, readSystem}
+use Rattle.words.specs.System.{System, Shape, shape, headShape, SystemWithin, readSystem}
 use Rattle.words.specs.System.{systemHeadFrom, systemDue, systemOf, systemFrom}
 use Rattle.words.specs.SystemHeadLaws.{head-read}
 use Rattle.words.specs.SystemLaws.{systemFrom-shown, system-read-of-written, system-written-of-read}
-use Rattle.words.specs.Certificate.{Certificate, CertificateWithin, certificateWords, readCertificate}
+use Rattle.words.specs.Certificate.{Certificate, CertificateWithin, readCertificate}
 use Rattle.words.specs.CertificateLaws.{certificate-read-of-written, certificate-written-of-read}
 use Rattle.words.specs.RefusedLaws.{system-refused-iff, certificate-refused-iff, system-rows, certificate-rows}
 use Rattle.words.specs.Rows.{Row, RefusesBy, systemRows, certificateRows}
@@ -49,7 +49,8 @@ module _ (limits : Limits) (fit : LimitsFit limits) {A : Type 0} (next : System 
   -- of written forms it is what is asked of the values
   pub pair-of-written : {Of : System → Certificate → Type 0} (w : WrittenPair limits Of ws cs) → both ≡ next (w .system) (w .certificate)
   pair-of-written w =
-      ap (λ o. followedBy o second) (ap (readSystem limits) (w .system-words) ∙ system-read-of-written limits fit (w .system) (w .system-within))
+      ap (λ o. followedBy o second)
+      (ap (readSystem limits) (w .system-words) ∙ system-read-of-written limits fit (w .system) (w .system-within))
       ∙ ap (λ o. followedBy o (next (w .system)))
       (ap (readCertificate limits (shape (w .system))) (w .certificate-words)
       ∙ certificate-read-of-written limits (shape (w .system)) fit (w .system-within .shape) (w .certificate) (w .certificate-within))

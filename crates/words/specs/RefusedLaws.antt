@@ -241,7 +241,8 @@ ten-first-iff at-fault o Others iff n k = (
     back (ten b en ek) = first .1 (inl (b, en, ek))
     back (others b h) = first .1 (inr (b, iff n k .1 h))
 
-pub file-refused-iff : (limits : Limits) (file : List ℕ) (n k : ℕ) → (readSystemFile limits file ≡ refused n k) ↔ FileRefused limits file n k
+pub file-refused-iff : (limits : Limits) (file : List ℕ) (n k : ℕ)
+    → (readSystemFile limits file ≡ refused n k) ↔ FileRefused limits file n k
 unfolding readSystemFile
 file-refused-iff limits file =
     ten-first-iff (broken file || tooLong limits file) (readSystem limits (wordsOf file)) _ (system-refused-iff limits (wordsOf file))

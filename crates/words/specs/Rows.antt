@@ -1,6 +1,6 @@
 -- The first two columns of document 01's table "Turned back", for each entry: which numbers its refusals have, and at which places.
 -- Under which condition each is given is said in `Table`, and of 31 to 36 with the check.
-use Prim.Native.Nat.{ℕ, suc, _+_, _/_, _≤_, _<_}
+use Prim.Native.Nat.{ℕ, suc, _+_, _≤_, _<_}
 use mathlib.Core.Path.{_≡_}
 use mathlib.Core.Logic.{_⊎_}
 use mathlib.Core.List.{List, [], _∷_, _++_}
@@ -43,6 +43,10 @@ pub record RefusesBy {A : Type 0} (rows : List Row) (o : Outcome A) : Type 0 whe
 abbrev pub wordsRows : (lowest highest by count : ℕ) → List Row
 wordsRows lowest highest by count =
     rowWith lowest highest 0 1 ∷ rowWith (4 + by) (4 + by) count (suc count) ∷ rowWith (5 + by) (9 + by) 1 count ∷ []
+
+-- 4 to 8 of the words from a polynomial's start on
+abbrev pub polynomialRows : (count : ℕ) → List Row
+polynomialRows count = rowWith 4 4 count (suc count) ∷ rowWith 5 8 0 count ∷ []
 
 -- 1 to 9 of a system's words
 abbrev pub systemRows : List ℕ → List Row

@@ -1,7 +1,7 @@
 -- Document 01's table "Turned back", rows 1 to 9 and 21 to 29, as a table: what is due at a place, the first row that a word breaks
 -- there, and what is due behind it. No value is read here; that the readers refuse just by this table, and at the first word that
 -- breaks a row, is shown in `RefusedLaws`.
-use Prim.Native.Nat.{ℕ, zero, suc, _+_, _/_, _%_, _≤_, _<_}
+use Prim.Native.Nat.{ℕ, zero, suc, _+_, _/_, _%_, _≤_}
 use mathlib.Core.Path.{_≡_}
 use mathlib.Core.Bool.{Bool, true, false, not, _&&_, _||_}
 use mathlib.Core.Option.{Option, none, some}
