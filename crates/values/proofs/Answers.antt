@@ -1,5 +1,5 @@
 -- What the calls answer: from what the reader says of the words, and what the loop then stores.
-use mathlib.Core.Path.{_≡_, refl, sym, ap, _∙_, subst}
+use mathlib.Core.Path.{_≡_, sym, ap, _∙_, subst}
 use mathlib.Core.List.{List}
 use Prim.Native.Nat.{ℕ, _*_, _≤_}
 use native.Mathlib.Omega.{arith}
@@ -20,9 +20,8 @@ use Rattle.answers.specs.declared.shape.Shape.{Shape as ShapeValue}
 use Rattle.answers.specs.declared.shape.Form.{Form as FormValue}
 use Rattle.answers.specs.declared.shape.SystemRead.{SystemRead}
 use Rattle.answers.specs.declared.shape.SystemRead.the-variants as system
-use Rattle.answers.specs.declared.shape.CertificateRead.{CertificateRead}
 use Rattle.answers.specs.declared.shape.CertificateRead.the-variants as certificate
-use Rattle.answers.specs.Answer.{shapeOf, formOf, systemOutcome, certificateOutcome}
+use Rattle.answers.specs.Answer.{shapeOf, formOf, systemOutcome}
 use Rattle.write_frame.specs.declared.format.Format.{Format}
 use Rattle.write_frame.specs.Framing.{Covers}
 use Rattle.write_frame.specs.Trial.{passed}
@@ -87,7 +86,8 @@ module _ (ws : List ℕ) where
         })
 
     module _ {format : Format} (is : format ≡ formatOf office h kind.System) (sizes values : List ℕ) where
-      pub system-asked : systemPolynomials ≤ length sizes → office .systemCoefficients * systemPolynomials ≤ length values → Asked format ws sizes values
+      pub system-asked : systemPolynomials ≤ length sizes → office .systemCoefficients * systemPolynomials ≤ length values
+          → Asked format ws sizes values
       system-asked sized roomy =
           subst (λ (f : Format). Asked f ws sizes values) (sym is)
           ((systemEntries s, holds), kind-ready office office-fits h system-shape kind.System sizes values (omega arith) sized roomy .0)
@@ -116,7 +116,8 @@ module _ (h : Shape) (ws : List ℕ) where
       → LoadsCertificate office h ws (certificate.Refused r) sizes sizes values values
   shape-refused sizes values r told =
       refuses sizes values r
-      (shape-first office h (readCertificate office h ws) ∙ ap (λ (t : Outcome (Unit {0})). nextAfter t (readCertificate office h ws)) (sym told))
+      (shape-first office h (readCertificate office h ws)
+      ∙ ap (λ (t : Outcome (Unit {0})). nextAfter t (readCertificate office h ws)) (sym told))
 
   module _ (passed-shape : passed ≡ refuseShape office h passed) where
     certificate-shape : ShapeWithin office h
@@ -157,7 +158,8 @@ module _ (h : Shape) (ws : List ℕ) where
           })
 
       module _ {format : Format} (is : format ≡ formatOf office h (kind.Certificate form)) (sizes values : List ℕ) where
-        pub certificate-asked : certificatePolynomials ≤ length sizes → certificateStride * certificatePolynomials ≤ length values → Asked format ws sizes values
+        pub certificate-asked : certificatePolynomials ≤ length sizes → certificateStride * certificatePolynomials ≤ length values
+            → Asked format ws sizes values
         certificate-asked sized roomy =
             subst (λ (f : Format). Asked f ws sizes values) (sym is) (
               (certificateEntries c, holds-as),

@@ -1,12 +1,12 @@
 -- A turn of the loop that stores polynomials: those before k are stored, and polynomial k starts at the word `at`.
 use mathlib.Core.Path.{_≡_, refl, sym, ap, ap₂, _∙_}
 use mathlib.Core.List.{List, [], _∷_, _++_, map, map-append}
-use Prim.Native.Nat.{ℕ, zero, suc, _+_, _-_, _*_, _≤_, _<_}
-use native.Mathlib.Nat.{le-of-eq, mul-le-mul-left}
+use Prim.Native.Nat.{ℕ, suc, _+_, _-_, _*_, _≤_, _<_}
+use native.Mathlib.Nat.{mul-le-mul-left}
 use native.Mathlib.Numerals.{add-one}
 use native.Mathlib.Omega.{arith}
-use lib.ListN.{length, getD, take, drop, set, length-append, length-drop, length-map, length-set}
-use lib.Seq.{take-at, take-suc, drop-at, drop-drop, take-all, length-take-le, getD-drop}
+use lib.ListN.{length, getD, take, drop, set, length-map, length-set}
+use lib.Seq.{take-at, take-suc, drop-drop, take-all, length-take-le, getD-drop}
 use Rattle.modular.specs.Canonical.{Canonical}
 use Rattle.words.specs.Word.{payload, word}
 use Rattle.words.specs.WordLaws.{payload-word}

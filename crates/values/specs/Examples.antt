@@ -10,7 +10,7 @@ use Rattle.words.specs.Outcome.Outcome.{accepted, refused}
 use Rattle.words.specs.System.{shape, systemEntries, readSystem}
 use Rattle.words.specs.Certificate.{certificateForm, certificateEntries, readCertificate}
 use Rattle.words.specs.Certificate.Form.{solving}
-use Rattle.writer.specs.Values.{shapeWith, certificateStride}
+use Rattle.writer.specs.Values.{shapeWith}
 use Rattle.values.specs.Loading.{sizesAfter, valuesAfter, certificateToLoad}
 
 -- p = 2, A = (x), b = 1; its end word is the argument

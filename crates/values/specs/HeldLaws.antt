@@ -1,7 +1,7 @@
 -- Every system and every certificate within the limits lies in arrays as the writers take them: laid into arrays of their lengths, the
 -- values are what the arrays stand for.
 use mathlib.Core.Path.{_≡_, sym, ap, ap₂, _∙_, subst}
-use mathlib.Core.List.{List, [], _∷_}
+use mathlib.Core.List.{List, []}
 use Prim.Native.Nat.{ℕ, _*_, _≤_}
 use native.Mathlib.Nat.{le-refl, le-trans, le-of-eq, mul-le-mul-left}
 use native.Mathlib.Omega.{arith}
@@ -11,7 +11,6 @@ use Rattle.words.specs.LimitsLaws.{LimitsFit, systemCount-most}
 use Rattle.words.specs.Word.{AllBelow}
 use Rattle.words.specs.Polynomial.{VectorWithin}
 use Rattle.words.specs.VectorLaws.{all-at}
-use Rattle.words.specs.Frame.{Framed}
 use Rattle.words.specs.System.{System, Shape, shape, SystemWithin, ShapeWithin, systemEntries}
 use Rattle.words.specs.SystemLaws.{systemFormat, system-laws}
 use Rattle.words.specs.Certificate.{Certificate, Form, CertificateWithin, certificateForm, certificateEntries, entryCount}
@@ -45,7 +44,8 @@ module _ (limits : Limits) (fit : LimitsFit limits) (s : System) (within : Syste
 
   pub system-laid : (sizes values : List ℕ)
       → limits .systemCoefficients * systemCount (limits .rows) (limits .columns) ≤ length values
-      → systemInArrays limits (shape s) (sizesOver (systemEntries s) sizes) (laidOver (limits .systemCoefficients) (systemEntries s) values) ≡ s
+      → systemInArrays limits (shape s) (sizesOver (systemEntries s) sizes)
+      (laidOver (limits .systemCoefficients) (systemEntries s) values) ≡ s
   system-laid sizes values room =
       let stride = limits .systemCoefficients in
       let fs = systemEntries s in
@@ -103,7 +103,7 @@ held-by {p} {limit} {count} {most} {stride} fs within apart few small narrow sta
     let each = all-at p limit fs (within .entries) in
     let zeros : (n : ℕ) → AllBelow 65536 (replicate n 0) = λ n. below-replicate 65536 n (omega arith) in
     let short : (k : ℕ) → length (getD fs k []) ≤ 65535 = λ k. le-trans (each k .size) narrow in
-    let room : stride * length fs ≤ stride * most = le-trans (mul-le-mul-left stride (le-of-eq (within .count))) (mul-le-mul-left stride few) in
+    let room : stride * length fs ≤ stride * most = mul-le-mul-left stride (le-trans (le-of-eq (within .count)) few) in
     record {
       sizes = sizesOver fs (replicate most 0);
       values = laidOver stride fs (replicate (stride * most) 0);

@@ -4,8 +4,9 @@ use mathlib.Core.List.{List, [], _∷_, _++_, map, append-assoc}
 use Prim.Native.Nat.{ℕ, zero, suc, _+_, _*_, _≤_, _<_}
 use native.Mathlib.Nat.{mul-le-mul-left}
 use native.Mathlib.Omega.{arith}
-use lib.ListN.{length, getD, take, drop, length-append, length-take, length-drop, length-map, take-append-drop, replicate, List·getD-append, List·getD-map}
-use lib.Seq.{take-at, drop-at, drop-append-le, take-append-add, drop-append-add, drop-drop, drop-cons, getD-drop, length-take-le, ext-getD}
+use lib.ListN.{length, getD, take, drop, replicate, length-append, length-drop, length-map, take-append-drop}
+use lib.ListN.{List·getD-append, List·getD-map}
+use lib.Seq.{take-at, drop-append-le, take-append-add, drop-append-add, drop-drop, drop-cons, getD-drop, length-take-le, ext-getD}
 use Rattle.words.specs.Word.{AllBelow}
 use Rattle.words.specs.WidthLaws.{below-nil, below-cons, below-append}
 use Rattle.write_frame.specs.Overwriting.{overwritten}

@@ -1,5 +1,5 @@
 -- What the calls leave in the lent arrays: values that were read, or, on a refusal, all that stood there.
-use mathlib.Core.Path.{_≡_, refl, sym, ap, _∙_}
+use mathlib.Core.Path.{_≡_, sym, ap, _∙_}
 use mathlib.Core.List.{List}
 use Prim.Native.Nat.{ℕ, _*_, _≤_}
 use lib.ListN.{length}
@@ -50,7 +50,8 @@ module _ {limits : Limits} {ws : List ℕ} {answer : SystemRead} {sizes sizes′
   pub system-loaded : LimitsFit limits → limits .systemCoefficients * systemCount (limits .rows) (limits .columns) ≤ length values
       → {s : System} → readSystem limits ws ≡ accepted s → SystemLoaded limits s answer sizes′ values′
   system-loaded fit room {s} read =
-      let e = arrays-laid (limits .systemCoefficients) sizes values (loads .sizes-are) (loads .values-are) (ap (mapped systemEntries) read) in
+      let e = arrays-laid (limits .systemCoefficients) sizes values (loads .sizes-are) (loads .values-are)
+      (ap (mapped systemEntries) read) in
       record {
         answer-is = loads .answer-is ∙ ap (mapped shape) read;
         values-are = rw (e .0, e .1) (system-laid limits fit s (system-written-of-read limits fit ws s read .1) sizes values room);

@@ -25,7 +25,7 @@ use Rattle.writer.specs.WritingLaws.{shape-passed}
 use Rattle.writer.specs.WrittenLaws.{count-words, certificate-accepted, system-call-is-read, certificate-call-is-read}
 use Rattle.writer.specs.WrittenBackLaws.{WritesBack, system-written-back, certificate-written-back}
 use Rattle.values.specs.Loading.{LoadsSystem, certificateToLoad, LoadsCertificate}
-use Rattle.values.specs.LoadedLaws.{SystemLoaded, system-loaded, CertificateLoaded, certificate-loaded}
+use Rattle.values.specs.LoadedLaws.{system-loaded, certificate-loaded}
 
 module _ (limits : Limits) (fit : LimitsFit limits) where
   -- ---- systems

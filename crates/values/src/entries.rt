@@ -25,7 +25,8 @@ fn store_payloads(values: &mut [u64], words: &[u32])
 
 // Stores the polynomials that stand behind the head of the words.
 pub fn load_entries(sizes: &mut [usize], values: &mut [u64], words: &[u32], format: Format)
-    requires { ⌜ ((fs : List (List ℕ)) × HoldsEntries (format .limit) (format .count) (now words) fs) × Covers format (now sizes) (now values) ⌝ }
+    requires { ⌜ ((fs : List (List ℕ)) × HoldsEntries (format .limit) (format .count) (now words) fs)
+        × Covers format (now sizes) (now values) ⌝ }
     ensures { λ _. ⌜ ((fs : List (List ℕ)) → HoldsEntries (format .limit) (format .count) (now (words .entry)) fs
         → (now (sizes .exit) ≡ sizesOver fs (now (sizes .entry)))
         × (now (values .exit) ≡ laidOver (format .stride) fs (now (values .entry)))) ⌝ }

@@ -1,14 +1,16 @@
 -- Words written as bytes, word by word.
 use mathlib.Core.Path.{_≡_, refl, sym, ap, _∙_}
 use mathlib.Core.List.{List, [], _∷_, _++_, append-assoc}
-use Prim.Native.Nat.{ℕ, suc, _+_, _*_, _/_, _%_, _≤_, _<_}
+use Prim.Native.Nat.{ℕ, suc, _+_, _*_, _/_, _%_, _≤_, _<_, min}
+use native.Mathlib.Nat.{le-antisymm, min-le-left, min-le-right}
 use native.Mathlib.Omega.{arith}
 use lib.ListN.{length, getD, take, set, length-append}
-use lib.Seq.{take-suc, take-all, length-take-le}
+use lib.Seq.{take-suc, length-take-le}
 use Rattle.words.specs.Bytes.{bytesOf}
 use Rattle.words.specs.BytesLaws.{length-bytesOf}
 use Rattle.write_frame.specs.Overwriting.{overwritten}
 use Rattle.write_frame.proofs.Overwriting.{set-written, length-overwritten}
+use Rattle.writer.specs.Packing.{PackedBytes}
 
 pub bytes-append : (vs ws : List ℕ) → bytesOf (vs ++ ws) ≡ bytesOf vs ++ bytesOf ws
 unfolding bytesOf
@@ -52,36 +54,44 @@ module _ (vs lent now : List ℕ) (at a b c d : ℕ) (is : now ≡ overwritten v
           ∙ append-assoc v₁ (b ∷ []) (c ∷ d ∷ [])
           ∙ append-assoc vs (a ∷ []) (b ∷ c ∷ d ∷ [])
 
--- the first i words are written
-pub record BytesWritten (ws lent now : List ℕ) (i : ℕ) : Type 0 where
-  pub within : i ≤ length ws
+-- the first i of count words are written, for which there is room
+pub record BytesWritten (ws lent : List ℕ) (count : ℕ) (now : List ℕ) (i : ℕ) : Type 0 where
+  pub within : i ≤ count
   pub size : length now ≡ length lent
   pub bytes : now ≡ overwritten (bytesOf (take i ws)) lent
 
-module _ (ws lent : List ℕ) (room : 4 * length ws ≤ length lent) where
-  pub bytes-start : BytesWritten ws lent lent 0
-  unfolding bytesOf
-  bytes-start = record { within = omega arith; size = refl; bytes = refl }
+pub bytes-start : (ws lent : List ℕ) (count : ℕ) → BytesWritten ws lent count lent 0
+unfolding bytesOf
+bytes-start ws lent count = record { within = omega arith; size = refl; bytes = refl }
 
-  pub bytes-next : (now : List ℕ) (i : ℕ) → BytesWritten ws lent now i → i < length ws → (after : List ℕ)
+module _ (ws lent : List ℕ) (count : ℕ) (few : count ≡ min (length ws) (length lent / 4)) where
+  -- there is room for word i
+  pub bytes-room : (i : ℕ) → i < count → (i < length ws) × (4 * i + 4 ≤ length lent)
+  bytes-room i more =
+      let words = min-le-left (length ws) (length lent / 4) in
+      let room = min-le-right (length ws) (length lent / 4) in
+      (omega arith, omega arith)
+
+  pub bytes-next : (now : List ℕ) (i : ℕ) → BytesWritten ws lent count now i → i < count → (after : List ℕ)
       → after ≡ set (set (set (set now (4 * i) (getD ws i 0 % 256)) (4 * i + 1) (getD ws i 0 / 256 % 256))
-      (4 * i + 2) (getD ws i 0 / 65536 % 256)) (4 * i + 3) (getD ws i 0 / 16777216) → BytesWritten ws lent after (i + 1)
+      (4 * i + 2) (getD ws i 0 / 65536 % 256)) (4 * i + 3) (getD ws i 0 / 16777216) → BytesWritten ws lent count after (i + 1)
   unfolding bytesOf
-  bytes-next now i t h after is =
+  bytes-next now i t more after is =
+      let h = bytes-room i more in
       let n = length-bytesOf (take i ws) in
-      let m = length-take-le i ws (omega arith) in
+      let m = length-take-le i ws (omega (arith, h .0)) in
       let e : suc i ≡ i + 1 = omega arith in
       let written = is ∙ four-written (bytesOf (take i ws)) lent now (4 * i) _ _ _ _ (t .bytes) (omega (arith, n, m))
-      (omega (arith, n, m))
+      (omega (arith, n, m, h .1))
       ∙ ap (λ l. overwritten l lent) (sym (bytes-append (take i ws) (getD ws i 0 ∷ []))
-      ∙ ap bytesOf (sym (take-suc ws i 0 h) ∙ ap (λ k. take k ws) e)) in
+      ∙ ap bytesOf (sym (take-suc ws i 0 (h .0)) ∙ ap (λ k. take k ws) e)) in
       let n′ = length-bytesOf (take (i + 1) ws) in
-      let m′ = length-take-le (i + 1) ws (omega arith) in
+      let m′ = length-take-le (i + 1) ws (omega (arith, h .0)) in
       record {
         within = omega arith;
-        size = ap length written ∙ length-overwritten (bytesOf (take (i + 1) ws)) lent (omega (arith, n′, m′));
+        size = ap length written ∙ length-overwritten (bytesOf (take (i + 1) ws)) lent (omega (arith, n′, m′, h .1));
         bytes = written;
       }
 
-  pub bytes-end : (now : List ℕ) (i : ℕ) → BytesWritten ws lent now i → length ws ≤ i → now ≡ overwritten (bytesOf ws) lent
-  bytes-end now i t h = t .bytes ∙ ap (λ l. overwritten (bytesOf l) lent) (take-all i ws h)
+  pub bytes-end : (now : List ℕ) (i : ℕ) → BytesWritten ws lent count now i → count ≤ i → PackedBytes ws lent now i
+  bytes-end now i t past = let all : i ≡ count = le-antisymm (t .within) past in record { number = all ∙ few; bytes = t .bytes }

@@ -9,6 +9,9 @@ pub mod OutputLaws
 -- what the writers refuse, and that they refuse just that
 pub mod Refused
 pub mod RefusedLaws
+-- interface: words as the bytes of a file
+pub mod Packing
+pub mod PackingLaws
 -- inside
 pub mod Formats
 pub mod ValuesLaws

@@ -1,9 +1,9 @@
 -- The writers refuse just what is at fault, by its number and at its place; a refusal leaves all lent words.
-use mathlib.Core.Path.{_≡_, refl, sym, ap, ap₂, _∙_}
+use mathlib.Core.Path.{_≡_, refl, sym, ap, _∙_}
 use mathlib.Core.Bool.{Bool, true, false, not, _&&_, _||_}
 use mathlib.Core.Logic.{_⊎_, inl, inr, ⊎-elim, _↔_}
 use mathlib.Core.List.{List}
-use Prim.Native.Nat.{ℕ, _+_, _≤_, _<_}
+use Prim.Native.Nat.{ℕ, _+_, _≤_}
 use native.Mathlib.Omega.{arith}
 use lib.ListN.{length}
 use lib.Dec.{ltb}
@@ -14,7 +14,6 @@ use Rattle.words.specs.Limits.{Limits, largestModulus, longestSystem, longestCe
 use Rattle.words.specs.Outcome.{Outcome, refuse}
 use Rattle.words.specs.Outcome.Outcome.{accepted, refused}
 use Rattle.words.specs.OutcomeLaws.{refused-accepted, mapped-refused}
-use Rattle.words.specs.Polynomial.{AllWithin}
 use Rattle.words.specs.System.{System, Shape, ShapeWithin, shape, oneTo, systemEntries, systemWords}
 use Rattle.words.specs.Certificate.{Certificate, certificateEntries, certificateWords}
 use Rattle.words.specs.ReadingLaws.{and-passed}
@@ -22,7 +21,7 @@ use Rattle.words.specs.SystemHeadLaws.{oneTo-true, oneTo-from}
 use Rattle.answers.specs.declared.answer.Refusal.{Refusal}
 use Rattle.answers.specs.declared.answer.Counted.the-variants.{Refused}
 use Rattle.write_frame.specs.Trial.{refusePolynomials}
-use Rattle.write_frame.specs.Fault.{CoefficientFault, PolynomialFault, ValueFault}
+use Rattle.write_frame.specs.Fault.{PolynomialFault}
 use Rattle.write_frame.specs.Fault.CoefficientFault.{large, last-zero}
 use Rattle.write_frame.specs.Fault.PolynomialFault.{many, coefficient}
 use Rattle.write_frame.specs.FaultLaws.{refuse-iff, polynomials-refused-iff}
@@ -167,3 +166,16 @@ module _ {outcome : Outcome (List ℕ)} {entry exit : List ℕ} {r : Refusal} (w
   pub refused-lent : exit ≡ entry
   unfolding lentAfter
   refused-lent = w .lent ∙ ap (λ (o : Outcome (List ℕ)). lentAfter o entry) call-refused
+
+-- of the two calls: what is at fault, and all lent words as they were
+pub system-call-fault : (limits : Limits) (s : System) {entry exit : List ℕ} {r : Refusal}
+    → Writes (writeSystem limits (length entry) s) entry (Refused r) exit
+    → SystemFault limits (length entry) s (r .number) (r .place) × (exit ≡ entry)
+system-call-fault limits s {entry} {r = r} w =
+    (system-refused-iff-fault limits (length entry) s (r .number) (r .place) .0 (call-refused w), refused-lent w)
+
+pub certificate-call-fault : (limits : Limits) (h : Shape) (c : Certificate) {entry exit : List ℕ} {r : Refusal}
+    → Writes (writeCertificate limits (length entry) h c) entry (Refused r) exit
+    → CertificateFault limits (length entry) h c (r .number) (r .place) × (exit ≡ entry)
+certificate-call-fault limits h c {entry} {r = r} w =
+    (certificate-refused-iff-fault limits (length entry) h c (r .number) (r .place) .0 (call-refused w), refused-lent w)

@@ -1,9 +1,8 @@
 -- "Every accepted form writes back as the same words" (demand 2 of the notice), of the writers' calls: on arrays that stand for what
 -- was read, a call answers with the count of the words that were read, and writes just these over the first of the lent words.
-use mathlib.Core.Path.{_≡_, refl, sym, ap, _∙_, subst}
+use mathlib.Core.Path.{_≡_, sym, ap, _∙_}
 use mathlib.Core.List.{List}
 use Prim.Native.Nat.{ℕ, _≤_}
-use native.Mathlib.Omega.{arith}
 use lib.ListN.{length}
 use Rattle.words.specs.Limits.{Limits, longestSystem, longestCertificate}
 use Rattle.words.specs.LimitsLaws.{LimitsFit}

@@ -1,9 +1,9 @@
 // Words as the bytes of a file, four to a word, lowest first.
+use residue::number::lesser;
 ghost use mathlib.Core.Path.{_≡_};
-ghost use Prim.Native.Nat.{_+_, _*_, _/_, _%_, _≤_};
+ghost use Prim.Native.Nat.{_+_, _/_, _%_, _≤_};
 ghost use lib.ListN.{length, set};
-ghost use Rattle.words.specs.Bytes.{bytesOf};
-ghost use Rattle.write_frame.specs.Overwriting.{overwritten};
+ghost use Rattle.writer.specs.Packing.{PackedBytes};
 
 // Writes the four bytes of a word, from the place `at` on.
 fn write_word(bytes: &mut [u8], at: usize, word: u32)
@@ -17,14 +17,15 @@ fn write_word(bytes: &mut [u8], at: usize, word: u32)
     bytes[at + 3] = (word / 16777216) as u8;
 }
 
-// Writes the words as bytes, over the first of those lent.
-pub fn write_bytes(bytes: &mut [u8], words: &[u32])
-    requires { ⌜ 4 * length (now words) ≤ length (now bytes) ⌝ }
-    ensures { λ _. ⌜ now (bytes .exit) ≡ overwritten (bytesOf (now (words .entry))) (now (bytes .entry)) ⌝ }
+// Writes the words as bytes over the first of those lent, as many words as there is room for. Returns their number.
+pub fn write_bytes(bytes: &mut [u8], words: &[u32]) -> usize
+    ensures { λ r. ⌜ PackedBytes (now (words .entry)) (now (bytes .entry)) (now (bytes .exit)) r ⌝ }
 {
+    let count = lesser(words.len(), bytes.len() / 4);
     let mut i: usize = 0;
-    while i < words.len() {
+    while i < count {
         write_word(bytes, 4 * i, words[i]);
         i = i + 1;
     }
+    i
 }

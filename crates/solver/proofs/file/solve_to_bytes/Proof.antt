@@ -7,6 +7,7 @@ use lib.Seq.{length-take-le}
 use borrow.Author.Needs.{needs}
 use Rattle.words.specs.Limits.{office, longestCertificate}
 use Rattle.answers.specs.Answer.{countedOutcome}
+use Rattle.writer.specs.PackingLaws.{packed-all}
 use Rattle.solver.specs.Solving.{certificateBytes}
 use Rattle.solver.specs.SolvingLaws.{gives-fits}
 use Rattle.solver.proofs.Reading.{solves-refused, solves-short, solves-given}
@@ -37,13 +38,6 @@ returns c =
     (ap countedOutcome (counted .solved .given .1)) in
     solves-short (4 * longest) certificateBytes lent lent _ _ (given .1) (c .if1 .taken) refl refl
 
-write-bytes-requires : tie.Need-write-bytes-requires
-write-bytes-requires c κs =
-    let counted = c .before .before .before .before in
-    let few = fits counted in
-    let room : length (call counted .solve .last .0) ≡ longest = search needs in
-    omega (arith, few, room, length-take-le _ (call counted .solve .last .0) few)
-
 mul-t11 : tie.Need-mul-t11
 mul-t11 c =
     let counted = c .before .before .before .before .before .before .before in
@@ -56,8 +50,11 @@ returns-2 c =
     let given = was-solved (call counted .before .before .before .before .args .system .now) (replicate longest 0) _ _
     (call counted .solve .ensures)
     (ap countedOutcome (counted .solved .given .1)) in
+    let few = fits counted in
+    let room : length (call counted .solve .last .0) ≡ longest = search needs in
+    let short = length-take-le _ (call counted .solve .last .0) few in
     solves-given (4 * longest) certificateBytes _ _ _ _ (given .1) (search needs) _ refl
-    (gives-bytes (given .2) _ _ (c .before .before .write-bytes .ensures))
+    (gives-bytes (given .2) _ _ (packed-all (c .before .before .write-bytes .ensures) (omega arith)))
 
 returns-3 : tie.Need-returns-3
 returns-3 c =
@@ -77,7 +74,7 @@ solve-to-bytes-spec =
     returns
     (λ c. omega (arith, fits (c .before .before .before)))
     (λ c. sym (length-take-le _ _ (fits (c .before .before .before .before))))
-    write-bytes-requires
+    (λ c κs. search needs)
     mul-t11
     (λ c. search needs)
     (λ c. search needs)

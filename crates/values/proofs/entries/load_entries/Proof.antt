@@ -1,13 +1,11 @@
 -- The loop keeps a `Loads`.
-use Prim.Native.Nat.{ℕ, _+_, _-_, _*_, _≤_, _<_}
+use Prim.Native.Nat.{_-_}
 use native.Mathlib.Omega.{arith}
 use lib.ListN.{length-take, length-drop}
 use borrow.Author.Needs.{needs}
 use Rattle.values.proofs.Turns.{Loads, loads-start, Turn, turn, loads-turn, loads-end}
 use Rattle.values.proofs.entries.load_entries.Statement.{statement}
 use Rattle.values.proofs.entries.load_entries.Tie as tie
-use Rattle.values.proofs.entries.load_entries.Reads as reads
-use Rattle.values.proofs.entries.load_entries.Lts as lts
 
 abbrev Inv-loop : tie.InvT-loop
 Inv-loop sizes₀ values₀ words stride count at₀ k₀ sizes values at k = Loads words sizes₀ values₀ stride count sizes values at k
