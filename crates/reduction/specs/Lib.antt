@@ -1,7 +1,7 @@
 -- interface, what contracts, other crates and PROVED.md cite: Replace, Total, Pivot, Slots, Span, Independence, Euclidean,
 --   Moves, Tails, Trace, Kept, Insert, Inserting, Division, System, Link, Column, Filling, Levels, Descent, Numerators,
---   Reduced, Dual, Transpose, Second, Certificate, Certifying, Killing, Solution, Unfinished, Absence, Existence, Polynomials,
---   Holds, Flat, Held
+--   Reduced, Dual, Transpose, Second, Certificate, Certifying, Killing, LessTail, Solution, Unfinished, Absence, Existence,
+--   Polynomials, Holds, Rounds, Flat, Held
 -- inside: Step, Row, Least, Dependence, Lowering, Clearing, LowerBounds, Retailed, Round, Run, RunSecond, RunLevels,
 --   RunDescent, RunRounds, Square, Joint, Lines, Units, Gathering, Shortening
 -- Beside mathematics.md, from the bottom up.

@@ -1,5 +1,5 @@
--- A round of shortening Z/w as a whole: the slots after it have a second system within the same room, and of its rows those that are long come
--- before the one that was shortened.
+-- A round of shortening Z/w as a whole: the slots after it have a second system within the same room, and of its rows those that
+-- are long come before the one that was shortened.
 use Prim.Native.Nat.{ℕ, suc, _<_, _≤_}
 use Prim.Native.Nat.{_+_ as _+ₙ_, _-_ as _-ₙ_}
 use mathlib.Core.Path.{_≡_, refl, sym, _∙_, ap}
@@ -105,8 +105,8 @@ module _ {K : Type 0} (F : Field K) {n B D : ℕ} {G : Slots (Polynomial F)} (O 
   infixl 70 _*_
   infix 75 -_
   -- what is taken off is the multiple of d by this
-  abbrev pub factorOf : Polynomial F
-  factorOf = monomial F (F .ring .mul (leading F (Y i)) (leading F (G .at i i))) ((size (Y i) +ₙ size (G .at i i)) -ₙ suc (size (d * w)))
+  abbrev pub roundFactor : Polynomial F
+  roundFactor = monomial F (F .ring .mul (leading F (Y i)) (leading F (G .at i i))) ((size (Y i) +ₙ size (G .at i i)) -ₙ suc (size (d * w)))
 
   pub long-filled : 0 < G .size i
   long-filled = go (ℕ-discrete (G .size i) 0)
@@ -127,28 +127,28 @@ module _ {K : Type 0} (F : Field K) {n B D : ℕ} {G : Slots (Polynomial F)} (O 
   longer : size (d * w) < size (Y i) +ₙ size (G .at i i)
   longer = omega (arith, long, pivot .reached)
 
-  factor-size : size factorOf ≡ suc ((size (Y i) +ₙ size (G .at i i)) -ₙ suc (size (d * w)))
+  factor-size : size roundFactor ≡ suc ((size (Y i) +ₙ size (G .at i i)) -ₙ suc (size (d * w)))
   factor-size = shortening-size F (d * w) (Y i) (G .at i i) (monic-mul F d w monic monic-w) whole row-some (pivot .positive) longer
 
-  factor-nonzero : ¬ (factorOf ≡ 𝟘)
-  factor-nonzero = positive-nonzero (sized F) factorOf (omega (arith, factor-size))
+  factor-nonzero : ¬ (roundFactor ≡ 𝟘)
+  factor-nonzero = positive-nonzero (sized F) roundFactor (omega (arith, factor-size))
 
-  multiple-size : suc (size (factorOf * d)) ≡ size factorOf +ₙ size d
-  multiple-size = size-mul-nonzero (sized F) factorOf d factor-nonzero (positive-nonzero (sized F) d some)
+  multiple-size : suc (size (roundFactor * d)) ≡ size roundFactor +ₙ size d
+  multiple-size = size-mul-nonzero (sized F) roundFactor d factor-nonzero (positive-nonzero (sized F) d some)
 
-  pub factor-room : size (factorOf * d) +ₙ degrees n (G .size) ≤ B +ₙ G .size i
+  factor-room : size (roundFactor * d) +ₙ degrees n (G .size) ≤ B +ₙ G .size i
   factor-room = omega (arith, multiple-size, factor-size, product, pivot .reached, longer, dual .row-room i h row-some)
 
-  pub factor-tops : Tops (sized F) n B D (lessTail (polynomials F) n G i (factorOf * d))
-  factor-tops = round-tops (sized F) O i h long-filled (factorOf * d) factor-room
+  pub factor-tops : Tops (sized F) n B D (lessTail (polynomials F) n G i (roundFactor * d))
+  factor-tops = round-tops (sized F) O i h long-filled (roundFactor * d) factor-room
 
   module _ (greatest : (j : ℕ) → j < n → size (d * w) < size (Y j) +ₙ G .size j → size (Y j) ≤ size (Y i))
       (latest : (j : ℕ) → j < n → i < j → size (d * w) < size (Y j) +ₙ G .size j → size (Y j) < size (Y i))
       {w₁ : Polynomial F} {Y₁ : ℕ → Polynomial F}
-      (after : Dual (sized F) n B (lessTail (polynomials F) n G i (factorOf * d)) w₁ Y₁) where
+      (after : Dual (sized F) n B (lessTail (polynomials F) n G i (roundFactor * d)) w₁ Y₁) where
     pub factor-before : (j : ℕ) → j < n → 0 < size (Y₁ j) → size (d * w₁) < size (Y₁ j) +ₙ G .size j
         → (size (Y₁ j) +ₙ size (d * w) < size (Y i) +ₙ size (d * w₁))
         ⊎ ((size (Y₁ j) +ₙ size (d * w) ≡ size (Y i) +ₙ size (d * w₁)) × (j < i))
-    factor-before = round-before (sized F) O d dual (positive-nonzero (sized F) d some) i h long-filled factorOf factor-nonzero
+    factor-before = round-before (sized F) O d dual (positive-nonzero (sized F) d some) i h long-filled roundFactor factor-nonzero
         (shortening-cancels F (d * w) (Y i) (G .at i i) (monic-mul F d w monic monic-w) whole row-some (pivot .positive) longer)
         greatest latest after

@@ -16,17 +16,14 @@ use Rattle.ring.specs.Total.{total}
 use Rattle.reduction.specs.Total.{total-term, degrees, degrees-ext}
 use Rattle.reduction.specs.Pivot.{Pivot, Vanishes}
 use Rattle.reduction.specs.Slots.{Slots, unweighted}
-use Rattle.reduction.specs.Span.{InSpanWith}
 use Rattle.reduction.specs.Euclidean.{Euclidean, Associate, Cancelling, associate-nonzero}
 use Rattle.reduction.specs.Inserting.{Inserting}
 use Rattle.reduction.specs.System.{LinearSystem}
 use Rattle.reduction.specs.Levels.{LevelKnown}
 use Rattle.reduction.specs.Transpose.{Tops}
-use Rattle.reduction.specs.Certifying.{Short}
-use Rattle.reduction.specs.Retailed.{retailed}
 use Rattle.reduction.specs.LessTail.{lessTail, LessMultiples, less-none, less-more}
 use Rattle.reduction.specs.Rounds.{round-tops, round-before}
-use Rattle.reduction.specs.Solution.{solution-positive, solution-tops, solution-short}
+use Rattle.reduction.specs.Solution.{solution-positive, solution-tops}
 use Rattle.reduction.specs.Unfinished.{Unfinished, unfinished}
 use Rattle.reduction.specs.RunSecond.{SecondSolution, second}
 
@@ -271,26 +268,14 @@ module _ {A : Type 0} {R : Ring A} {S : Sized R} (E : Euclidean S) (T : LinearSy
   short-rows = record {
     w = wOf r;
     Z = row r;
-    unfinished = unfinished E T L X z μ (r .less .blocks .sizes) into (solved r .w) (row r)
-        (solved r .monic) (solved r .dual) short;
+    unfinished = unfinished E T L X z μ (r .less) (solved r .w) (row r) (solved r .monic) (solved r .dual)
+        (λ i h some. fits i h some (decLt (size (wOf r)) (size (row r i) +ₙ r .slots .size i)));
   }
     where
       r : Turn
       r = shortened .turn
 
-      into : (u : ℕ → A) → InSpanWith R n (suc n) (X .now .slots) (X .now .hand) u → InSpanWith R n (suc n) (r .slots) (X .now .hand) u
-      into = retailed R (r .less .blocks) z (λ q. r .less .multiple q * μ .unit) (λ q h f. r .less .tails q h f
-          ∙ identity R (X .now .slots .at q n ∷ r .less .multiple q ∷ μ .unit ∷ X .now .hand n ∷ [])
-          (λ ρ q1 q2 q3 q4. search quotes depth 16) refl)
-
-      short : (i : ℕ) → i < n → ¬ (row r i ≡ 𝟘) → Short S n m M b (wOf r) (row r) i
-      short i h ne = solution-short E T L X z μ (r .less .blocks .sizes) into (solved r .w) (row r) (solved r .monic) (solved r .dual) i h
-          (filled′ (ℕ-discrete (r .slots .size i) 0)) (fits (decLt (size (wOf r)) (size (row r i) +ₙ r .slots .size i)))
-        where
-          filled′ : Dec (r .slots .size i ≡ 0) → 0 < X .now .slots .size i
-          filled′ (yes e) = absurd (ne (solved r .dual .empty i h e))
-          filled′ (no e) = omega (arith, r .less .blocks .sizes i h)
-
-          fits : Dec (size (wOf r) < size (row r i) +ₙ r .slots .size i) → size (row r i) +ₙ X .now .slots .size i ≤ size (wOf r)
-          fits (yes x) = absurd (shortened .short i h (size-positive S (row r i) ne, x))
-          fits (no x) = omega (arith, r .less .blocks .sizes i h)
+      fits : (i : ℕ) → i < n → 0 < size (row r i) → Dec (size (wOf r) < size (row r i) +ₙ r .slots .size i)
+          → size (row r i) +ₙ X .now .slots .size i ≤ size (wOf r)
+      fits i h some (yes x) = absurd (shortened .short i h (some, x))
+      fits i h some (no x) = omega (arith, r .less .blocks .sizes i h)

@@ -14,6 +14,7 @@ use Rattle.vector.specs.Reduced.{polynomial}
 use Rattle.reduction.specs.Total.{rank, degrees, rank-le}
 use Rattle.reduction.specs.Pivot.{Vanishes}
 use Rattle.reduction.specs.Slots.{Slots, unweighted}
+use Rattle.reduction.specs.Transpose.{Tops}
 use Rattle.reduction.specs.Insert.{Stuck}
 use Rattle.reduction.specs.Inserting.{begin, Inserting}
 use Rattle.reduction.specs.Polynomials.{euclidean}
@@ -31,7 +32,6 @@ use Rattle.solve_lattice.specs.Insertion.{Inserts}
 use Rattle.solve_lattice.specs.Input.{Equations, inputSystem}
 use Rattle.solve_levels.specs.Begun.{ValidColumn}
 use Rattle.solve_levels.specs.Started.{Started}
-use Rattle.solve_second.specs.Solved.{HasTops}
 use Rattle.solve_lattice.specs.Room.{blockWords, tailWords, blockDegrees, lanes, mostCoefficients}
 use Rattle.solve_certify.specs.Witnessed.{HoldsLast}
 use Rattle.solve_certify.specs.Words.{words-copied}
@@ -93,17 +93,10 @@ module _ {p : ℕ} (prime : Prime p) {n m : ℕ} {X : Equations p prime n m} {U 
       solution-positive (euclidean (residues p prime)) (inputSystem p prime n m X) (Q .last) (Q .inserting) (Q .vanishes)
 
   -- there is a second system
-  pub vanished-tops : {input : List ℕ} {L : Level} {tail : List ℕ} → ValidLevel p L → HoldsVanished p prime n m X U input L tail
-      → HasTops p n L
-  vanished-tops valid Q = record {
-    prime = prime;
-    bound = degrees n (U .size);
-    small = last-degrees prime few-rows (Q .last) .1;
-    slots = Q .inserting .now .slots;
-    holds = Q .slots;
-    tops = solution-tops (euclidean (residues p prime)) (inputSystem p prime n m X) (Q .last) (Q .inserting) (Q .vanishes) blockDegrees
-        (slots-high prime few-rows valid (Q .slots));
-  }
+  pub vanished-tops : {input : List ℕ} {L : Level} {tail : List ℕ} → ValidLevel p L → (Q : HoldsVanished p prime n m X U input L tail)
+      → Tops (sized (residues p prime)) n (degrees n (U .size)) blockDegrees (Q .inserting .now .slots)
+  vanished-tops valid Q = solution-tops (euclidean (residues p prime)) (inputSystem p prime n m X) (Q .last) (Q .inserting) (Q .vanishes)
+      blockDegrees (slots-high prime few-rows valid (Q .slots))
 
 -- the right side inserted into a copy of L: the slots and the tail then, and how many words are left of the block
 pub record LastInserted (p m : ℕ) (input : List ℕ) (L L′ : Level) (tail : List ℕ) (size : ℕ) : Type 0 where

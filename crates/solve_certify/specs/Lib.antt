@@ -2,6 +2,12 @@
 pub mod Witnessed
 -- inside: laws on words
 pub mod Words
+-- inside: rows that are too long
+pub mod LongRow
+pub mod LongSoFar
+pub mod Shortens
+pub mod Short
+pub mod ShortRounds
 -- inside: the right side inserted
 pub mod Inserted
 -- inside: its two ends

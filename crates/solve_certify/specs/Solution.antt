@@ -16,7 +16,6 @@ use Rattle.reduction.specs.Total.{rank, degrees}
 use Rattle.reduction.specs.Slots.{Slots, unweighted}
 use Rattle.reduction.specs.Euclidean.{associate-nonzero}
 use Rattle.reduction.specs.Polynomials.{associate, euclidean}
-use Rattle.reduction.specs.Solution.{solution-tops}
 use Rattle.reduction.specs.Unfinished.{Unfinished, unfinished}
 use Rattle.reduction.specs.Holds.{Holds}
 use Rattle.solve_lattice.specs.Word.{words}
@@ -28,11 +27,12 @@ use Rattle.solve_lattice.specs.Range.{words-apart, ends-most}
 use Rattle.solve_lattice.specs.Input.{Equations, inputSystem}
 use Rattle.solve_lattice.specs.Output.{ValidOutput}
 use Rattle.solve_second.specs.Product.{Multiplied}
-use Rattle.solve_second.specs.Solved.{HoldsSecond, SecondSolved}
-use Rattle.solve_lattice.specs.Room.{outputWords, blockWords, blockDegrees, lanes}
+use Rattle.solve_second.specs.Solved.{HoldsSecond}
+use Rattle.solve_lattice.specs.Room.{outputWords, blockWords, lanes}
 use Rattle.solve_certify.specs.Witnessed.{HoldsUnfinished}
 use Rattle.solve_certify.specs.Words.{stored-below, held-zero-from, held-fewer, words-copied}
-use Rattle.solve_certify.specs.Inserted.{HoldsVanished, HasVanished, slots-high, last-degrees, vanished-some}
+use Rattle.solve_certify.specs.Inserted.{HoldsVanished, HasVanished, last-degrees, vanished-some, vanished-tops}
+use Rattle.solve_certify.specs.Short.{HasMonicTops, HoldsShort, ShortSolved}
 use Rattle.solve_certify.specs.Denominator.{HasTail, HasDenominator, HoldsDenominator}
 
 pub record SolutionFound (p n m : ℕ) (input : List ℕ) (L L′ : Level) (tail quotients output : List ℕ) : Type 0 where
@@ -51,6 +51,24 @@ vanished-tail {n = n} few-rows has = record {
   some = vanished-some (has .prime) few-rows (has .vanished);
   holds = has .vanished .held;
 }
+
+-- a second system whose tails may lose multiples of d
+pub vanished-monic : {p n m : ℕ} {input : List ℕ} {L : Level} {tail d t : List ℕ} {found : ℕ} → n ≤ lanes → ValidLevel p L
+    → HasVanished p n m input L tail → HasDenominator p m input tail d t found → HasMonicTops p n L d
+vanished-monic {n = n} few-rows valid has denominator =
+    let Q = has .vanished in
+    let some = vanished-some (has .prime) few-rows Q in
+    let e = Q .inserting .now .hand n in record {
+      prime = has .prime;
+      bound = degrees n (has .slots .size);
+      small = omega (arith, last-degrees (has .prime) few-rows (Q .last) .1);
+      slots = Q .inserting .now .slots;
+      holds = Q .slots;
+      tops = vanished-tops (has .prime) few-rows valid Q;
+      polynomial = polynomials _ .mul (associate (residues _ (has .prime)) e some .unit) e;
+      monic = associate (residues _ (has .prime)) e some .monic;
+      holds-d = denominator .holds (has .prime) n e some (has .equations .side) (Q .held) (Q .side) .denominator;
+    }
 
 -- d, w and the rows of Z at their places in written order
 abbrev pub storedSolution : (n m : ℕ) (d w rows output : List ℕ) → List ℕ
@@ -104,7 +122,7 @@ module _ (p : ℕ) (prime₀ : Prime p) (n m : ℕ) (few-rows : n ≤ lanes) (co
 
 -- the parts of the certificate
 module _ {p n m : ℕ} {input : List ℕ} {L L′ : Level} {tail d t : List ℕ} {found : ℕ} {w rows : List ℕ} (few-rows : n ≤ lanes)
-    (level : ValidLevel p L′) (has : HasDenominator p m input tail d t found) (solved : SecondSolved p n L′ w rows)
+    (level : ValidLevel p L′) (has : HasDenominator p m input tail d t found) (solved : ShortSolved p n L′ d w rows)
     {t′ quotients : List ℕ} {left : ℕ} (divided : BlockDivided p L t t′ quotients left) where
   module _ (prime : Prime p) (X : Equations p prime n m) (U : Slots (Polynomial (residues p prime)))
       (Q : HoldsVanished p prime n m X U input L′ tail) where
@@ -117,15 +135,17 @@ module _ {p n m : ℕ} {input : List ℕ} {L L′ : Level} {tail d t : List ℕ}
     D : HoldsDenominator p prime n d t x (X .side)
     D = has .holds prime n e (vanished-some prime few-rows Q) (X .side) (Q .held) (Q .side)
 
-    S : HoldsSecond p prime n (degrees n (U .size)) (Q .inserting .now .slots) w rows
-    S = solved .solved prime (degrees n (U .size)) (Q .inserting .now .slots) (last-degrees prime few-rows (Q .last) .1) (Q .slots)
-        (solution-tops (euclidean (residues p prime)) (inputSystem p prime n m X) (Q .last) (Q .inserting) (Q .vanishes) blockDegrees
-        (slots-high prime few-rows level (Q .slots)))
+    H : HoldsShort p prime n (degrees n (U .size)) (Q .inserting .now .slots) x w rows
+    H = solved .solved prime (degrees n (U .size)) (Q .inserting .now .slots) (omega (arith, last-degrees prime few-rows (Q .last) .1))
+        (Q .slots) (vanished-tops prime few-rows level Q) x (associate (residues p prime) e (vanished-some prime few-rows Q) .monic) (D .denominator)
+
+    abbrev S : HoldsSecond p prime n (degrees n (U .size)) (H .slots) w rows
+    S = H .second
 
     made : Unfinished (euclidean (residues p prime)) (inputSystem p prime n m X) U x
         (polynomials (residues p prime) .mul x (S .polynomial)) (S .Y)
     made = unfinished (euclidean (residues p prime)) (inputSystem p prime n m X) (Q .last) (Q .inserting) (Q .vanishes)
-        (associate (residues p prime) e (vanished-some prime few-rows Q)) (S .polynomial) (S .Y) (S .monic) (S .dual)
+        (associate (residues p prime) e (vanished-some prime few-rows Q)) (H .less) (S .polynomial) (S .Y) (S .monic) (S .dual) (H .short)
 
     -- L8: d and w′ have together at most 122 coefficients, since their product has at most 121
     together : size (residues p prime) x + size (residues p prime) (S .polynomial) ≤ 122

@@ -1,5 +1,5 @@
 // The solver on memory, from a system to its certificate: up over the columns and down again (ascending; descending, dropping), and
-// at the top the right side inserted and the second system solved (witness; insertion, solution, absence).
+// at the top the right side inserted and the second system solved (witness; insertion, solution, shorten, absence).
 pub mod absence;
 pub mod ascending;
 pub mod descending;

@@ -1,7 +1,7 @@
 -- interface, what contracts, other crates and PROVED.md cite: Monic, Product, ProductLaws, Greatest, Words, Laid,
---   TransposeFilling, SideFilling, WithRow, Side, Solved, Denominator, QuotientRows
--- inside: Negated, Reduced, MonicLaws, Cells, Transposed, ValidTransposed, Spread, Filling, Same, RowLaid,
---   SideInserted, SecondDual, Scaled, DividedSecond, SecondEnds
+--   TransposeFilling, SideFilling, Same, OtherTails, WithRow, Side, Solved, Denominator, QuotientRows
+-- inside: Negated, Reduced, MonicLaws, Cells, Transposed, ValidTransposed, Spread, Filling, RowLaid, SideInserted, SecondDual,
+--   Scaled, DividedSecond, SecondEnds
 -- what the products ensure
 pub mod Monic
 pub mod Product
@@ -25,6 +25,7 @@ pub mod TransposeFilling
 pub mod SideFilling
 -- the level with a row of its blocks for tails
 pub mod Same
+pub mod OtherTails
 pub mod WithRow
 pub mod RowLaid
 pub mod Side

@@ -7,26 +7,23 @@ use native.Mathlib.Nat.{zero-mod}
 use native.Mathlib.Omega.{arith}
 use native.Mathlib.Decide.{decLt}
 use lib.ListN.{length, getD, replicate, length-replicate}
-use Rattle.algebra.specs.Expressions.{shift, shift-zero}
+use Rattle.algebra.specs.Expressions.{shift-zero}
 use Rattle.algebra.specs.Polynomial.{Polynomial}
 use Rattle.modular.specs.Prime.{Prime}
-use Rattle.modular.specs.Modulo.{modulo}
 use Rattle.modular.specs.Residue.{residues}
-use Rattle.reduction.specs.Replace.{extend-below, extend-at}
 use Rattle.reduction.specs.Slots.{Slots, unweighted, tailed}
 use Rattle.reduction.specs.Holds.{Holds}
 use Rattle.reduction.specs.Flat.{flat}
-use Rattle.reduction.specs.Held.{Held}
 use Rattle.vector.specs.Stored.{stored, length-stored, stored-first, below-or-not}
 use Rattle.solve_lattice.specs.Word.{residue, words, words-inside, words-behind}
-use Rattle.solve_lattice.specs.Memory.{row, height, ZeroFrom, Ends, Level, slotSize, tailSize, ValidSlot, ValidLevel}
+use Rattle.solve_lattice.specs.Memory.{height, ZeroFrom, Level, slotSize, tailSize, ValidSlot, ValidLevel}
 use Rattle.solve_lattice.specs.Holding.{HoldsSlots}
-use Rattle.solve_lattice.specs.Range.{words-same, words-zero}
-use Rattle.solve_lattice.specs.Reading.{flat-same}
+use Rattle.solve_lattice.specs.Range.{words-zero}
 use Rattle.solve_lattice.specs.Room.{levelWords, inversesFrom, tailSizesFrom, sizesFrom, blockWords, slotWords, blockDegrees, lanes, lastLane}
 use Rattle.solve_second.specs.Words.{either, either-yes, either-no, when, when-yes, when-no, blockWord}
 use Rattle.solve_second.specs.ValidTransposed.{when-below}
 use Rattle.solve_second.specs.Same.{SameLevelBlocks}
+use Rattle.solve_second.specs.OtherTails.{same-slot, same-holds}
 
 -- coefficient e of row h in the block of slot q, which has 16
 abbrev pub rowWord : Level → (h q e : ℕ) → ℕ
@@ -109,33 +106,14 @@ module _ (h : ℕ) {p : ℕ} {L : Level} (valid : ValidLevel p L) where
   abbrev L′ : Level
   L′ = withRow h L
 
-  blocks : (q j : ℕ) → q < lanes → j < blockWords → getD L′ (slotWords * q + j) 0 ≡ getD L (slotWords * q + j) 0
-  blocks = row-blocks h L .words
-
   tails : (q j : ℕ) → q < lanes → j < blockWords → getD L′ (slotWords * q + blockWords + j) 0 ≡ rowWord L h q j
   tails = row-tail h L
 
   slot : (q : ℕ) → q < lanes → ValidSlot p L′ q
   slot q l =
-      let old = valid .slot q l in
-      let k : ℕ = slotSize L q in
-      let same : slotSize L′ q ≡ k = row-blocks h L .sizes q l in
-      let long = row-tail-size h L q l in record {
-        block = subst (Ends p L′ (slotWords * q) blockWords) (sym same) record {
-          within = old .block .within;
-          last = λ some. subst (λ w. 0 < w % p) (sym (blocks q (k - 1) l (omega (arith, old .block .within))))
-              (old .block .last some);
-          behind = λ j ge lt. ap (λ w. w % p) (blocks q j l lt) ∙ old .block .behind j ge lt;
-        };
-        pivot = λ some. ap row same ∙ old .pivot (omega arith);
-        inverse = λ some.
-            row-blocks h L .inverses q l
-            ∙ old .inverse (omega arith)
-            ∙ ap (λ w. modulo p .inverse w) (sym (ap (λ m. getD L′ (slotWords * q + (m - 1)) 0) same
-            ∙ blocks q (k - 1) l (omega (arith, old .block .within))));
-        tail-within = omega (arith, long, old .block .within);
-        tail = λ j ge lt. ap (λ w. w % p) (tails q j l lt) ∙ row-behind valid h q j l (omega (arith, long));
-      }
+      let long = row-tail-size h L q l in
+      same-slot (row-blocks h L) q l (valid .slot q l) (omega (arith, long, valid .slot q l .block .within))
+      (λ j ge lt. ap (λ w. w % p) (tails q j l lt) ∙ row-behind valid h q j l (omega (arith, long)))
 
   pub row-valid : h < lanes → ValidLevel p (withRow h L)
   row-valid lane = record { room = omega (arith, row-length h L); below = row-below h L p lane (valid .below); slot = slot }
@@ -162,28 +140,11 @@ module _ (h : ℕ) {p : ℕ} {L : Level} (valid : ValidLevel p L) where
           ∙ sym (words-zero p prime L′ (slotWords * q + blockWords) blockWords blockDegrees far-zero e more))
           (below-or-not e blockDegrees)
 
-      row-held : Held (residues p prime) n lanes unweighted (words p prime L′ (slotWords * q) blockWords) (words p prime L′ (slotWords * q + blockWords) blockWords)
-          (tailed n U (λ q. U .at q h) .at q)
-      row-held =
-          let B = holds .vector q l f .block in
-          let B′ = flat-same (λ x. words-same p prime L L′ (slotWords * q) (slotWords * q) blockWords x
-          (λ lt. ap (λ w. w % p) (sym (blocks q x (omega arith) lt)))) B in record {
-            block = record {
-              lanes = B′ .lanes;
-              lane = λ j g. subst (λ v. Holds (residues p prime) (λ e. words p prime L′ (slotWords * q) blockWords (flat lanes j e))
-                  (shift (residues p prime) 0 v)) (sym (extend-below n (U .at q) (U .at q h) j g)) (B′ .lane j g);
-              beside = B′ .beside;
-            };
-            tail = subst (Holds (residues p prime) (words p prime L′ (slotWords * q + blockWords) blockWords))
-                (sym (extend-at n (U .at q) (U .at q h)))
-                (record {
-                  at = λ e. subst (Holds (residues p prime) (λ d. words p prime L (slotWords * q) blockWords (flat lanes h d)))
-                      (shift-zero (residues p prime) (U .at q h)) (B .lane h inside) .at e ∙ lane-word e;
-                });
-          }
+      row-held : Holds (residues p prime) (words p prime L′ (slotWords * q + blockWords) blockWords) (U .at q h)
+      row-held = record {
+        at = λ e. subst (Holds (residues p prime) (λ d. words p prime L (slotWords * q) blockWords (flat lanes h d)))
+            (shift-zero (residues p prime) (U .at q h)) (holds .vector q l f .block .lane h inside) .at e ∙ lane-word e;
+      }
 
     pub row-holds : HoldsSlots p prime n unweighted (withRow h L) (tailed n U (λ q. U .at q h))
-    row-holds = record {
-      size = λ q l. holds .size q l ∙ ap height (sym (row-blocks h L .sizes q (omega arith)));
-      vector = λ q l f. row-held q l f;
-    }
+    row-holds = same-holds (row-blocks h L) prime small holds (λ q. U .at q h) row-held

@@ -11,6 +11,7 @@ pub mod second_side;
 pub mod solve;
 pub mod transpose;
 
+pub use height::slot_height;
 pub use layout::lay_second;
 pub use monic::make_monic;
 pub use product::multiply;

@@ -2,9 +2,8 @@
 use native.Mathlib.Omega.{arith}
 use borrow.Author.Needs.{needs}
 use Rattle.vector.specs.Bound.{zeros-none}
-use Rattle.solve_lattice.specs.Room.{productWords, rowsWords}
-use Rattle.solve_certify.specs.Inserted.{vanished-tops}
-use Rattle.solve_certify.specs.Solution.{vanished-tail, solution-found}
+use Rattle.solve_lattice.specs.Room.{productWords}
+use Rattle.solve_certify.specs.Solution.{vanished-tail, vanished-monic, solution-found}
 use Rattle.solve_certify.proofs.solution.find_solution.Statement.{statement}
 use Rattle.solve_certify.proofs.solution.find_solution.Tie as tie
 
@@ -31,49 +30,46 @@ divide-requires c κs =
       ),
     )
 
-solve-second-requires : tie.Need-solve-second-requires
-solve-second-requires c κs =
-    let D = c .before .before .before .before .before .before in
+solve-short-requires : tie.Need-solve-short-requires
+solve-short-requires c κs =
+    let D = c .before .before .before .before .before .before .before .before in
+    let found = D .find-denominator .ensures in
     let S = D .before .before .before .before .pre in
-    let stage = S .0 .0 in
-    let has = S .1 .1 .1 .0 in (
-      (stage .modulus, stage .rows, omega arith, S .1 .0 .1),
-      (
-        vanished-tops (has .prime) (stage .rows) (S .1 .0 .1) (has .vanished),
-        (search needs, λ i ge. omega (arith, zeros-none rowsWords i, stage .modulus .prime .large)),
-      ),
+    let stage = S .0 .0 in (
+      (stage .modulus, stage .rows, S .1 .0 .1),
+      (vanished-monic (stage .rows) (S .1 .0 .1) (S .1 .1 .1 .0) found, (found .below, found .ends)),
     )
 
 sub-multiply : tie.Need-sub-multiply
 sub-multiply c =
-    let W = c .before .before .before .before in
-    omega (arith, W .before .before .before .before .before .before .before .find-denominator .ensures .small)
+    let W = c .before .before .before in
+    omega (arith, W .before .before .before .before .before .before .before .before .before .find-denominator .ensures .small)
 
 multiply-requires : tie.Need-multiply-requires
 multiply-requires c κs =
-    let W = c .before .before .before .before in
-    let D = W .before .before .before .before .before .before .before in
+    let W = c .before .before .before in
+    let D = W .before .before .before .before .before .before .before .before .before in
     let m = D .before .before .before .before .pre .0 .0 .modulus in
     let found = D .find-denominator .ensures in (
       (m, omega (arith, found .small), omega arith, omega (arith, found .small)),
-      (found .below, W .solve-second .ensures .w-below),
+      (found .below, W .solve-short .ensures .w-below),
     )
 
 store-solution-requires : tie.Need-store-solution-requires
 store-solution-requires c κs =
-    let W = c .before .before .before .before .before .before .before .before .before in
-    let stage = W .before .before .before .before .before .before .before .before .before .before .before .pre .0 .0 in
+    let W = c .before .before .before .before .before .before .before .before in
+    let stage = W .before .before .before .before .before .before .before .before .before .before .before .before .before .pre .0 .0 in
     (stage .rows, stage .columns)
 
 returns : tie.Need-returns
 returns c =
     let P = c .before .before .before .before .before in
-    let W = P .before .before .before .before .before in
-    let D = W .before .before .before .before .before .before .before in
+    let W = P .before .before .before .before in
+    let D = W .before .before .before .before .before .before .before .before .before in
     let S = D .before .before .before .before .pre in
     let stage = S .0 .0 in
-    solution-found (stage .rows) (S .1 .0 .1) (D .find-denominator .ensures) (W .solve-second .ensures)
-    (W .before .before .before .before .divide .ensures)
+    solution-found (stage .rows) (S .1 .0 .1) (D .find-denominator .ensures) (W .solve-short .ensures)
+    (W .before .before .before .before .before .before .divide .ensures)
     (stage .modulus .prime) (stage .columns) (P .multiply .ensures) (S .1 .1 .1 .1 .1) (c .store-solution .ensures)
 
 pub find-solution-spec : {M : Type 1} → statement M
@@ -83,8 +79,7 @@ find-solution-spec =
     find-denominator-requires
     slice-aggregate-divide
     divide-requires
-    (λ c. search needs)
-    solve-second-requires
+    solve-short-requires
     sub-multiply
     multiply-requires
     store-solution-requires
