@@ -2,7 +2,7 @@
 -- rows only.
 use Prim.Native.Nat.{ℕ, zero, suc, _<_, _≤_}
 use Prim.Native.Nat.{_+_ as _+ₙ_, _*_ as _*ₙ_, _-_ as _-ₙ_}
-use mathlib.Core.Path.{_≡_, refl, ap}
+use mathlib.Core.Path.{_≡_, refl, _∙_, ap}
 use mathlib.Core.Logic.{_⊎_, inl, inr}
 use mathlib.Core.List.{[], _∷_}
 use native.Mathlib.Omega.{arith}
@@ -268,8 +268,8 @@ module _ {A : Type 0} {R : Ring A} {S : Sized R} (E : Euclidean S) (T : LinearSy
   short-rows = record {
     w = wOf r;
     Z = row r;
-    unfinished = unfinished E T L X z μ (r .less) (solved r .w) (row r) (solved r .monic) (solved r .dual) (λ i h some.
-        fits i h some (decLt (size (wOf r)) (size (row r i) +ₙ r .slots .size i)));
+    unfinished = unfinished E T L X z μ (r .less) (solved r .w) (row r) (solved r .monic) (solved r .dual)
+        (λ i h some. fits i h some (decLt (size (wOf r)) (size (row r i) +ₙ r .slots .size i)));
   }
     where
       r : Turn
