@@ -173,7 +173,7 @@ def conditions():
     draws = Draws(0xC405)
     for k in range(240):
         p = 2 if k % 3 == 0 else prime(draws)
-        system = draws.choose(STRUCTURES)(draws, p, draws.between(1, 5), draws.between(1, 5), draws.between(1, 6))
+        system = draws.choose(STRUCTURES)(draws, p, draws.between(1, 4), draws.between(1, 6), draws.between(1, 6))
         certificate = chosen(system)
         expect(check_values(system, certificate), None)
         expect(is_chosen(system, certificate), True)
@@ -185,7 +185,7 @@ def small_systems(draws):
     for n, m, size, room in ((1, 1, 3, 4), (1, 2, 2, 3), (2, 1, 2, 3)):
         for entries in product(polynomials(2, size), repeat=n * m + n):
             yield System(2, [list(entries[m * i:m * i + m]) for i in range(n)], list(entries[n * m:])), room
-    for p, n, m, size, room, count in ((2, 2, 2, 2, 3, 200), (3, 1, 1, 2, 3, 30), (3, 1, 2, 2, 2, 30), (2, 3, 1, 2, 2, 30)):
+    for p, n, m, size, room, count in ((2, 2, 2, 2, 3, 200), (3, 1, 2, 2, 2, 40), (2, 1, 3, 2, 2, 40), (2, 3, 1, 2, 2, 40)):
         for _ in range(count):
             yield System(p, [vector(draws, p, m, size) for _ in range(n)], vector(draws, p, n, size)), room
 
