@@ -97,21 +97,6 @@ static void expect_right(const struct answer *a, const struct file *certificate)
         differ("solve: its certificate is refused by the reference's check, %u at %u", r.number, r.place);
 }
 
-// the solver's certificate is the chosen one, word for word
-static void expect_chosen(const struct file *certificate)
-{
-    static struct system s;
-    static struct certificate c;
-    static struct file expected;
-    read_system(&s, trial.system);
-    choose_certificate(&s, &c);
-    write_certificate(&expected, &s, &c);
-    trial.expected = &expected;
-    if (certificate->count != expected.count || memcmp(certificate->byte, expected.byte, expected.count) != 0)
-        differ("solve: another certificate than the chosen one");
-    trial.expected = NULL;
-}
-
 // a call that takes the system and writes over so many lent bytes; the system's bytes must stay
 static uint64_t call_lending(struct draws *g, const char *name, uint64_t (*call)(const uint8_t *, size_t, uint8_t *, size_t), size_t lent)
 {
@@ -145,8 +130,21 @@ struct refusal compare_solve(struct draws *g, const struct answer *a, size_t len
     if (!untouched(&lent_result, certificate->count))
         differ("solve has written behind the certificate or around the lent bytes");
     expect_right(a, certificate);
-    expect_chosen(certificate);
     return r;
+}
+
+void compare_chosen(const struct file *certificate)
+{
+    static struct system s;
+    static struct certificate c;
+    static struct file expected;
+    read_system(&s, trial.system);
+    choose_certificate(&s, &c);
+    write_certificate(&expected, &s, &c);
+    trial.expected = &expected;
+    if (certificate->count != expected.count || memcmp(certificate->byte, expected.byte, expected.count) != 0)
+        differ("solve: another certificate than the chosen one");
+    trial.expected = NULL;
 }
 
 void compare_but_numerators(const struct system *s, const struct file *first, const struct file *second)

@@ -20,6 +20,9 @@ struct refusal compare_solve(struct draws *g, const struct answer *a, size_t len
 struct refusal compare_check(struct draws *g);
 void compare_report(struct draws *g, const struct answer *a, size_t lent);
 
-// the certificates for two systems that differ in the order of their columns
+// the solver's certificate with the chosen one, word for word
+void compare_chosen(const struct file *certificate);
+
+// the solver's certificates for two systems that differ in the order of their columns
 void compare_but_numerators(const struct system *s, const struct file *first, const struct file *second);
 #endif

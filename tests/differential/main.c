@@ -49,6 +49,7 @@ static void try_shuffled(struct draws *g, const struct answer *a)
     }
     write_system(&given, &drawn);
     compare_solve(g, a, 4 * LONGEST_CERTIFICATE, &changed);
+    compare_chosen(&changed);
     compare_but_numerators(&drawn, &solved, &changed);
 }
 
@@ -62,6 +63,7 @@ static void try_system(struct draws *g, struct tally *t)
         exit(2);
     }
     compare_solve(g, &a, 4 * LONGEST_CERTIFICATE + (chance(g, 50) ? 0 : below(g, 300)), &solved);
+    compare_chosen(&solved);
     compare_check(g);
     compare_report(g, &a, REPORT_ROOM + (chance(g, 50) ? 0 : below(g, 300)));
     count_answer(t, &a);
@@ -115,7 +117,10 @@ static void try_damaged(struct draws *g, struct tally *t, struct answer *a)
     t->check[compare_check(g).number]++;
     trial.certificate = NULL;
     answer_to(a, &given);
-    t->solve[compare_solve(g, a, draw_lent(g, 4 * LONGEST_CERTIFICATE), &solved).number]++;
+    uint32_t number = compare_solve(g, a, draw_lent(g, 4 * LONGEST_CERTIFICATE), &solved).number;
+    t->solve[number]++;
+    if (number == 0)
+        compare_chosen(&solved);
     compare_report(g, a, draw_lent(g, REPORT_ROOM));
 }
 
