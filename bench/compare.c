@@ -20,6 +20,7 @@ static const double least_time = 1e-3;
 
 check_function check_O2, check_O3;
 solve_function solve_O3, solve_shared;
+extern uint32_t solve_O3_rounds;
 #ifdef FLINT
 solve_function flint_solve;
 #else
@@ -42,6 +43,7 @@ struct row {
     const char *load;
     uint32_t p;
     bool check, not_done[CONTESTANTS];
+    int again; // systems for which C solved the second system more than once
     double times[CONTESTANTS][PASSES * REPETITIONS], median[CONTESTANTS]; // 0 for those that do not take part
 };
 
@@ -164,6 +166,27 @@ static uint64_t verdict(struct batch *b, int contestant, int i, uint64_t result)
     return check_O2(b->system[i], b->system_bytes[i], b->certificate[i], 4 * (result / 64));
 }
 
+static _Noreturn void fail(const struct batch *b, int contestant, const char *why)
+{
+    printf("%s, p = %u: %s %s\n", b->row->load, b->row->p, labels[contestant], why);
+    exit(1);
+}
+
+// Ours, which comes first, and C's two forms give the same words; the systems that take C more than one second system are counted.
+static void compare_words(struct batch *b, int contestant, int i, uint64_t result)
+{
+    static uint64_t results[SYSTEMS];
+    static uint8_t chosen[SYSTEMS][4 * LONGEST_CERTIFICATE];
+    if (contestant == OURS) {
+        results[i] = result;
+        memcpy(chosen[i], b->certificate[i], sizeof chosen[i]);
+    } else if (contestant <= SHARED &&
+               (result != results[i] || memcmp(chosen[i], b->certificate[i], 4 * (result / 64)) != 0))
+        fail(b, contestant, "gives another certificate");
+    if (contestant == C_O3)
+        b->row->again += solve_O3_rounds > 0;
+}
+
 // Every check accepts the certificates; every solver's certificate is right, which leaves no choice of kind and d.
 static void compare(struct batch *b)
 {
@@ -174,12 +197,12 @@ static void compare(struct batch *b)
                 b->row->not_done[k] = true;
                 continue;
             }
-            if (!b->check)
+            if (!b->check) {
+                compare_words(b, k, i, result);
                 result = verdict(b, k, i, result);
-            if (result != 0) {
-                printf("%s, p = %u: %s is refused\n", b->row->load, b->row->p, labels[k]);
-                exit(1);
             }
+            if (result != 0)
+                fail(b, k, "is refused");
         }
 }
 
@@ -308,6 +331,16 @@ static void print_rows(const struct row *rows)
             print_solver(first + i);
 }
 
+static void print_again(const struct row *rows)
+{
+    int count = 0;
+    printf("\nNote: The second system was solved again for");
+    for (const struct row *r = rows; r < rows + ROWS; r++)
+        if (r->again > 0)
+            printf("%s %d of %d systems of %s (p = %u)", count++ == 0 ? "" : ",", r->again, SYSTEMS, r->load, r->p);
+    puts(count == 0 ? " no system." : ".");
+}
+
 static void measure_rows(struct row *rows, const char *folder)
 {
     static struct batch b;
@@ -333,6 +366,7 @@ int main(int count, char **argument)
     list_rows(rows);
     measure_rows(rows, argument[1]);
     print_rows(rows);
+    print_again(rows);
     printf("\nMeanwhile other work kept %.2f cores busy.\n", (others_seconds() - others) / (seconds(CLOCK_MONOTONIC) - start));
     return 0;
 }

@@ -62,6 +62,54 @@ static void solve_second(struct work *w, const struct level *tops, uint32_t stuc
     divide(w->k, &w->second, &w->hand, &w->q);
 }
 
+static uint32_t size_of_w(const struct work *w)
+{
+    return w->factor.size + w->d.size - 1;
+}
+
+// the number of coefficients of coordinate i's top at its pivot
+static uint32_t top_size(const struct work *w, uint32_t i)
+{
+    return whole_rows(w->right.slot[LANES - 1 - i].length) / LANES;
+}
+
+// The row of Z that is too long: of those that together with their top have more coefficients than w, one of the most, and of these the
+// last; n where there is none.
+static uint32_t find_long(const struct work *w)
+{
+    uint32_t found = w->s.n, most = 0;
+    for (uint32_t i = 0; i < w->s.n; i++) {
+        uint32_t size = w->q.size[i];
+        if (size > 0 && size >= most && size + top_size(w, i) > size_of_w(w))
+            found = i, most = size;
+    }
+    return found;
+}
+
+// the multiple of d that takes the leading coefficient of row i away goes off the tail of its top
+static void shorten(struct work *w, uint32_t i)
+{
+    struct slot *top = &w->right.slot[LANES - 1 - i];
+    uint32_t size = w->q.size[i], power = size + top_size(w, i) - size_of_w(w) - 1;
+    uint64_t c = negative(w->k, reduce(w->k, w->q.coefficient[i][size - 1] * top->block[top->length - 1]));
+    for (; top->tail_size < power + w->d.size; top->tail_size++)
+        top->tail[top->tail_size] = 0;
+    for (uint32_t e = 0; e < w->d.size; e++)
+        top->tail[power + e] = reduce(w->k, top->tail[power + e] + c * w->d.word[e]);
+}
+
+// Makes the rows of Z short; each round solves the second system once more. Gives the number of rounds.
+static uint32_t shorten_rows(struct work *w)
+{
+    uint32_t rounds = 0;
+    for (uint32_t i = find_long(w); i < w->s.n; i = find_long(w)) {
+        shorten(w, i);
+        solve_second(w, &w->right, LANES);
+        rounds++;
+    }
+    return rounds;
+}
+
 // Z, or q with the factor in the stuck row and -Y elsewhere
 static void put_rows(struct work *w, struct writer *o, uint32_t stuck)
 {

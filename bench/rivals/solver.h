@@ -8,6 +8,12 @@
 static void build_levels(struct work *w);
 static void find_numerators(struct work *w);
 
+// how often the last call solved a second system once more: the variable NAME_rounds
+#define JOINED(name, suffix) name##suffix
+#define JOIN(name, suffix) JOINED(name, suffix)
+#define ROUNDS JOIN(NAME, _rounds)
+uint32_t ROUNDS;
+
 static void put_coefficients(struct writer *o, const struct coefficients *f)
 {
     put_polynomial(o, f->word, f->size);
@@ -33,6 +39,7 @@ static uint64_t solve(struct work *w, struct writer *o)
             put_coefficients(o, &w->numerator[j]);
     }
     solve_second(w, stuck == LANES ? &w->right : last, stuck);
+    ROUNDS = stuck == LANES ? shorten_rows(w) : 0;
     if (stuck == LANES)
         put_denominator(w, o);
     put_rows(w, o, stuck);

@@ -35,6 +35,8 @@ static _Noreturn void differ(const char *form, ...)
     print_words("system", trial.system);
     if (trial.certificate != NULL)
         print_words("certificate", trial.certificate);
+    if (trial.expected != NULL)
+        print_words("expected", trial.expected);
     fflush(NULL);
     _exit(1);
 }
@@ -129,6 +131,34 @@ struct refusal compare_solve(struct draws *g, const struct answer *a, size_t len
         differ("solve has written behind the certificate or around the lent bytes");
     expect_right(a, certificate);
     return r;
+}
+
+void compare_chosen(const struct file *certificate)
+{
+    static struct system s;
+    static struct certificate c;
+    static struct file expected;
+    read_system(&s, trial.system);
+    choose_certificate(&s, &c);
+    write_certificate(&expected, &s, &c);
+    trial.expected = &expected;
+    if (certificate->count != expected.count || memcmp(certificate->byte, expected.byte, expected.count) != 0)
+        differ("solve: another certificate than the chosen one");
+    trial.expected = NULL;
+}
+
+void compare_but_numerators(const struct system *s, const struct file *first, const struct file *second)
+{
+    static struct certificate c, other;
+    read_certificate(&c, s, first);
+    read_certificate(&other, s, second);
+    bool same = c.kind == other.kind && (c.kind == ABSENCE || (equal(&c.d, &other.d) && equal(&c.w, &other.w)));
+    for (uint32_t i = 0; i < s->n; i++)
+        same = same && equal(&c.row[i], &other.row[i]);
+    trial.expected = first;
+    if (!same)
+        differ("solve: the order of the columns has changed more than the numerators");
+    trial.expected = NULL;
 }
 
 struct refusal compare_check(struct draws *g)

@@ -4,11 +4,11 @@
 #include "draws.h"
 #include "reference/reference.h"
 
-// the case that is being tried, for the message; certificate may be NULL
+// the case that is being tried, for the message; the certificate and the one expected may be NULL
 struct trial {
     const char *part;
     uint64_t number, seed;
-    const struct file *system, *certificate;
+    const struct file *system, *certificate, *expected;
 };
 
 extern struct trial trial;
@@ -19,4 +19,10 @@ void open_comparison(void);
 struct refusal compare_solve(struct draws *g, const struct answer *a, size_t lent, struct file *certificate);
 struct refusal compare_check(struct draws *g);
 void compare_report(struct draws *g, const struct answer *a, size_t lent);
+
+// the solver's certificate with the chosen one, word for word
+void compare_chosen(const struct file *certificate);
+
+// the solver's certificates for two systems that differ in the order of their columns
+void compare_but_numerators(const struct system *s, const struct file *first, const struct file *second);
 #endif

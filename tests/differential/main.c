@@ -22,7 +22,7 @@ static struct file given, solved, changed; // the system; the solver's certifica
 
 static void draw_case(struct draws *g, const char *part, uint64_t number, uint64_t seed)
 {
-    trial = (struct trial){part, number, seed, &given, NULL};
+    trial = (struct trial){part, number, seed, &given, NULL, NULL};
     draw_system(g, &drawn);
     write_system(&given, &drawn);
 }
@@ -39,7 +39,21 @@ static void count_answer(struct tally *t, const struct answer *a)
         t->degree = a->d.size - 1;
 }
 
-// one of the systems: all three calls
+// the drawn system with its columns in another order
+static void try_shuffled(struct draws *g, const struct answer *a)
+{
+    for (uint32_t j = drawn.m - 1; j > 0; j--) {
+        uint32_t k = below(g, j + 1);
+        for (uint32_t i = 0; k != j && i < drawn.n; i++)
+            exchange(&drawn.a[i][j], &drawn.a[i][k]);
+    }
+    write_system(&given, &drawn);
+    compare_solve(g, a, 4 * LONGEST_CERTIFICATE, &changed);
+    compare_chosen(&changed);
+    compare_but_numerators(&drawn, &solved, &changed);
+}
+
+// one of the systems: all three calls; of some the solver again, with the columns in another order
 static void try_system(struct draws *g, struct tally *t)
 {
     static struct answer a;
@@ -49,9 +63,12 @@ static void try_system(struct draws *g, struct tally *t)
         exit(2);
     }
     compare_solve(g, &a, 4 * LONGEST_CERTIFICATE + (chance(g, 50) ? 0 : below(g, 300)), &solved);
+    compare_chosen(&solved);
     compare_check(g);
     compare_report(g, &a, REPORT_ROOM + (chance(g, 50) ? 0 : below(g, 300)));
     count_answer(t, &a);
+    if (chance(g, 30))
+        try_shuffled(g, &a);
 }
 
 // just enough, more, or too little
@@ -100,7 +117,10 @@ static void try_damaged(struct draws *g, struct tally *t, struct answer *a)
     t->check[compare_check(g).number]++;
     trial.certificate = NULL;
     answer_to(a, &given);
-    t->solve[compare_solve(g, a, draw_lent(g, 4 * LONGEST_CERTIFICATE), &solved).number]++;
+    uint32_t number = compare_solve(g, a, draw_lent(g, 4 * LONGEST_CERTIFICATE), &solved).number;
+    t->solve[number]++;
+    if (number == 0)
+        compare_chosen(&solved);
     compare_report(g, a, draw_lent(g, REPORT_ROOM));
 }
 

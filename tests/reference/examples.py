@@ -27,6 +27,9 @@ CASES = [
     (10, SYSTEM_1, Solution([0, 1], [[1]], [0, 0, 1], [[0, 1]]), "accepted"),
 ]
 
+# The cases whose certificate is not the one that the solver chooses.
+NOT_CHOSEN = [9, 10]
+
 # The table's examples on certificates: system, certificate, and what the check says.
 TABLE_VERDICTS = [
     (SYSTEM_1, Solution([], [[1]], [0, 1], [[1]]), "refused 31 at 0"),

@@ -35,20 +35,22 @@ def minus_multiple(a, factor, b, modulus, p):
     return value if modulus is None else poly.remainder(value, modulus, p)
 
 
-def triangular_basis(matrix, modulus, p):
+def triangular_basis(matrix, modulus, p, recorded=True):
     """r columns, column i zero above row i and monic there, with the same polynomial combinations as the matrix's columns.
 
-    A basis column's entries equal the combination of the matrix's columns by its multipliers, up to multiples of the modulus.
+    A basis column's entries equal the combination of the matrix's columns by its multipliers, up to multiples of the modulus. Where
+    they are not recorded there are none.
     """
     size = len(matrix)
     if size == 0:
         return []
-    columns = [start_column(matrix, j, modulus, p) for j in range(len(matrix[0]))]
+    kept = len(matrix[0]) if recorded else 0
+    columns = [start_column(matrix, j, modulus, kept, p) for j in range(len(matrix[0]))]
     basis = []
     for row in range(size):
         entries = [poly.ZERO] * size
         entries[row] = modulus
-        columns.append(Column(entries, [poly.ZERO] * len(matrix[0])))
+        columns.append(Column(entries, [poly.ZERO] * kept))
         pivot = gather(columns, row, modulus, p)
         columns.remove(pivot)
         pivot.make_monic(row, p)
@@ -56,10 +58,10 @@ def triangular_basis(matrix, modulus, p):
     return basis
 
 
-def start_column(matrix, j, modulus, p):
-    """Column j of the matrix, with the multipliers that single it out."""
+def start_column(matrix, j, modulus, kept, p):
+    """Column j of the matrix, with the multipliers that single it out, so many as are kept."""
     entries = [poly.remainder(row[j], modulus, p) for row in matrix]
-    multipliers = [poly.ONE if k == j else poly.ZERO for k in range(len(matrix[0]))]
+    multipliers = [poly.ONE if k == j else poly.ZERO for k in range(kept)]
     return Column(entries, multipliers)
 
 

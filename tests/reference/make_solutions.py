@@ -8,6 +8,7 @@ import examples
 import words as form
 from cases import REPORT, CaseSet
 from check import check_words
+from chosen import solve_words
 from damage import damaged
 from draws import Draws
 from minors import least_denominator
@@ -16,7 +17,6 @@ from report import report_on
 from samples import STRUCTURES, chain, common_factor, generic, low_rank, of_rank, outside, powers_of_x, prime, shapes
 from says import says_report
 from searched import with_denominator
-from solve import solve_words
 from words import Absence, System, bytes_of_words
 from writing import write_system
 

@@ -4,6 +4,8 @@ A polynomial is the list of its coefficients, lowest power first, the last one n
 that document 01's kinds 2 and 3 write down. Every operation is the schoolbook one.
 """
 
+from itertools import zip_longest
+
 import residue
 
 ZERO = []
@@ -26,19 +28,12 @@ def degree(f):
 
 def add(f, g, p):
     """f + g."""
-    size = max(len(f), len(g))
-    return canonical([coefficient(f, i) + coefficient(g, i) for i in range(size)], p)
+    return canonical([a + b for a, b in zip_longest(f, g, fillvalue=0)], p)
 
 
 def subtract(f, g, p):
     """f - g."""
-    size = max(len(f), len(g))
-    return canonical([coefficient(f, i) - coefficient(g, i) for i in range(size)], p)
-
-
-def coefficient(f, i):
-    """The coefficient of power i, 0 beyond the last."""
-    return f[i] if i < len(f) else 0
+    return canonical([a - b for a, b in zip_longest(f, g, fillvalue=0)], p)
 
 
 def scale(c, f, p):
@@ -112,6 +107,16 @@ def gcd(f, g, p):
     while g:
         f, g = g, remainder(f, g, p)
     return monic(f, p)
+
+
+def inverse(f, g, p):
+    """The polynomial of lower degree than g that, times f, leaves 1 modulo g; g is not zero and has no factor in common with f."""
+    rest, next_rest, factor, next_factor = g, remainder(f, g, p), ZERO, ONE
+    while next_rest:
+        quotient, left = divide(rest, next_rest, p)
+        rest, next_rest = next_rest, left
+        factor, next_factor = next_factor, subtract(factor, multiply(quotient, next_factor, p), p)
+    return remainder(scale(residue.inverse(rest[-1], p), factor, p), g, p)
 
 
 def lcm(f, g, p):

@@ -3,20 +3,25 @@
 Prints how many held; stops at the first that does not.
 """
 
+from itertools import product
+
 import examples
 import polynomial as poly
 import residue
 import words as form
 from check import check_values, check_words
+from chosen import chosen, solve_words
+from conditions import is_chosen
 from draws import Draws
 from lookup import IN_SYSTEM
 from minors import least_denominator
 from reading import read_both
 from report import report
-from samples import STRUCTURES, exact, prime, up_to
+from samples import STRUCTURES, exact, prime, up_to, vector
 from says import answer, says_certificate, says_check, says_lookup, says_system, says_written
-from solve import solve, solve_words
-from words import Solution, bytes_of_words
+from solve import solve
+from trials import certificates, polynomials
+from words import Absence, Solution, System, bytes_of_words
 from writing import pairs, write_certificate, write_certificate_values, write_system, write_system_values
 
 held = 0
@@ -31,8 +36,9 @@ def expect(found, wanted):
 
 
 def cases():
-    """Cases 1 to 10: the check on the printed certificate, and kind and d from the solver where it is right."""
-    for _, system, certificate, says in examples.CASES:
+    """Cases 1 to 10: the check on the printed certificate, kind and d from the solver where it is right; cases 1 to 8 are chosen."""
+    for number, system, certificate, says in examples.CASES:
+        expect(certificate == chosen(system), number not in examples.NOT_CHOSEN)
         system_words = write_system(system)
         expect(says_check(system_words, write_certificate(certificate, system)), says)
         if says == "accepted":
@@ -150,9 +156,51 @@ def solver():
         expect(certificate.d if isinstance(certificate, Solution) else None, least_denominator(system))
 
 
+def shuffled(draws, system):
+    """The system with its columns in another order."""
+    order = list(range(system.columns()))
+    order = [order.pop(draws.below(len(order))) for _ in system.matrix[0]]
+    return System(system.p, [[row[j] for j in order] for row in system.matrix], system.right)
+
+
+def without_numerators(certificate):
+    """What of a certificate does not depend on the order of the columns."""
+    return certificate if isinstance(certificate, Absence) else certificate._replace(N=None)
+
+
+def conditions():
+    """Random systems: the chosen certificate is right and keeps the conditions, and all but N is the same for every order of columns."""
+    draws = Draws(0xC405)
+    for k in range(240):
+        p = 2 if k % 3 == 0 else prime(draws)
+        system = draws.choose(STRUCTURES)(draws, p, draws.between(1, 4), draws.between(1, 6), draws.between(1, 6))
+        certificate = chosen(system)
+        expect(check_values(system, certificate), None)
+        expect(is_chosen(system, certificate), True)
+        expect(without_numerators(chosen(shuffled(draws, system))), without_numerators(certificate))
+
+
+def small_systems(draws):
+    """Systems with the number of coefficients up to which certificates are tried: all of some shapes, and drawn ones."""
+    for n, m, size, room in ((1, 1, 3, 4), (1, 2, 2, 3), (2, 1, 2, 3)):
+        for entries in product(polynomials(2, size), repeat=n * m + n):
+            yield System(2, [list(entries[m * i:m * i + m]) for i in range(n)], list(entries[n * m:])), room
+    for p, n, m, size, room, count in ((2, 2, 2, 2, 3, 200), (3, 1, 2, 2, 2, 40), (2, 1, 3, 2, 2, 40), (2, 3, 1, 2, 2, 40)):
+        for _ in range(count):
+            yield System(p, [vector(draws, p, m, size) for _ in range(n)], vector(draws, p, n, size)), room
+
+
+def uniqueness():
+    """Small systems: of all certificates that can be written down, one alone keeps the conditions, and it is the chosen one."""
+    for system, room in small_systems(Draws(0xC406)):
+        expect(certificates(system, room), [chosen(system)])
+
+
 def main():
     """Run all tests."""
-    for test in (cases, printed_words, bounds, table, writers, whole_report, primes, arithmetic, solver):
+    for test in (
+        cases, printed_words, bounds, table, writers, whole_report, primes, arithmetic, solver, conditions, uniqueness,
+    ):
         test()
     print(f"{held} examples and laws hold")
 

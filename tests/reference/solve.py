@@ -1,4 +1,4 @@
-"""A certificate for every system, by elimination and a triangular basis; no lattice reduction is used.
+"""A right certificate for every system, by elimination and a triangular basis; no lattice reduction is used.
 
 1. r independent rows and columns of A are found; their determinant is called delta.
 2. Each other row is, times delta, a combination of these rows. If b does not follow it, the relation is the absence's q.
@@ -9,21 +9,10 @@
 """
 
 import polynomial as poly
-import words as form
 from check import denominator
 from hermite import triangular_basis
 from matrix import cramer, determinant, nonsingular_part, part, transposed
-from reading import read_system
-from words import Absence, Refusal, Solution
-from writing import write_certificate
-
-
-def solve_words(system_words, lent):
-    """The certificate's words, or a refusal: the system is read, then number 11 is looked at."""
-    system = read_system(system_words)
-    if lent < form.LONGEST_CERTIFICATE:
-        raise Refusal(11, 0)
-    return write_certificate(solve(system), system)
+from words import Absence, Solution
 
 
 def solve(system):

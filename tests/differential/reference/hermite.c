@@ -1,6 +1,7 @@
-// Kind and least denominator by a triangular basis. Unimodular operations on the columns of A, row by row, leave independent
-// columns H with the same polynomial combinations; the first entry of each that is not zero, its pivot, stands in a lower row
-// than the one before. So e·b is A times polynomials exactly when e times each coordinate of b over H is a polynomial.
+// Systems by a triangular basis. Below A stand the rows of the unit matrix, the last first, which record what is done to the columns.
+// Unimodular operations on the columns, row by row, leave each with its first entry that is not zero, its pivot, in a lower row than
+// the column before. Those with a pivot in a row of A have the same polynomial combinations as A: e·b is A times polynomials exactly
+// when e times each coordinate of b over them is a polynomial. The others are a basis of the vectors v with A·v = 0.
 #include "reference.h"
 
 enum { HEIGHT = 2 * MOST };
@@ -10,8 +11,8 @@ struct column {
 };
 
 struct basis {
-    uint32_t rank, height, pivot[MOST]; // pivot: a row of A
-    struct column column[MOST];         // all m; those from rank on are zero in the rows of A
+    uint32_t rank, height, pivot[MOST]; // rank: columns with a pivot so far
+    struct column column[MOST];         // all m
 };
 
 // the column from first on, other than skip, whose entry in the row has the greatest degree; m where all are zero
@@ -26,14 +27,13 @@ static uint32_t greatest(const struct basis *h, uint32_t row, uint32_t first, ui
     return found;
 }
 
-// column j less the multiple of column k that leaves a remainder in the row
-static void reduce_column(uint32_t p, struct basis *h, uint32_t row, uint32_t j, uint32_t k)
+// a vector, zero above the row, less the multiple of a column that leaves a remainder in the row
+static void reduce_vector(uint32_t p, uint32_t height, uint32_t row, struct polynomial *f, const struct polynomial *column)
 {
     static struct polynomial q;
-    struct polynomial *f = h->column[j].entry, *g = h->column[k].entry;
-    divide(p, &q, &f[row], &g[row]);
-    for (uint32_t i = row + 1; i < h->height; i++)
-        subtract_product(p, &f[i], &q, &g[i]);
+    divide(p, &q, &f[row], &column[row]);
+    for (uint32_t i = row + 1; i < height; i++)
+        subtract_product(p, &f[i], &q, &column[i]);
 }
 
 // Euclid on the row's entries from column h->rank on, always the greatest by the next: one at most is left, the new pivot.
@@ -50,11 +50,11 @@ static void clear_row(uint32_t p, uint32_t m, struct basis *h, uint32_t row)
             h->pivot[h->rank++] = row;
             return;
         }
-        reduce_column(p, h, row, j, k);
+        reduce_vector(p, h->height, row, h->column[j].entry, h->column[k].entry);
     }
 }
 
-// below the rows of A, if wanted, those of the unit matrix, which record the operations
+// the rows of the unit matrix if wanted
 static void make_basis(const struct system *s, struct basis *h, bool record)
 {
     h->rank = 0;
@@ -64,8 +64,8 @@ static void make_basis(const struct system *s, struct basis *h, bool record)
             if (i < s->n)
                 copy(&h->column[j].entry[i], &s->a[i][j]);
             else
-                set_constant(&h->column[j].entry[i], i - s->n == j);
-    for (uint32_t row = 0; row < s->n && h->rank < s->m; row++)
+                set_constant(&h->column[j].entry[i], h->height - 1 - i == j);
+    for (uint32_t row = 0; row < h->height && h->rank < s->m; row++)
         clear_row(s->p, s->m, h, row);
 }
 
@@ -101,29 +101,61 @@ static bool all_zero(const struct polynomial *f, uint32_t count)
     return true;
 }
 
-enum kind least_denominator(const struct system *s, struct polynomial *d)
+// kind, and the least denominator, by the pivots in the rows of A
+static enum kind find_denominator(const struct system *s, const struct basis *h, struct polynomial *d)
 {
-    static struct basis h;
     static struct polynomial rest[MOST];
-    make_basis(s, &h, false);
     for (uint32_t i = 0; i < s->n; i++)
         copy(&rest[i], &s->b[i]);
     set_constant(d, 1);
-    for (uint32_t k = 0; k < h.rank; k++) {
-        if (!all_zero(rest, h.pivot[k])) // no column from k on has anything above its pivot
+    for (uint32_t k = 0; k < h->rank && h->pivot[k] < s->n; k++) {
+        if (!all_zero(rest, h->pivot[k])) // no column from k on has anything above its pivot
             return ABSENCE;
-        take_coordinate(s->p, &h, k, s->n, rest, d);
+        take_coordinate(s->p, h, k, s->n, rest, d);
     }
     make_monic(s->p, d);
     return all_zero(rest, s->n) ? SOLUTION : ABSENCE;
 }
 
+enum kind least_denominator(const struct system *s, struct polynomial *d)
+{
+    static struct basis h;
+    make_basis(s, &h, false);
+    return find_denominator(s, &h, d);
+}
+
+// (d·b, 0) less multiples of all columns is (0, -N): a pivot in a row of A leaves nothing, one below it a remainder
+enum kind solve_system(const struct system *s, struct polynomial *d, struct polynomial *numerator)
+{
+    static struct basis h;
+    static struct polynomial rest[HEIGHT];
+    make_basis(s, &h, true);
+    if (find_denominator(s, &h, d) == ABSENCE)
+        return ABSENCE;
+    for (uint32_t i = 0; i < h.height; i++)
+        rest[i].size = 0;
+    for (uint32_t i = 0; i < s->n; i++)
+        set_product(s->p, &rest[i], d, &s->b[i]);
+    for (uint32_t k = 0; k < s->m; k++)
+        reduce_vector(s->p, h.height, h.pivot[k], rest, h.column[k].entry);
+    for (uint32_t j = 0; j < s->m; j++) {
+        copy(&numerator[j], &rest[h.height - 1 - j]);
+        scale(s->p, &numerator[j], s->p - 1);
+    }
+    return SOLUTION;
+}
+
 uint32_t kernel(const struct system *s, struct polynomial v[MOST][MOST])
 {
     static struct basis h;
+    uint32_t count = 0;
     make_basis(s, &h, true);
-    for (uint32_t j = h.rank; j < s->m; j++)
-        for (uint32_t i = 0; i < s->m; i++)
-            copy(&v[j - h.rank][i], &h.column[j].entry[s->n + i]);
-    return s->m - h.rank;
+    for (uint32_t k = 0; k < s->m; k++) {
+        if (h.pivot[k] < s->n)
+            continue;
+        for (uint32_t j = 0; j < s->m; j++)
+            copy(&v[count][j], &h.column[k].entry[h.height - 1 - j]);
+        count++;
+    }
+    return count;
 }

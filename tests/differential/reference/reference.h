@@ -20,8 +20,15 @@ struct refusal check_files(const struct file *system, const struct file *certifi
 // hermite.c: kind, and the least denominator of a solvable system
 enum kind least_denominator(const struct system *s, struct polynomial *d);
 
+// hermite.c: the same, and m numerators, from the last to the first of as few coefficients as they can have. The system's
+// polynomials may have any size, and it may have no column.
+enum kind solve_system(const struct system *s, struct polynomial *d, struct polynomial *numerator);
+
 // hermite.c: the first so many v, as the result says, are vectors of m polynomials with A·v = 0
 uint32_t kernel(const struct system *s, struct polynomial v[MOST][MOST]);
+
+// chosen.c: the certificate that the solver is to give
+void choose_certificate(const struct system *s, struct certificate *c);
 
 // answer.c: what is to be said of a system's file, and the report's text on it
 struct answer {
