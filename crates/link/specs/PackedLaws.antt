@@ -70,6 +70,10 @@ pub solves-unpacked : {limits : Limits} {file entry exit : List ℕ} {r : ℕ} �
     → SolvesFile limits file entry exit (unpacked r)
 solves-unpacked {limits} {file} {entry} {exit} h = subst (SolvesFile limits file entry exit) (sym (solver-unpacked h)) (h .solves)
 
+-- a number that is no refusal's is a count
+pub unpacked-0 : (r : ℕ) → r % 64 ≡ 0 → unpacked r ≡ accepted (r / 64)
+unpacked-0 r z = ap (λ n. refusedUnless0 n (r / 64) (r / 64)) z
+
 -- it refuses with a number at a place exactly under the condition of that row
 pub solver-refused-iff : {limits : Limits} {file entry exit : List ℕ} {r : ℕ} → LimitsFit limits → Bytes file
     → SolvesPacked limits file entry exit r → (number place : ℕ) → 1 ≤ number → number ≤ 63

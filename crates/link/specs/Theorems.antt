@@ -1,37 +1,68 @@
 -- The customer's three demands, each sentence as a field, each proved from the laws below it. "Sheet" is a system here, "card" a
--- certificate. What a call gives is what its contract says (`crates/link/src/lib.rt`): `SolvesPacked` for the solver's number and bytes,
--- `checkGives` for the check's number. Each call has a contract without `requires`, so it is proved for all bytes that are lent that
--- it reads and writes nothing beside them and returns. Not said here, but by the definitions that contracts cite: that 11 and 12 and the
--- writers' refusals are given under their conditions only, that the writers leave lent words as they were, and that every value can be
--- handed to a writer.
-use Prim.Native.Nat.{ℕ, _+_, _*_, _%_, _≤_}
+-- certificate. What a call gives is what its contract says: `SolvesPacked` for the number and the bytes of `yezsdolak_solve`, `checkGives`
+-- for the number of `yezsdolak_check`, `Writes` for the writers, `LoadsSystem` and `LoadsCertificate` for the calls that hand out values,
+-- `polynomialLookup` for the lookup. Each of these has a contract without `requires`, so it is proved for all that is lent that the call
+-- reads and writes nothing beside it and returns.
+use Prim.Native.Nat.{ℕ, _+_, _*_, _/_, _%_, _≤_}
 use mathlib.Core.Path.{_≡_}
 use mathlib.Core.Logic.{_↔_}
 use mathlib.Core.List.{List}
-use lib.ListN.{length}
-use Rattle.words.specs.Limits.{office, longestCertificate}
+use native.Mathlib.Omega.{arith}
+use lib.ListN.{length, take}
+use Rattle.words.specs.Limits.{office, systemCount, solutionCount, longestSystem, longestCertificate}
 use Rattle.words.specs.LimitsLaws.{office-fits}
 use Rattle.words.specs.Word.{Bytes}
+use Rattle.words.specs.Outcome.{Outcome}
 use Rattle.words.specs.Outcome.Outcome.{accepted, refused}
-use Rattle.words.specs.System.{System, Shape, ShapeWithin, SystemWithin, systemWords, readSystem}
+use Rattle.words.specs.System.{System, Shape, ShapeWithin, SystemWithin, shape, systemWords, readSystem}
 use Rattle.words.specs.SystemLaws.{system-accepted-iff, systemWords-injective}
-use Rattle.words.specs.Certificate.{Certificate, CertificateWithin, certificateWords, readCertificate}
+use Rattle.words.specs.Certificate.{Certificate, Form, CertificateWithin, certificateForm, certificateWords, readCertificate}
 use Rattle.words.specs.CertificateLaws.{certificate-accepted-iff, certificateWords-injective}
 use Rattle.words.specs.Bytes.{bytesOf, readSystemFile}
 use Rattle.words.specs.Table.{ByTable, systemTable, certificateTable}
 use Rattle.words.specs.TenFirst.{FileRefused}
+use Rattle.words.specs.Pair.{PairRefused}
 use Rattle.words.specs.RefusedLaws.{system-refused-iff, certificate-refused-iff, file-refused-iff}
 use Rattle.truth.specs.DemandLaws.{Says, Agree}
 use Rattle.verifier.specs.Checked.{CertifiedFiles}
-use Rattle.link.specs.Packed.{SolvesPacked}
 use Rattle.verifier.specs.FilesRefused.{FilesRefused}
+use Rattle.lookup.specs.Lookup.{Side, polynomialLookup}
+use Rattle.lookup.specs.RefusedLaws.{NoPolynomial, lookup-refused-iff}
+use Rattle.answers.specs.declared.answer.Counted.{Counted}
+use Rattle.answers.specs.declared.answer.Counted.the-variants.{Count, Refused}
+use Rattle.answers.specs.declared.answer.Refusal.{Refusal}
+use Rattle.answers.specs.declared.shape.SystemRead.{SystemRead}
+use Rattle.answers.specs.declared.shape.CertificateRead.{CertificateRead}
+use Rattle.answers.specs.Answer.{systemOutcome, certificateOutcome}
+use Rattle.writer.specs.Writing.{writeSystem, writeCertificate, Writes}
+use Rattle.writer.specs.Values.{systemInArrays, certificateIn, certificateStride}
+use Rattle.writer.specs.Refused.{SystemFault, CertificateFault}
+use Rattle.writer.specs.RefusedLaws.{system-refused-iff-fault, certificate-refused-iff-fault, refused-lent}
+use Rattle.writer.specs.WrittenBackLaws.{WritesBack}
+use Rattle.values.specs.Loading.{LoadsSystem, LoadsCertificate}
+use Rattle.values.specs.LoadedLaws.{system-load-refused, certificate-load-refused}
+use Rattle.values.specs.HeldLaws.{InArrays, system-held, certificate-held}
+use Rattle.values.specs.RoundTrip.{SystemRoom, CertificateRoom, WritesSystem, WritesCertificate}
+use Rattle.values.specs.RoundTrip.{system-reads-back, system-loads-back, certificate-reads-back, certificate-loads-back}
+use Rattle.solver.specs.RefusedLaws.{RoomLast}
+use Rattle.solver.specs.OneCertificate.{Call, file-solved-same}
+use Rattle.link.specs.Packed.{SolvesPacked}
+use Rattle.link.specs.PackedLaws.{unpacked, unpacked-0, solves-unpacked, solver-refused-iff}
 use Rattle.link.specs.Checked.{checkGives, checked-iff, checked-says, checked-refused-iff, checked-agree}
 use Rattle.link.specs.Together.{checkedAfter, every-system-checked, refused-unchanged}
 
 -- 1. "No words handed in, for sheet or card, can make a call read outside them, fail to end, or change a lent word when it refuses; each
 -- refusal has the number and place on the table, and is given under that condition only."
 pub record Demand1 : Type 0 where
+  -- a refusal of the solver, of the writers, of the calls that hand out values; the others lend nothing that they may change
   pub unchanged : {file entry exit : List ℕ} {r : ℕ} → SolvesPacked office file entry exit r → ¬ (r % 64 ≡ 0) → exit ≡ entry
+  pub unchanged-writing : {o : Outcome (List ℕ)} {entry exit : List ℕ} {r : Refusal} → Writes o entry (Refused r) exit → exit ≡ entry
+  pub unchanged-system : {ws sizes sizes′ values values′ : List ℕ} {answer : SystemRead}
+      → LoadsSystem office ws answer sizes sizes′ values values′ → {number place : ℕ} → systemOutcome answer ≡ refused number place
+      → (sizes′ ≡ sizes) × (values′ ≡ values)
+  pub unchanged-certificate : {h : Shape} {cs sizes sizes′ values values′ : List ℕ} {answer : CertificateRead}
+      → LoadsCertificate office h cs answer sizes sizes′ values values′ → {number place : ℕ}
+      → certificateOutcome answer ≡ refused number place → (sizes′ ≡ sizes) × (values′ ≡ values)
   -- rows 1 to 9, of a sheet's words; 21 and 24 to 29, of a card's; 10 before all others, of a file
   pub system : (ws : List ℕ) (number place : ℕ)
       → (readSystem office ws ≡ refused number place) ↔ ByTable (systemTable office) 0 ws number place
@@ -42,14 +73,34 @@ pub record Demand1 : Type 0 where
   -- of the check's number: 10 before all others, then the sheet's rows, the card's, and 31 to 36
   pub check : (f g : List ℕ) (number place : ℕ) → 1 ≤ number → number ≤ 63
       → (checkGives f g ≡ 64 * place + number) ↔ FilesRefused office f g number place
+  -- of the solver's number: those of the sheet's file, and then 11
+  pub solve : {file entry exit : List ℕ} {r : ℕ} → Bytes file → SolvesPacked office file entry exit r → (number place : ℕ)
+      → 1 ≤ number → number ≤ 63 → (r ≡ 64 * place + number)
+      ↔ RoomLast (FileRefused office file) (λ s. (file ≡ bytesOf (systemWords s)) × SystemWithin office s)
+      (4 * longestCertificate office) (length entry) number place
+  -- of the lookup: the sheet's rows, the card's, and then 12
+  pub lookup : (ws cs : List ℕ) (side : Side) (k number place : ℕ)
+      → (polynomialLookup office ws cs side k ≡ refused number place) ↔ PairRefused office (NoPolynomial side k) ws cs number place
+  -- of the writers: 2, 3, then the first value at fault, then 11
+  pub write-system : (lent : ℕ) (s : System) (number place : ℕ)
+      → (writeSystem office lent s ≡ refused number place) ↔ SystemFault office lent s number place
+  pub write-certificate : (lent : ℕ) (h : Shape) (c : Certificate) (number place : ℕ)
+      → (writeCertificate office lent h c ≡ refused number place) ↔ CertificateFault office lent h c number place
 
 pub demand-1 : Demand1
 demand-1 = record {
   unchanged = refused-unchanged;
+  unchanged-writing = refused-lent;
+  unchanged-system = system-load-refused;
+  unchanged-certificate = certificate-load-refused;
   system = system-refused-iff office;
   certificate = certificate-refused-iff office;
   file = file-refused-iff office;
   check = checked-refused-iff;
+  solve = λ small h. solver-refused-iff office-fits small h;
+  lookup = λ ws cs side k. lookup-refused-iff office ws cs side k office-fits;
+  write-system = system-refused-iff-fault office;
+  write-certificate = certificate-refused-iff-fault office;
 }
 
 -- 2. "The check accepts a card for a sheet exactly when the conditions for a certified solution, or for a certified absence of solutions,
@@ -63,6 +114,33 @@ pub record Demand2 : Type 0 where
       → (readCertificate office h cs ≡ accepted c) ↔ ((cs ≡ certificateWords c) × CertificateWithin office h c)
   pub certificate-once : (h : Shape) → ShapeWithin office h → (c e : Certificate) → CertificateWithin office h c → CertificateWithin office h e
       → certificateWords c ≡ certificateWords e → c ≡ e
+  -- of the calls: the arrays hold every value within the limits; what is written is loaded as the same values, and what is loaded is
+  -- written as the same words
+  pub system-fits : (s : System) → SystemWithin office s
+      → InArrays (systemCount (office .rows) (office .columns)) (office .systemCoefficients * systemCount (office .rows) (office .columns))
+      (λ sizes values. systemInArrays office (shape s) sizes values ≡ s)
+  pub system-back : (sizes values : List ℕ) {entry exit : List ℕ} {h : Shape} {n : ℕ}
+      → WritesSystem office office-fits sizes values h entry (Count n) exit
+      → {lentSizes sizes′ lentValues values′ : List ℕ} {answer : SystemRead}
+      → LoadsSystem office (take n exit) answer lentSizes sizes′ lentValues values′ → SystemRoom office office-fits lentValues
+      → (systemOutcome answer ≡ accepted h) × (systemInArrays office h sizes′ values′ ≡ systemInArrays office h sizes values)
+  pub words-back : (sizes values : List ℕ) {entry exit ws lentSizes lentValues : List ℕ} {read : SystemRead}
+      → LoadsSystem office ws read lentSizes sizes lentValues values → SystemRoom office office-fits lentValues
+      → {h : Shape} → systemOutcome read ≡ accepted h → longestSystem office ≤ length entry
+      → {answer : Counted} → WritesSystem office office-fits sizes values h entry answer exit → WritesBack ws entry answer exit
+  pub certificate-fits : (h : Shape) → ShapeWithin office h → (c : Certificate) → CertificateWithin office h c
+      → InArrays (solutionCount (office .rows) (office .columns)) (certificateStride * solutionCount (office .rows) (office .columns))
+      (λ sizes values. certificateIn h (certificateForm c) sizes values ≡ c)
+  pub certificate-back : (h : Shape) (sizes values : List ℕ) {entry exit : List ℕ} {form : Form} {n : ℕ}
+      → WritesCertificate office office-fits sizes values form h entry (Count n) exit
+      → {lentSizes sizes′ lentValues values′ : List ℕ} {answer : CertificateRead}
+      → LoadsCertificate office h (take n exit) answer lentSizes sizes′ lentValues values′ → CertificateRoom office office-fits lentValues
+      → (certificateOutcome answer ≡ accepted form) × (certificateIn h form sizes′ values′ ≡ certificateIn h form sizes values)
+  pub certificate-words-back : (h : Shape) (sizes values : List ℕ) {entry exit ws lentSizes lentValues : List ℕ} {read : CertificateRead}
+      → LoadsCertificate office h ws read lentSizes sizes lentValues values → CertificateRoom office office-fits lentValues
+      → {form : Form} → certificateOutcome read ≡ accepted form → longestCertificate office ≤ length entry
+      → {answer : Counted} → WritesCertificate office office-fits sizes values form h entry answer exit
+      → WritesBack ws entry answer exit
 
 pub demand-2 : Demand2
 demand-2 = record {
@@ -71,6 +149,13 @@ demand-2 = record {
   system-once = systemWords-injective office office-fits;
   certificate-form = λ h within. certificate-accepted-iff office h office-fits within;
   certificate-once = λ h within. certificateWords-injective office h office-fits within;
+  system-fits = system-held office office-fits;
+  system-back = λ sizes values w loads room. system-reads-back office office-fits sizes values w loads room;
+  words-back = λ sizes values loads room is enough w. system-loads-back office office-fits sizes values loads room is enough w;
+  certificate-fits = certificate-held office office-fits (omega arith);
+  certificate-back = λ h sizes values w loads room. certificate-reads-back office office-fits (omega arith) h sizes values w loads room;
+  certificate-words-back = λ h sizes values loads room is enough w.
+      certificate-loads-back office office-fits (omega arith) h sizes values loads room is enough w;
 }
 
 -- 3. "However a card came about, whatever its words: once the check accepts it for a sheet, it tells the truth. Its solution solves the
@@ -85,10 +170,23 @@ pub record Demand3 : Type 0 where
   pub solved : (s : System) → SystemWithin office s → {entry exit : List ℕ} {r : ℕ} → 4 * longestCertificate office ≤ length entry
       → SolvesPacked office (bytesOf (systemWords s)) entry exit r
       → (r % 64 ≡ 0) × (checkedAfter (bytesOf (systemWords s)) exit r ≡ 0)
+  -- and it is one card, whatever stood there: two calls give the same number and the same bytes
+  pub one-card : {file entry exit entry₁ exit₁ : List ℕ} {r r₁ : ℕ} → SolvesPacked office file entry exit r
+      → SolvesPacked office file entry₁ exit₁ r₁ → r % 64 ≡ 0 → r₁ % 64 ≡ 0 → (r ≡ r₁) × (take (r / 64) exit ≡ take (r₁ / 64) exit₁)
+
+same-card : {file entry exit entry₁ exit₁ : List ℕ} {r r₁ : ℕ} → SolvesPacked office file entry exit r
+    → SolvesPacked office file entry₁ exit₁ r₁ → r % 64 ≡ 0 → r₁ % 64 ≡ 0 → (r ≡ r₁) × (take (r / 64) exit ≡ take (r₁ / 64) exit₁)
+same-card {file} {entry} {exit} {entry₁} {exit₁} {r} {r₁} h h₁ z z₁ =
+    let x : Call = record { entry = entry; exit = exit; answer = unpacked r } in
+    let y : Call = record { entry = entry₁; exit = exit₁; answer = unpacked r₁ } in
+    let same = file-solved-same office office-fits x y file (solves-unpacked h) (solves-unpacked h₁) (r / 64) (r₁ / 64)
+    (unpacked-0 r z) (unpacked-0 r₁ z₁) in
+    (omega arith, same .1)
 
 pub demand-3 : Demand3
 demand-3 = record {
   truth = checked-says;
   one-kind = checked-agree;
   solved = λ s within room. every-system-checked s within room;
+  one-card = same-card;
 }
