@@ -19,6 +19,9 @@ struct Lexeme {
     at: Position,
 }
 
+/// The most characters of a token that an error shows.
+const SHOWN: usize = 40;
+
 const SUPERSCRIPTS: [char; 10] = ['⁰', '¹', '²', '³', '⁴', '⁵', '⁶', '⁷', '⁸', '⁹'];
 
 /// A place in the sequence of tokens. The last token is the end of the text, and is never passed.
@@ -83,17 +86,42 @@ impl Cursor {
 
     /// The same, where there is more to say of the token.
     pub fn fault_found(&self, expected: &str, found: String) -> Fault {
-        Fault { at: self.lexemes[self.next].at, expected: expected.to_string(), found }
+        Fault { at: self.lexemes[self.next].at, expected: expected.to_string(), found, advice: None }
+    }
+
+    /// The same, where a polynomial or something behind one was expected: what to do about a token that none has.
+    pub fn fault_in_polynomial(&self, expected: &str) -> Fault {
+        Fault { advice: advice(self.token()), ..self.fault(expected) }
+    }
+}
+
+fn advice(token: &Token) -> Option<&'static str> {
+    match token {
+        Token::Symbol('(' | ')') => Some("leave parentheses out, and multiply products out: `x^2 + x` for `x*(x + 1)`"),
+        Token::Symbol('[' | ']') => Some("leave brackets out: a row is its entries with commas between them, on a line of its own"),
+        Token::Symbol('*') => Some("a power is written `x^2`, and products are multiplied out: `x^2 + x` for `x*(x + 1)`"),
+        Token::Symbol(';') => Some("each row stands on a line of its own"),
+        Token::Name(name) if !["A", "a", "B", "b", "P", "p", "x"].contains(&name.as_str()) => {
+            Some("the variable is `x`, and a polynomial has no other name in it")
+        }
+        _ => None,
     }
 }
 
 fn describe(token: &Token) -> String {
     match token {
-        Token::Number(text) | Token::Name(text) => format!("`{text}`"),
-        Token::Superscript(digits) => format!("a raised {digits}"),
+        Token::Number(text) | Token::Name(text) => format!("`{}`", shortened(text)),
+        Token::Superscript(digits) => format!("a raised {}", shortened(digits)),
         Token::Symbol(symbol) => format!("`{symbol}`"),
         Token::EndOfLine => "the end of the line".to_string(),
         Token::EndOfText => "the end of the text".to_string(),
+    }
+}
+
+fn shortened(text: &str) -> String {
+    match text.char_indices().nth(SHOWN) {
+        Some((end, _)) => format!("{}...", &text[..end]),
+        None => text.to_string(),
     }
 }
 

@@ -1,9 +1,12 @@
 //! sheet: systems as text to files of words, and files of words as text. README.md describes the text.
 
+mod check;
 mod lexer;
+mod modular;
 mod polynomial;
 mod reading;
 mod refusal;
+mod refusals;
 mod show;
 mod source;
 mod text;
@@ -11,19 +14,24 @@ mod values;
 mod words;
 
 use refusal::Side;
-use std::fs::{canonicalize, read, write, File};
-use std::io::{copy, sink, stdout, ErrorKind, IsTerminal, Read, Write};
+use show::Notation;
+use std::ffi::{OsStr, OsString};
+use std::fs::{canonicalize, write, File};
+use std::io::{copy, sink, stdin, stdout, ErrorKind, IsTerminal, Read, Result as IoResult, Write};
+use std::path::Path;
 use std::process::ExitCode;
 use values::{System, LONGEST_CERTIFICATE, LONGEST_SYSTEM};
 
+/// The commands; NAME stands for the name that the tool is called by.
 const HELP: &str = "\
-sheet write TEXT SHEET     write the system in the file TEXT to the file SHEET
-sheet write TEXT > SHEET   the same
-sheet show SHEET           show a system as text that `sheet write` reads
-sheet show SHEET CARD      show a certificate for that system
-sheet --help               show this
+NAME write TEXT SHEET            write the system in the file TEXT to the file SHEET
+NAME write TEXT > SHEET          the same
+NAME show [--signed] SHEET       show a system as text that `write` reads
+NAME show [--signed] SHEET CARD  show a certificate for that system, and what is wrong with it
+NAME explain NUMBER              say what a refusal means and what to do
+NAME --help                      show this
 
-A text, in which # begins a comment:
+--signed shows p - 1 as -1 and so on; - is standard input. A text, in which # begins a comment:
 
   p 3
   A
@@ -31,32 +39,65 @@ A text, in which # begins a comment:
   b
     1
 
-The exit status is 0, or 1 where a file is at fault, or 2 where the command is.
-tools/sheet/README.md has more.
+The exit status is 0, or 1 where a file or a number is at fault, or 2 where the command is. Nothing is proved
+of this tool: the verdict on a card is that of `cardcheck`. tools/sheet/README.md has more.
 ";
 
-/// What goes to standard output, or the error.
-type Answer = Result<Vec<u8>, String>;
+const ACCEPTED: &str = "# check: would be accepted (unproved; cardcheck gives the proved verdict)\n";
+const UNPROVED: &str = "(unproved; cardcheck gives the proved verdict)";
+
+/// What goes to standard output and to standard error. What is said on standard error is a fault of a file.
+#[derive(Default)]
+struct Answer {
+    output: Vec<u8>,
+    error: String,
+}
 
 fn main() -> ExitCode {
-    let arguments: Vec<String> = std::env::args_os().skip(1).map(|a| a.to_string_lossy().into_owned()).collect();
-    let answer = match arguments.iter().map(String::as_str).collect::<Vec<_>>()[..] {
-        ["--help" | "-h" | "help"] => Ok(HELP.into()),
-        ["write", text] => write_to_output(text),
-        ["write", text, sheet] => write_to_file(text, sheet),
-        ["show", sheet] => show_system(sheet),
-        ["show", sheet, card] => show_certificate(sheet, card),
-        _ => {
-            eprint!("this is not a command of sheet; these are:\n\n{HELP}");
-            return ExitCode::from(2);
-        }
+    let arguments: Vec<OsString> = std::env::args_os().skip(1).collect();
+    let Some(result) = command(&arguments) else {
+        eprint!("this is no command; these are:\n\n{}", help());
+        return ExitCode::from(2);
     };
-    match answer.and_then(|bytes| put(&bytes)) {
-        Ok(()) => ExitCode::SUCCESS,
-        Err(error) => {
-            eprint!("{error}");
-            ExitCode::FAILURE
-        }
+    let answer = result.unwrap_or_else(|error| Answer { error, ..Answer::default() });
+    let put = put(&answer.output);
+    eprint!("{}{}", answer.error, put.as_ref().err().map_or("", String::as_str));
+    if put.is_ok() && answer.error.is_empty() {
+        ExitCode::SUCCESS
+    } else {
+        ExitCode::FAILURE
+    }
+}
+
+fn help() -> String {
+    let called = std::env::args_os().next().unwrap_or_default();
+    let name = Path::new(&called).file_name().unwrap_or_default();
+    HELP.replace("NAME", &shown(name))
+}
+
+/// The answer to a command, or why there is none; nothing where it is no command.
+fn command(arguments: &[OsString]) -> Option<Result<Answer, String>> {
+    let (name, rest) = arguments.split_first()?;
+    let rest: Vec<&OsStr> = rest.iter().map(OsString::as_os_str).collect();
+    let output = match (name.to_str()?, &rest[..]) {
+        ("--help" | "-h" | "help", []) => Ok(help().into()),
+        ("write", [text]) => write_to_output(text),
+        ("write", [text, sheet]) => write_to_file(text, sheet),
+        ("explain", [number]) => explanation(number),
+        ("show", files) => return show(files),
+        _ => return None,
+    };
+    Some(output.map(|output| Answer { output, ..Answer::default() }))
+}
+
+/// One or two files, with the option before, between or behind them.
+fn show(arguments: &[&OsStr]) -> Option<Result<Answer, String>> {
+    let (options, files): (Vec<&OsStr>, Vec<&OsStr>) = arguments.iter().partition(|argument| **argument == "--signed");
+    let signed = !options.is_empty();
+    match files[..] {
+        [sheet] => Some(show_system(sheet, signed)),
+        [sheet, card] if sheet != "-" || card != "-" => Some(show_certificate(sheet, card, signed)),
+        _ => None,
     }
 }
 
@@ -69,15 +110,34 @@ fn put(bytes: &[u8]) -> Result<(), String> {
     }
 }
 
+/// A file's name for messages, on one line.
+fn shown(file: &OsStr) -> String {
+    file.to_string_lossy().replace(char::is_control, "?")
+}
+
+fn opened(file: &OsStr) -> IoResult<Box<dyn Read>> {
+    if file == "-" {
+        return Ok(Box::new(stdin()));
+    }
+    Ok(Box::new(File::open(file)?))
+}
+
+/// The bytes of a file, no more than so many.
+fn bytes_of(file: &OsStr, most: u64) -> Result<Vec<u8>, String> {
+    let mut bytes = Vec::new();
+    let read = opened(file).and_then(|f| f.take(most).read_to_end(&mut bytes));
+    read.map(|_| bytes).map_err(|error| format!("{}: {error}\n", shown(file)))
+}
+
 /// The bytes of the system that a text describes.
-fn system_bytes(file: &str) -> Answer {
-    let bytes = read(file).map_err(|error| format!("{file}: {error}\n"))?;
-    let text = source::decode(&bytes).map_err(|fault| fault.report(file, ""))?;
-    let system = text::system(text).map_err(|fault| fault.report(file, text))?;
+fn system_bytes(file: &OsStr) -> Result<Vec<u8>, String> {
+    let bytes = bytes_of(file, u64::MAX)?;
+    let text = source::decode(&bytes).map_err(|fault| fault.report(&shown(file), ""))?;
+    let system = text::system(text).map_err(|fault| fault.report(&shown(file), text))?;
     Ok(words::bytes_of(&words::system_words(&system)))
 }
 
-fn write_to_output(text: &str) -> Answer {
+fn write_to_output(text: &OsStr) -> Result<Vec<u8>, String> {
     let bytes = system_bytes(text)?;
     if stdout().is_terminal() {
         return Err("a sheet is no text for a terminal: name a file for it, or use `>`\n".to_string());
@@ -85,51 +145,63 @@ fn write_to_output(text: &str) -> Answer {
     Ok(bytes)
 }
 
-fn write_to_file(text: &str, sheet: &str) -> Answer {
+fn write_to_file(text: &OsStr, sheet: &OsStr) -> Result<Vec<u8>, String> {
     let bytes = system_bytes(text)?;
-    if canonicalize(text).ok() == canonicalize(sheet).ok() {
-        return Err(format!("{sheet}: this is the text itself, which would be lost\n"));
+    if text != "-" && canonicalize(text).ok() == canonicalize(sheet).ok() {
+        return Err(format!("{}: this is the text itself, which would be lost\n", shown(sheet)));
     }
-    write(sheet, bytes).map_err(|error| format!("{sheet}: {error}\n"))?;
+    write(sheet, bytes).map_err(|error| format!("{}: {error}\n", shown(sheet)))?;
     Ok(Vec::new())
 }
 
-/// The bytes of a file up to one more than `most`.
-fn bytes_at_most(file: &str, most: usize) -> Answer {
-    let mut bytes = Vec::new();
-    let opened = File::open(file).and_then(|f| f.take(most as u64 + 1).read_to_end(&mut bytes));
-    opened.map(|_| bytes).map_err(|error| format!("{file}: {error}\n"))
+/// What the table says of a number.
+fn explanation(number: &OsStr) -> Result<Vec<u8>, String> {
+    let entry = number.to_str().and_then(|digits| digits.parse().ok()).and_then(refusal::entry);
+    let entry = entry.ok_or_else(|| format!("{}: no refusal has this number; docs/REFUSALS.md has the table\n", shown(number)))?;
+    let text = format!("{}: {}\nplace: {}\nwhat to do: {}\n", entry.number, entry.meaning, entry.place, entry.remedy);
+    Ok(text.into())
 }
 
-fn sheet_bytes(sheet: &str) -> Answer {
-    bytes_at_most(sheet, 4 * LONGEST_SYSTEM)
+/// One byte more than the longest system has, so that a longer one is known.
+fn sheet_bytes(sheet: &OsStr) -> Result<Vec<u8>, String> {
+    bytes_of(sheet, 4 * LONGEST_SYSTEM as u64 + 1)
 }
 
-fn system_of(sheet: &str, bytes: &[u8]) -> Result<System, String> {
-    reading::system(bytes).map_err(|refusal| refusal.report(sheet))
+fn system_of(sheet: &OsStr, bytes: &[u8]) -> Result<System, String> {
+    reading::system(bytes).map_err(|refusal| refusal.report(&shown(sheet)))
 }
 
-fn show_system(sheet: &str) -> Answer {
-    Ok(show::system(&system_of(sheet, &sheet_bytes(sheet)?)?).into())
+fn show_system(sheet: &OsStr, signed: bool) -> Result<Answer, String> {
+    let system = system_of(sheet, &sheet_bytes(sheet)?)?;
+    let notation = Notation { modulus: system.modulus, signed };
+    Ok(Answer { output: notation.system(&system).into(), ..Answer::default() })
 }
 
 /// The bytes of a certificate's file that decide: one word more than the longest has, so that a word behind its end gets its number.
-fn card_bytes(card: &str) -> Answer {
-    let fault = |error| format!("{card}: {error}\n");
-    let mut file = File::open(card).map_err(fault)?;
+fn card_bytes(card: &OsStr) -> Result<Vec<u8>, String> {
+    let fault = |error| format!("{}: {error}\n", shown(card));
+    let mut file = opened(card).map_err(fault)?;
     let mut bytes = Vec::new();
-    (&file).take(4 * (LONGEST_CERTIFICATE as u64 + 1)).read_to_end(&mut bytes).map_err(fault)?;
+    (&mut file).take(4 * (LONGEST_CERTIFICATE as u64 + 1)).read_to_end(&mut bytes).map_err(fault)?;
     let rest = copy(&mut file, &mut sink()).map_err(fault)?;
-    reading::file(Side::Certificate, bytes.len() + rest as usize).map_err(|refusal| refusal.report(card))?;
+    reading::file(Side::Certificate, bytes.len() + rest as usize).map_err(|refusal| refusal.report(&shown(card)))?;
     Ok(bytes)
 }
 
-/// Number 10, of either file, comes before what is wrong with their words.
-fn show_certificate(sheet: &str, card: &str) -> Answer {
+/// Number 10, of either file, comes before what is wrong with their words. A certificate that reads is shown, right or not.
+fn show_certificate(sheet: &OsStr, card: &OsStr, signed: bool) -> Result<Answer, String> {
     let written = sheet_bytes(sheet)?;
-    reading::file(Side::System, written.len()).map_err(|refusal| refusal.report(sheet))?;
+    reading::file(Side::System, written.len()).map_err(|refusal| refusal.report(&shown(sheet)))?;
     let bytes = card_bytes(card)?;
     let system = system_of(sheet, &written)?;
-    let certificate = reading::certificate(&bytes, &system).map_err(|refusal| refusal.report(card))?;
-    Ok(show::certificate(&certificate, system.modulus).into())
+    let certificate = reading::certificate(&bytes, &system).map_err(|refusal| refusal.report(&shown(card)))?;
+    let notation = Notation { modulus: system.modulus, signed };
+    let text = notation.certificate(&certificate);
+    Ok(match check::first_fault(&certificate, &system, notation) {
+        None => Answer { output: (text + ACCEPTED).into(), ..Answer::default() },
+        Some(mut fault) => {
+            fault.lines.push(UNPROVED.to_string());
+            Answer { output: text.into(), error: refusal::report(fault.number, fault.place, &shown(card), &fault.lines) }
+        }
+    })
 }

@@ -47,7 +47,7 @@ fn term(cursor: &mut Cursor, modulus: u32) -> Result<(u32, usize), Fault> {
     if coefficient.is_some() {
         cursor.advance();
         if cursor.accept('*') && !cursor.is_name("x") {
-            return Err(cursor.fault("`x` after `*`"));
+            return Err(cursor.fault_in_polynomial("`x` after `*`"));
         }
     }
     if cursor.is_name("x") {
@@ -56,7 +56,7 @@ fn term(cursor: &mut Cursor, modulus: u32) -> Result<(u32, usize), Fault> {
     }
     match coefficient {
         Some(value) => Ok((value, 0)),
-        None => Err(cursor.fault("a term such as `2*x^3`")),
+        None => Err(cursor.fault_in_polynomial("a term such as `2*x^3`")),
     }
 }
 

@@ -1,4 +1,4 @@
-//! Bytes of files to systems and certificates, or the refusal of the first word at fault (document 01, "Turned back").
+//! Bytes of files to systems and certificates, or the refusal of the first word at fault (docs/REFUSALS.md).
 
 use crate::refusal::{Reason, Refusal, Side};
 use crate::values::{modulus_fault, Certificate, Polynomial, System, LONGEST_SYSTEM, MOST_COLUMNS, MOST_ROWS};
@@ -113,7 +113,7 @@ fn system_head(walk: &mut Walk) -> Result<(u32, usize, usize), Refusal> {
 /// The certificate of a file's bytes, which are whole words, for a system of this shape.
 pub fn certificate(bytes: &[u8], system: &System) -> Result<Certificate, Refusal> {
     let mut walk = Walk { side: Side::Certificate, words: words_of(bytes), count: 0 };
-    let (modulus, rows, columns) = (system.modulus, system.matrix.len(), system.matrix[0].len());
+    let (modulus, rows, columns) = (system.modulus, system.matrix.len(), system.columns());
     let found = walk.next(Kind::CertificateHead)?;
     let certificate = match payload(found) {
         SOLUTION if has_kind(found, Kind::CertificateHead) => Certificate::Solution {

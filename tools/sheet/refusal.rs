@@ -1,6 +1,7 @@
-//! Document 01's refusals of files that are not well formed: their numbers, and what they mean in a sentence.
+//! Refusals: the sentence of the table for a number, and, of files that are not well formed, what is found there.
 
-use crate::values::{modulus_fault, CERTIFICATE_SIZE, LARGEST_MODULUS, LONGEST_SYSTEM, MOST_COLUMNS, MOST_ROWS, SYSTEM_SIZE};
+use crate::refusals::{Entry, TABLE};
+use crate::values::{modulus_fault, CERTIFICATE_SIZE, LONGEST_SYSTEM, SYSTEM_SIZE};
 use crate::words::{has_kind, Kind};
 
 /// What is read.
@@ -10,7 +11,7 @@ pub enum Side {
     Certificate,
 }
 
-/// What is wrong, with the values that a sentence about it needs.
+/// What is wrong, with the values that are found there.
 pub enum Reason {
     Head { found: u32 },
     Modulus { found: u32 },
@@ -48,8 +49,20 @@ impl Side {
     }
 }
 
+/// The entry of the table for a number.
+pub fn entry(number: u32) -> Option<&'static Entry> {
+    TABLE.iter().find(|entry| entry.number == number)
+}
+
+/// The refusal as all programs print it, then the file's name and the table's sentence, then what is found there.
+pub fn report(number: u32, place: usize, file: &str, lines: &[String]) -> String {
+    let meaning = entry(number).map_or("", |entry| entry.meaning);
+    let found: String = lines.iter().map(|line| format!("  {line}\n")).collect();
+    format!("refused {number} at {place}\n{file}: {meaning}\n{found}")
+}
+
 impl Refusal {
-    /// The number in document 01's table. On a certificate all but 10 are larger by 20.
+    /// The number in the table. On a certificate all but 10 are larger by 20.
     pub fn number(&self) -> u32 {
         let number = match self.reason {
             Reason::Head { .. } => 1,
@@ -70,33 +83,22 @@ impl Refusal {
         }
     }
 
-    /// The refusal as all programs print it, then the file's name and the sentence.
     pub fn report(&self, file: &str) -> String {
-        format!("refused {} at {}\n{file}: {}\n", self.number(), self.place, self.sentence())
+        report(self.number(), self.place, file, &[self.found()])
     }
 
-    fn sentence(&self) -> String {
+    /// What is found at the place.
+    fn found(&self) -> String {
         let word = format!("word {}", self.place);
         match self.reason {
             Reason::Head { found } => format!("{word} is {found:08X}, and {}", self.head(found)),
-            Reason::Modulus { found } => {
-                let fault = modulus_fault(found).unwrap_or_default();
-                format!("p in {word} must be a prime from 2 to {LARGEST_MODULUS}, and is {fault}")
-            }
-            Reason::Shape { rows, columns } => {
-                format!("{word} must say 1 to {MOST_ROWS} rows and 1 to {MOST_COLUMNS} columns, and says {rows} and {columns}")
-            }
+            Reason::Modulus { found } => format!("p in {word} is {}", modulus_fault(found).unwrap_or_default()),
+            Reason::Shape { rows, columns } => format!("{word} says {rows} rows and {columns} columns"),
             Reason::Missing { due } => format!("{word}, which should be {}, is missing", self.due(due)),
             Reason::Kind { due, found } => format!("{word} should be {}, and is {found:08X}", self.due(due)),
-            Reason::Size { found } => format!(
-                "{word} begins a polynomial of {found} coefficients, and one of a {} has at most {}",
-                self.side.name(),
-                self.side.size()
-            ),
-            Reason::Range { found, modulus } => {
-                format!("{word} is the coefficient {found}, and must be below p, which is {modulus}")
-            }
-            Reason::Leading => format!("{word} is the last coefficient of a polynomial, and must not be 0"),
+            Reason::Size { found } => format!("{word} begins a polynomial of {found} coefficients"),
+            Reason::Range { found, modulus } => format!("{word} is the coefficient {found}, and p is {modulus}"),
+            Reason::Leading => format!("{word} is the last coefficient of its polynomial, and is 0"),
             Reason::Count { found, words } => format!("{word} is the end of {words} words, and says {found}"),
             Reason::Behind => format!("{word} stands behind the end word"),
             Reason::Bytes { found } => self.bytes(found),
@@ -105,20 +107,21 @@ impl Refusal {
 
     fn head(&self, found: u32) -> &'static str {
         match self.side {
-            Side::System if has_kind(found, Kind::CertificateHead) => {
-                "begins a card, not a sheet: `sheet show SHEET CARD` shows a card"
-            }
+            Side::System if has_kind(found, Kind::CertificateHead) => "begins a card, not a sheet: `show SHEET CARD` shows a card",
             Side::System => "the head of a sheet has 1 as its first digit and 0 as its second",
+            Side::Certificate if has_kind(found, Kind::SystemHead) => {
+                "begins a sheet, not a card: `show SHEET CARD` has the sheet first"
+            }
             Side::Certificate => "the head of a card is 50000001 for a solution, 50000002 for an absence",
         }
     }
 
     fn bytes(&self, found: usize) -> String {
-        let (name, most) = (self.side.name(), 4 * LONGEST_SYSTEM);
+        let most = 4 * LONGEST_SYSTEM;
         if self.side == Side::System && found > most {
-            format!("the file of a {name} has at most {most} bytes, and this one has more")
+            format!("this file has more than {most} bytes")
         } else {
-            format!("the file of a {name} has four bytes for each word, and this one has {found} in all")
+            format!("this file has {found} bytes")
         }
     }
 

@@ -2,23 +2,79 @@
 
 use crate::values::{Certificate, Polynomial, System};
 
-pub fn system(system: &System) -> String {
-    let rows = matrix_lines(&system.matrix);
-    format!("p {}\n{}{}", system.modulus, part("A", &rows), vector("b", &system.right))
+/// How numbers modulo p are shown: as 0 to p - 1 or, signed, as those nearest to 0.
+#[derive(Clone, Copy)]
+pub struct Notation {
+    pub modulus: u32,
+    pub signed: bool,
 }
 
-/// A certificate for a system with this modulus.
-pub fn certificate(certificate: &Certificate, modulus: u32) -> String {
-    match certificate {
-        Certificate::Solution { denominator, numerators, certifying_denominator, certifying_numerators } => format!(
-            "card solution  # claims y = N/d, with z = Z/w against a smaller d\np {modulus}\n{}{}{}{}",
-            part("d", &[polynomial(denominator)]),
-            vector("N", numerators),
-            part("w", &[polynomial(certifying_denominator)]),
-            vector("Z", certifying_numerators)
-        ),
-        Certificate::Absence { kernel } => {
-            format!("card absence  # claims q*A = 0, with q*b not 0\np {modulus}\n{}", vector("q", kernel))
+impl Notation {
+    pub fn system(self, system: &System) -> String {
+        let rows = self.matrix_lines(&system.matrix);
+        format!("p {}\n{}{}", self.modulus, part("A", &rows), self.vector("b", &system.right))
+    }
+
+    pub fn certificate(self, certificate: &Certificate) -> String {
+        match certificate {
+            Certificate::Solution { denominator, numerators, certifying_denominator, certifying_numerators } => format!(
+                "card solution  # claims y = N/d, with z = Z/w against a smaller d\np {}\n{}{}{}{}",
+                self.modulus,
+                part("d", &[self.polynomial(denominator)]),
+                self.vector("N", numerators),
+                part("w", &[self.polynomial(certifying_denominator)]),
+                self.vector("Z", certifying_numerators)
+            ),
+            Certificate::Absence { kernel } => {
+                format!("card absence  # claims q*A = 0, with q*b not 0\np {}\n{}", self.modulus, self.vector("q", kernel))
+            }
+        }
+    }
+
+    /// One entry a line.
+    fn vector(self, name: &str, entries: &[Polynomial]) -> String {
+        part(name, &entries.iter().map(|entry| self.polynomial(entry)).collect::<Vec<_>>())
+    }
+
+    /// One row a line, with the entries of a column one below the other.
+    fn matrix_lines(self, matrix: &[Vec<Polynomial>]) -> Vec<String> {
+        let shown: Vec<Vec<String>> = matrix.iter().map(|row| row.iter().map(|entry| self.polynomial(entry)).collect()).collect();
+        let width = |column: usize| shown.iter().map(|row| row[column].len()).max().unwrap_or(0);
+        let widths: Vec<usize> = (0..shown[0].len()).map(width).collect();
+        shown.iter().map(|row| row_line(row, &widths)).collect()
+    }
+
+    /// Highest power first, as in x^2 + 2*x + 1 or, signed, x^2 - x + 1.
+    pub fn polynomial(self, polynomial: &Polynomial) -> String {
+        let mut shown = String::new();
+        for (exponent, c) in polynomial.iter().enumerate().rev().filter(|(_, c)| **c != 0) {
+            let (negative, size) = self.parts(*c);
+            shown += match (shown.is_empty(), negative) {
+                (true, true) => "-",
+                (true, false) => "",
+                (false, true) => " - ",
+                (false, false) => " + ",
+            };
+            shown += &term(size, exponent);
+        }
+        if shown.is_empty() {
+            shown.push('0');
+        }
+        shown
+    }
+
+    /// One number.
+    pub fn number(self, c: u32) -> String {
+        let (negative, size) = self.parts(c);
+        format!("{}{size}", if negative { "-" } else { "" })
+    }
+
+    /// Whether a number is shown with a minus, and its size.
+    fn parts(self, c: u32) -> (bool, u32) {
+        if self.signed && c > self.modulus / 2 {
+            (true, self.modulus - c)
+        } else {
+            (false, c)
         }
     }
 }
@@ -29,34 +85,10 @@ fn part(name: &str, lines: &[String]) -> String {
     format!("{name}\n{indented}")
 }
 
-/// One entry a line.
-fn vector(name: &str, entries: &[Polynomial]) -> String {
-    part(name, &entries.iter().map(polynomial).collect::<Vec<_>>())
-}
-
-/// One row a line, with the entries of a column one below the other.
-fn matrix_lines(matrix: &[Vec<Polynomial>]) -> Vec<String> {
-    let shown: Vec<Vec<String>> = matrix.iter().map(|row| row.iter().map(polynomial).collect()).collect();
-    let width = |column: usize| shown.iter().map(|row| row[column].len()).max().unwrap_or(0);
-    let widths: Vec<usize> = (0..shown[0].len()).map(width).collect();
-    shown.iter().map(|row| row_line(row, &widths)).collect()
-}
-
 fn row_line(row: &[String], widths: &[usize]) -> String {
     let last = row.len() - 1;
     let padded = row[..last].iter().zip(widths).map(|(entry, width)| format!("{:<1$}", format!("{entry},"), width + 2));
     padded.collect::<String>() + &row[last]
-}
-
-/// Highest power first, as in x^2 + 2*x + 1.
-fn polynomial(polynomial: &Polynomial) -> String {
-    let terms = polynomial.iter().enumerate().rev().filter(|(_, c)| **c != 0);
-    let shown: Vec<String> = terms.map(|(exponent, c)| term(*c, exponent)).collect();
-    if shown.is_empty() {
-        "0".to_string()
-    } else {
-        shown.join(" + ")
-    }
 }
 
 fn term(coefficient: u32, exponent: usize) -> String {

@@ -5,7 +5,7 @@ use crate::polynomial::{begins, polynomial};
 use crate::source::Fault;
 use crate::values::{modulus_fault, Polynomial, System, LARGEST_MODULUS, MOST_COLUMNS, MOST_ROWS};
 
-/// The system that the text describes, within the limits of document 01.
+/// The system that the text describes, within the limits (docs/FORMAT.md, "Bounds").
 pub fn system(text: &str) -> Result<System, Fault> {
     let cursor = &mut Cursor::new(text);
     let modulus = modulus(cursor)?;
@@ -48,7 +48,7 @@ fn matrix(cursor: &mut Cursor, modulus: u32) -> Result<Vec<Vec<Polynomial>>, Fau
     heading(cursor, "A", "`A`, then its rows")?;
     cursor.skip_empty_lines();
     if !begins(cursor) {
-        return Err(cursor.fault("the first row of A, such as `x^2, 2*x + 1`"));
+        return Err(cursor.fault_in_polynomial("the first row of A, such as `x^2, 2*x + 1`"));
     }
     let mut rows = vec![row(cursor, modulus, None)?];
     while !cursor.is_name("b") {
@@ -56,7 +56,7 @@ fn matrix(cursor: &mut Cursor, modulus: u32) -> Result<Vec<Vec<Polynomial>>, Fau
             return Err(cursor.fault(&format!("`b`, as A has at most {MOST_ROWS} rows")));
         }
         if !begins(cursor) {
-            return Err(cursor.fault("another row of A, or `b`"));
+            return Err(cursor.fault_in_polynomial("another row of A, or `b`"));
         }
         rows.push(row(cursor, modulus, Some(rows[0].len()))?);
     }
@@ -91,7 +91,7 @@ fn right(cursor: &mut Cursor, modulus: u32, rows: usize) -> Result<Vec<Polynomia
     let mut entries = Vec::new();
     while entries.len() < rows {
         if !begins(cursor) {
-            return Err(cursor.fault(&format!("entry {} of b, which has one for each row of A", entries.len() + 1)));
+            return Err(cursor.fault_in_polynomial(&format!("entry {} of b, which has one for each row of A", entries.len() + 1)));
         }
         entries.push(polynomial(cursor, modulus)?);
         if entries.len() < rows && cursor.accept(',') {
@@ -114,5 +114,5 @@ fn line_end(cursor: &Cursor) -> Result<(), Fault> {
     if cursor.is_line_end() {
         return Ok(());
     }
-    Err(cursor.fault("`+`, `-`, `,` or the end of the line"))
+    Err(cursor.fault_in_polynomial("`+`, `-`, `,` or the end of the line"))
 }

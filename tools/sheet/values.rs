@@ -1,4 +1,4 @@
-//! Systems and certificates as values, and the limits that they keep (document 01, "The system" and "Bounds").
+//! Systems and certificates as values, and the limits that they keep (docs/FORMAT.md, "The system" and "Bounds").
 
 pub const LARGEST_MODULUS: u32 = 65_521;
 pub const MOST_ROWS: usize = 8;
@@ -21,15 +21,21 @@ pub struct System {
     pub right: Vec<Polynomial>,
 }
 
+impl System {
+    pub fn columns(&self) -> usize {
+        self.matrix[0].len()
+    }
+}
+
 pub enum Certificate {
-    /// Document 01's d, N, w and Z: y = N/d and z = Z/w.
+    /// d, N, w and Z: y = N/d and z = Z/w.
     Solution {
         denominator: Polynomial,
         numerators: Vec<Polynomial>,
         certifying_denominator: Polynomial,
         certifying_numerators: Vec<Polynomial>,
     },
-    /// Document 01's q.
+    /// q.
     Absence { kernel: Vec<Polynomial> },
 }
 

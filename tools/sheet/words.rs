@@ -1,4 +1,4 @@
-//! Words and their kinds, words as bytes, and the words of a system (document 01, "Words").
+//! Words and their kinds, words as bytes, and the words of a system (docs/FORMAT.md).
 
 use crate::values::{Polynomial, System};
 
@@ -31,7 +31,7 @@ pub fn payload(word: u32) -> u32 {
 
 /// Head, A row by row, b, end. The system is within the limits.
 pub fn system_words(system: &System) -> Vec<u32> {
-    let (rows, columns) = (system.matrix.len() as u32, system.matrix[0].len() as u32);
+    let (rows, columns) = (system.matrix.len() as u32, system.columns() as u32);
     let mut words = vec![word(Kind::SystemHead, columns << 20 | rows << 16 | system.modulus)];
     for polynomial in system.matrix.iter().flatten().chain(&system.right) {
         push_polynomial(&mut words, polynomial);

@@ -84,18 +84,18 @@ module _ {A : Type 0} (o : Operations A) where
   factor d r = o .mul (coefficient r (length d - 1)) (o .inverse (leading d))
 
   -- from f = q·d + r to a + x·f
-  unfoldable pub extend : List A → A → Division A → Division A
+  unfoldable pub extendDivision : List A → A → Division A → Division A
   unfolding subtract scale coefficient leading
-  extend d a w =
+  extendDivision d a w =
       let r = cons a (w .remainder) in
       let c = factor d r in
       record { quotient = cons c (w .quotient); remainder = subtract r (scale c d) }
 
   -- f by d; by zero, f is left as the remainder
   unfoldable pub divide : List A → List A → Division A
-  unfolding extend
+  unfolding extendDivision
   divide [] d = record { quotient = []; remainder = [] }
-  divide (a ∷ f) d = extend d a (divide f d)
+  divide (a ∷ f) d = extendDivision d a (divide f d)
 
   abbrev pub quotient : List A → List A → List A
   quotient f d = divide f d .quotient

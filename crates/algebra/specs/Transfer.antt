@@ -7,7 +7,7 @@ use Prim.Native.Nat.{ℕ, zero, suc, _-_}
 use lib.ListN.{length, length-map}
 use Rattle.algebra.specs.Operations.{Operations}
 use Rattle.algebra.specs.Coefficients.{Division, single, cons, constant, one, coefficient, leading, add, negate, subtract}
-use Rattle.algebra.specs.Coefficients.{scale, shift, mul, monic, factor, extend, divide, quotient, remainder, euclid, gcd}
+use Rattle.algebra.specs.Coefficients.{scale, shift, mul, monic, factor, extendDivision, divide, quotient, remainder, euclid, gcd}
 
 pub record Homomorphism {A B : Type 0} (o : Operations A) (o′ : Operations B) (φ : A → B) : Type 0 where
   pub add : (a b : A) → φ (o .add a b) ≡ o′ .add (φ a) (φ b)
@@ -102,8 +102,9 @@ module _ {A B : Type 0} {o : Operations A} {o′ : Operations B} {φ : A → B} 
       inverted : φ (o .inverse (leading o d)) ≡ o′ .inverse (leading o′ (map φ d))
       inverted = on-inverse (leading o d) ∙ ap (o′ .inverse) (map-leading d)
 
-  map-extend : (d : List A) (a : A) (w : Division A) → map-both φ (extend o d a w) ≡ extend o′ (map φ d) (φ a) (map-both φ w)
-  unfolding extend
+  map-extend : (d : List A) (a : A) (w : Division A)
+      → map-both φ (extendDivision o d a w) ≡ extendDivision o′ (map φ d) (φ a) (map-both φ w)
+  unfolding extendDivision
   map-extend d a w = ap₂ (λ q r. record { quotient = q; remainder = r }) first second
     where
       r : List A
@@ -126,7 +127,7 @@ module _ {A B : Type 0} {o : Operations A} {o′ : Operations B} {φ : A → B} 
   pub map-divide : (f d : List A) → map-both φ (divide o f d) ≡ divide o′ (map φ f) (map φ d)
   unfolding divide
   map-divide [] d = refl
-  map-divide (a ∷ f) d = map-extend d a (divide o f d) ∙ ap (extend o′ (map φ d) (φ a)) (map-divide f d)
+  map-divide (a ∷ f) d = map-extend d a (divide o f d) ∙ ap (extendDivision o′ (map φ d) (φ a)) (map-divide f d)
 
   pub map-quotient : (f d : List A) → map φ (quotient o f d) ≡ quotient o′ (map φ f) (map φ d)
   map-quotient f d = ap (λ w. w .quotient) (map-divide f d)

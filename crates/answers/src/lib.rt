@@ -1,4 +1,4 @@
-// What calls answer, in the numbers and places of document 01's table, and operations on small numbers that all layers share.
+// What calls answer, in the numbers and places of document 01's table, and a test on small numbers that all layers share.
 pub mod answer;
 pub mod number;
 pub mod packed;

@@ -15,18 +15,18 @@ use Rattle.vector.specs.Reduced.{polynomial}
 use Rattle.polynomial.specs.Value.{value-polynomial}
 use Rattle.polynomial.specs.Product.{GainsProduct}
 use Rattle.polynomial.proofs.Made.{represents-zero}
-use Rattle.truth.specs.Solution.{total}
+use Rattle.truth.specs.Solution.{totalModulo}
 use Rattle.loader.specs.SlotLaws.{canonical-word, canonical-polynomial}
 
 pub record Summing (p : ℕ) (term : ℕ → List ℕ) (count : ℕ) (h : List ℕ) (k : ℕ) : Type 0 where
   pub within : k ≤ count
   pub long : length h ≡ 256
   pub bound : AtMost (k * (16 * (p * p))) h
-  pub sum : polynomial p h 0 136 ≡ total p k term
+  pub sum : polynomial p h 0 136 ≡ totalModulo p k term
 
 module _ (p : ℕ) (positive : 0 < p) (term : ℕ → List ℕ) (count : ℕ) where
   pub summing-start : (h : List ℕ) → length h ≡ 256 → ((i : ℕ) → getD h i 0 ≡ 0) → Summing p term count h 0
-  unfolding total
+  unfolding totalModulo
   summing-start h long zeros =
       let none = represents-zero p h long zeros in
       record {
@@ -50,7 +50,7 @@ module _ (p : ℕ) (positive : 0 < p) (term : ℕ → List ℕ) (count : ℕ) wh
     pub summing-turn : (f g : List ℕ) → Canonical p f → Canonical p g → length f ≤ 16 → length g ≤ 121 → term k ≡ mul (modulo p) f g
         → k < count → (h′ : List ℕ) → length h′ ≡ 256 → GainsProduct h f (length f) g (length g) h′
         → Summing p term count h′ (k + 1)
-    unfolding total
+    unfolding totalModulo
     summing-turn f g hf hg short long-enough is more h′ long gains = record {
       within = omega arith;
       long = long;
@@ -66,9 +66,9 @@ module _ (p : ℕ) (positive : 0 < p) (term : ℕ → List ℕ) (count : ℕ) wh
           gains .sum p 136 positive (omega arith)
           ∙ ap₂ (add (modulo p)) (so-far .sum) (ap₂ (mul (modulo p)) (canonical-polynomial p positive f hf)
           (canonical-polynomial p positive g hg) ∙ sym is)
-          ∙ ap (λ (n : ℕ). total p n term) (sym (add-one k));
+          ∙ ap (λ (n : ℕ). totalModulo p n term) (sym (add-one k));
     }
 
 pub summing-end : (p : ℕ) (term : ℕ → List ℕ) (count : ℕ) (h : List ℕ) (k : ℕ) → Summing p term count h k → count ≤ k
-    → polynomial p h 0 136 ≡ total p count term
-summing-end p term count h k done past = done .sum ∙ ap (λ (n : ℕ). total p n term) (le-antisymm (done .within) past)
+    → polynomial p h 0 136 ≡ totalModulo p count term
+summing-end p term count h k done past = done .sum ∙ ap (λ (n : ℕ). totalModulo p n term) (le-antisymm (done .within) past)

@@ -9,38 +9,38 @@ use Rattle.algebra.specs.Coefficients.{add, mul}
 use Rattle.modular.specs.Modulo.{modulo}
 use Rattle.modular.specs.Lists.{mul-comm}
 use Rattle.residue.specs.Modulus.{ValidModulus}
-use Rattle.words.specs.System.{entry, rightSide}
-use Rattle.truth.specs.Solution.{total, rowOf, columnOf, sideOf}
+use Rattle.words.specs.System.{entry, sideEntry}
+use Rattle.truth.specs.Solution.{totalModulo, rowOf, columnOf, sideOf}
 use Rattle.truth.specs.Listed.{listed-at, total-ext}
-use Rattle.loader.specs.Slot.{slot, Filled}
-use Rattle.check_conditions.specs.Widths.{systemWidth, certificateWidth}
+use Rattle.loader.specs.Slot.{slot, SlotFilled}
+use Rattle.loader.specs.Widths.{systemWidth, certificateWidth}
 use Rattle.check_conditions.specs.Products.{product}
-use Rattle.check_conditions.specs.Areas.{systemIn, vectorIn, ValidLayout, Loaded}
-use Rattle.check_conditions.specs.declared.layout.Layout.{Layout}
+use Rattle.check_conditions.specs.Areas.{systemInSlots, vectorIn, ValidDimensions, Loaded}
+use Rattle.check_conditions.specs.declared.dimensions.Dimensions.{Dimensions}
 
 -- the place of row i and column j
 pub place-inside : {i j rows columns : ℕ} → i < rows → j < columns → i * columns + j < rows * columns
 place-inside {i} {j} {rows} {columns} hi hj = omega (arith, mul-le-mul-right columns hi, suc-mul i columns)
 
-module _ (l : Layout) (S C : List ℕ) where
+module _ (l : Dimensions) (S C : List ℕ) where
   abbrev p : ℕ
   p = l .modulus .p
 
-  entry-in : (i j : ℕ) → i < l .rows → j < l .columns → entry (systemIn l S) i j ≡ slot systemWidth S (i * l .columns + j)
-  unfolding systemIn
+  entry-in : (i j : ℕ) → i < l .rows → j < l .columns → entry (systemInSlots l S) i j ≡ slot systemWidth S (i * l .columns + j)
+  unfolding systemInSlots
   entry-in i j hi hj = listed-at (l .rows * l .columns) (slot systemWidth S) [] (i * l .columns + j) (place-inside hi hj)
 
-  side-in : (i : ℕ) → i < l .rows → rightSide (systemIn l S) i ≡ slot systemWidth S (l .rows * l .columns + i)
-  unfolding systemIn
+  side-in : (i : ℕ) → i < l .rows → sideEntry (systemInSlots l S) i ≡ slot systemWidth S (l .rows * l .columns + i)
+  unfolding systemInSlots
   side-in i hi = listed-at (l .rows) (λ k. slot systemWidth S (l .rows * l .columns + k)) [] i hi
 
   vector-in : (count start k : ℕ) → k < count → getD (vectorIn count start C) k [] ≡ slot certificateWidth C (start + k)
   unfolding vectorIn
   vector-in count start k lt = listed-at count (λ i. slot certificateWidth C (start + i)) [] k lt
 
-  pub row-sum : (i : ℕ) → i < l .rows → total p (l .columns) (product p S (i * l .columns) 1 C 1)
-      ≡ rowOf (systemIn l S) (vectorIn (l .columns) 1 C) i
-  unfolding rowOf systemIn product
+  pub row-sum : (i : ℕ) → i < l .rows → totalModulo p (l .columns) (product p S (i * l .columns) 1 C 1)
+      ≡ rowOf (systemInSlots l S) (vectorIn (l .columns) 1 C) i
+  unfolding rowOf systemInSlots product
   row-sum i hi = total-ext p (l .columns) _ _ (λ j hj.
       let e : i * l .columns + j * 1 ≡ i * l .columns + j = omega arith in
       ap₂ (mul (modulo p)) (ap (slot systemWidth S) e ∙ sym (entry-in i j hi hj)) (sym (vector-in (l .columns) 1 j hj)))
@@ -49,18 +49,18 @@ module _ (l : Layout) (S C : List ℕ) where
   abbrev Asks : ℕ → ℕ → ℕ → ℕ → Type 0
   Asks first step start count =
       (ValidModulus (l .modulus) × (count ≤ 8))
-      × (((k : ℕ) → k < count → Filled p systemWidth S (first + k * step))
-      × ((k : ℕ) → k < count → Filled p certificateWidth C (start + k)))
+      × (((k : ℕ) → k < count → SlotFilled p systemWidth S (first + k * step))
+      × ((k : ℕ) → k < count → SlotFilled p certificateWidth C (start + k)))
 
   module _ {count : ℕ} (loaded : Loaded l count S C) where
-    valid : ValidLayout l
-    valid = loaded .certificate .layout
+    valid : ValidDimensions l
+    valid = loaded .certificate .dimensions
 
     -- there are at most 72 slots
     pub places-few : l .rows * l .columns ≤ 64
     places-few = mul-le-mul (valid .rows) (valid .columns)
 
-    filled-at : (a k : ℕ) → a ≡ k → k < l .rows * l .columns + l .rows → Filled p systemWidth S a
+    filled-at : (a k : ℕ) → a ≡ k → k < l .rows * l .columns + l .rows → SlotFilled p systemWidth S a
     filled-at a k e lt = rw e (loaded .system k lt)
 
     -- a product of slots with the certificate's polynomial first
@@ -93,9 +93,9 @@ module _ (l : Layout) (S C : List ℕ) where
         ),
       )
 
-      pub target-sum : 0 < count → total p 1 (product p S (l .rows * l .columns + i) 1 C 0)
-          ≡ mul (modulo p) (slot certificateWidth C 0) (rightSide (systemIn l S) i)
-      unfolding total product add
+      pub target-sum : 0 < count → totalModulo p 1 (product p S (l .rows * l .columns + i) 1 C 0)
+          ≡ mul (modulo p) (slot certificateWidth C 0) (sideEntry (systemInSlots l S) i)
+      unfolding totalModulo product add
       target-sum some =
           swapped (l .rows * l .columns + i + 0 * 1) (0 + 0) (l .rows * l .columns + i) 0 (omega arith) (omega arith) (omega arith)
           some
@@ -112,9 +112,9 @@ module _ (l : Layout) (S C : List ℕ) where
           ),
         )
 
-        pub column-sum : total p (l .rows) (product p S j (l .columns) C start)
-            ≡ columnOf (systemIn l S) (vectorIn (l .rows) start C) j
-        unfolding columnOf systemIn product
+        pub column-sum : totalModulo p (l .rows) (product p S j (l .columns) C start)
+            ≡ columnOf (systemInSlots l S) (vectorIn (l .rows) start C) j
+        unfolding columnOf systemInSlots product
         column-sum = total-ext p (l .rows) _ _ (λ i hi.
             swapped (j + i * l .columns) (start + i) (i * l .columns + j) (start + i) (omega arith)
             (omega (arith, place-inside hi hj)) refl (omega arith)
@@ -129,9 +129,9 @@ module _ (l : Layout) (S C : List ℕ) where
         ),
       )
 
-      pub side-sum : total p (l .rows) (product p S (l .rows * l .columns) 1 C start)
-          ≡ sideOf (systemIn l S) (vectorIn (l .rows) start C)
-      unfolding sideOf systemIn product
+      pub side-sum : totalModulo p (l .rows) (product p S (l .rows * l .columns) 1 C start)
+          ≡ sideOf (systemInSlots l S) (vectorIn (l .rows) start C)
+      unfolding sideOf systemInSlots product
       side-sum = total-ext p (l .rows) _ _ (λ i hi.
           swapped (l .rows * l .columns + i * 1) (start + i) (l .rows * l .columns + i) (start + i) (omega arith) (omega arith) refl
           (omega arith)

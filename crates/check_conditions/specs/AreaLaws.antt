@@ -7,13 +7,13 @@ use lib.ListN.{length, getD, length-append, List·getD-append}
 use lib.Seq.{getD-append-add}
 use Rattle.words.specs.System.{System, systemEntries}
 use Rattle.truth.specs.Listed.{listed, listed-is}
-use Rattle.loader.specs.Slot.{slot, Stands}
-use Rattle.check_conditions.specs.Widths.{systemWidth, certificateWidth}
-use Rattle.check_conditions.specs.Areas.{systemIn, vectorIn}
-use Rattle.check_conditions.specs.declared.layout.Layout.{Layout}
+use Rattle.loader.specs.Slot.{slot, InSlots}
+use Rattle.loader.specs.Widths.{systemWidth, certificateWidth}
+use Rattle.check_conditions.specs.Areas.{systemInSlots, vectorIn}
+use Rattle.check_conditions.specs.declared.dimensions.Dimensions.{Dimensions}
 
 -- some polynomials in a row among all that were loaded
-pub vector-is : (area : List ℕ) (all fs : List (List ℕ)) (count start : ℕ) → Stands certificateWidth area all → length fs ≡ count
+pub vector-is : (area : List ℕ) (all fs : List (List ℕ)) (count start : ℕ) → InSlots certificateWidth area all → length fs ≡ count
     → start + count ≤ length all
     → ((k : ℕ) → k < count → getD all (start + k) [] ≡ getD fs k []) → vectorIn count start area ≡ fs
 unfolding vectorIn
@@ -21,25 +21,25 @@ vector-is area all fs count start stands long inside same =
     listed-is count (λ k. slot certificateWidth area (start + k)) fs [] long
     (λ k lt. stands .slots (start + k) (omega arith) ∙ same k lt)
 
-module _ (l : Layout) (area : List ℕ) (s : System) (stands : Stands systemWidth area (systemEntries s)) where
+module _ (l : Dimensions) (area : List ℕ) (s : System) (stands : InSlots systemWidth area (systemEntries s)) where
   matrix-is : length (s .matrix) ≡ l .rows * l .columns → listed (l .rows * l .columns) (slot systemWidth area) ≡ s .matrix
   matrix-is e =
       listed-is (l .rows * l .columns) (slot systemWidth area) (s .matrix) [] e (λ k lt.
-      stands .slots k (omega (arith, length-append (s .matrix) (s .right)))
-      ∙ List·getD-append (s .matrix) (s .right) [] k (omega arith))
+      stands .slots k (omega (arith, length-append (s .matrix) (s .side)))
+      ∙ List·getD-append (s .matrix) (s .side) [] k (omega arith))
 
-  side-is : length (s .matrix) ≡ l .rows * l .columns → length (s .right) ≡ l .rows
-      → listed (l .rows) (λ i. slot systemWidth area (l .rows * l .columns + i)) ≡ s .right
+  side-is : length (s .matrix) ≡ l .rows * l .columns → length (s .side) ≡ l .rows
+      → listed (l .rows) (λ i. slot systemWidth area (l .rows * l .columns + i)) ≡ s .side
   side-is e f =
-      listed-is (l .rows) (λ i. slot systemWidth area (l .rows * l .columns + i)) (s .right) [] f (λ k lt.
-      stands .slots (l .rows * l .columns + k) (omega (arith, length-append (s .matrix) (s .right)))
-      ∙ ap (λ (n : ℕ). getD (s .matrix ++ s .right) (n + k) []) (sym e)
-      ∙ getD-append-add (s .matrix) (s .right) k [])
+      listed-is (l .rows) (λ i. slot systemWidth area (l .rows * l .columns + i)) (s .side) [] f (λ k lt.
+      stands .slots (l .rows * l .columns + k) (omega (arith, length-append (s .matrix) (s .side)))
+      ∙ ap (λ (n : ℕ). getD (s .matrix ++ s .side) (n + k) []) (sym e)
+      ∙ getD-append-add (s .matrix) (s .side) k [])
 
   pub system-is : l .modulus .p ≡ s .modulus → l .rows ≡ s .rows → l .columns ≡ s .columns
       → length (s .matrix) ≡ s .rows * s .columns
-      → length (s .right) ≡ s .rows → systemIn l area ≡ s
-  unfolding systemIn
+      → length (s .side) ≡ s .rows → systemInSlots l area ≡ s
+  unfolding systemInSlots
   system-is ep en em eA eb =
       let places : length (s .matrix) ≡ l .rows * l .columns = eA ∙ ap₂ _*_ (sym en) (sym em) in
       let eA′ = matrix-is places in

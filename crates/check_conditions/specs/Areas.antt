@@ -5,21 +5,21 @@ use Prim.Native.Nat.{ℕ, _+_, _*_, _≤_, _<_}
 use Rattle.residue.specs.Modulus.{ValidModulus}
 use Rattle.words.specs.System.{System}
 use Rattle.truth.specs.Listed.{listed}
-use Rattle.loader.specs.Slot.{slot, Filled}
-use Rattle.check_conditions.specs.Widths.{systemWidth, certificateWidth}
-use Rattle.check_conditions.specs.declared.layout.Layout.{Layout}
+use Rattle.loader.specs.Slot.{slot, SlotFilled}
+use Rattle.loader.specs.Widths.{systemWidth, certificateWidth}
+use Rattle.check_conditions.specs.declared.dimensions.Dimensions.{Dimensions}
 
 -- ---- values
 
 -- A row by row, then b
-unfoldable pub systemIn : Layout → List ℕ → System
+unfoldable pub systemInSlots : Dimensions → List ℕ → System
 unfolding listed slot
-systemIn l area = record {
+systemInSlots l area = record {
   modulus = l .modulus .p;
   rows = l .rows;
   columns = l .columns;
   matrix = listed (l .rows * l .columns) (slot systemWidth area);
-  right = listed (l .rows) (λ i. slot systemWidth area (l .rows * l .columns + i));
+  side = listed (l .rows) (λ i. slot systemWidth area (l .rows * l .columns + i));
 }
 
 -- so many polynomials of a certificate, from one on
@@ -31,28 +31,28 @@ vectorIn count start area = listed count (λ k. slot certificateWidth area (star
 abbrev pub denominatorIn : List ℕ → List ℕ
 denominatorIn area = slot certificateWidth area 0
 
-abbrev pub numeratorsIn : Layout → List ℕ → List (List ℕ)
+abbrev pub numeratorsIn : Dimensions → List ℕ → List (List ℕ)
 numeratorsIn l area = vectorIn (l .columns) 1 area
 
-abbrev pub certifyingDenominatorIn : Layout → List ℕ → List ℕ
+abbrev pub certifyingDenominatorIn : Dimensions → List ℕ → List ℕ
 certifyingDenominatorIn l area = slot certificateWidth area (l .columns + 1)
 
-abbrev pub certifyingNumeratorsIn : Layout → List ℕ → List (List ℕ)
+abbrev pub certifyingNumeratorsIn : Dimensions → List ℕ → List (List ℕ)
 certifyingNumeratorsIn l area = vectorIn (l .rows) (l .columns + 2) area
 
 -- ---- what makes them sound
 
-pub record ValidLayout (l : Layout) : Type 0 where
+pub record ValidDimensions (l : Dimensions) : Type 0 where
   pub modulus : ValidModulus (l .modulus)
   pub rows : l .rows ≤ 8
   pub columns : l .columns ≤ 8
 
 -- so many polynomials stand in the certificate's area
-pub record CertificateLoaded (l : Layout) (count : ℕ) (C : List ℕ) : Type 0 where
-  pub layout : ValidLayout l
-  pub filled : (k : ℕ) → k < count → Filled (l .modulus .p) certificateWidth C k
+pub record CertificateLoaded (l : Dimensions) (count : ℕ) (C : List ℕ) : Type 0 where
+  pub dimensions : ValidDimensions l
+  pub filled : (k : ℕ) → k < count → SlotFilled (l .modulus .p) certificateWidth C k
 
 -- and all of A and b in the system's
-pub record Loaded (l : Layout) (count : ℕ) (S C : List ℕ) : Type 0 where
+pub record Loaded (l : Dimensions) (count : ℕ) (S C : List ℕ) : Type 0 where
   pub certificate : CertificateLoaded l count C
-  pub system : (k : ℕ) → k < l .rows * l .columns + l .rows → Filled (l .modulus .p) systemWidth S k
+  pub system : (k : ℕ) → k < l .rows * l .columns + l .rows → SlotFilled (l .modulus .p) systemWidth S k

@@ -1,5 +1,4 @@
 -- interface: the areas of the check, the values that they hold, and what follows for what was loaded
-pub mod Widths
 pub mod Areas
 pub mod AreaLaws
 -- inside: products of two slots

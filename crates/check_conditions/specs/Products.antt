@@ -4,7 +4,7 @@ use Prim.Native.Nat.{ℕ, _+_, _*_}
 use Rattle.algebra.specs.Coefficients.{mul}
 use Rattle.modular.specs.Modulo.{modulo}
 use Rattle.loader.specs.Slot.{slot}
-use Rattle.check_conditions.specs.Widths.{systemWidth, certificateWidth}
+use Rattle.loader.specs.Widths.{systemWidth, certificateWidth}
 
 -- slot first + k·step of a system times slot start + k of a certificate
 unfoldable pub product : ℕ → List ℕ → ℕ → ℕ → List ℕ → ℕ → ℕ → List ℕ

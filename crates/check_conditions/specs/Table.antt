@@ -8,7 +8,7 @@ use Rattle.algebra.specs.Coefficients.{mul, remainder}
 use Rattle.modular.specs.Modulo.{modulo}
 use Rattle.words.specs.Outcome.{Outcome, refuse, followedBy}
 use Rattle.words.specs.Outcome.Outcome.{accepted}
-use Rattle.words.specs.System.{System, rightSide}
+use Rattle.words.specs.System.{System, sideEntry}
 use Rattle.truth.specs.Solution.{rowOf, columnOf, sideOf}
 use Rattle.truth.specs.Right.{certified}
 use Rattle.truth.specs.Verdict.{zero?, same?, monic?, refuseFirst, solutionVerdict, absenceVerdict}
@@ -19,7 +19,7 @@ tryMonic p d w = refuse (not (monic? p d)) 31 0 (refuse (not (monic? p w)) 31 1 
 
 -- 32: A·N not d·b; first such row
 unfoldable pub rowWrong : System → List ℕ → List (List ℕ) → ℕ → Bool
-rowWrong s d N i = not (same? (rowOf s N i) (mul (modulo (s .modulus)) d (rightSide s i)))
+rowWrong s d N i = not (same? (rowOf s N i) (mul (modulo (s .modulus)) d (sideEntry s i)))
 
 unfoldable pub tryRows : System → List ℕ → List (List ℕ) → Outcome (Unit {0})
 tryRows s d N = refuseFirst (s .rows) (rowWrong s d N) 32 (accepted tt)

@@ -1,5 +1,5 @@
 // 35 and 36: a certificate that holds q.
-use crate::layout::Layout;
+use crate::dimensions::Dimensions;
 use crate::matrix::column;
 use crate::matrix::side;
 use answers::Refusal;
@@ -8,28 +8,28 @@ ghost use mathlib.Core.Path.{_≡_};
 ghost use Prim.Native.Nat.{_<_};
 ghost use Rattle.truth.specs.Verdict.{absenceVerdict};
 ghost use Rattle.answers.specs.Answer.{verdictOutcome};
-ghost use Rattle.check_conditions.specs.Areas.{Loaded, systemIn, vectorIn};
+ghost use Rattle.check_conditions.specs.Areas.{Loaded, systemInSlots, vectorIn};
 ghost use Rattle.check_conditions.specs.Table.{productWrong, tryProducts, trySide};
 
 // Tells whether column j of q·A is not zero.
-fn product_wrong(system: &[u64], certificate: &[u64], layout: Layout, j: usize) -> bool
-    requires { ⌜ Loaded layout (layout .rows) (now system) (now certificate) × (j < layout .columns) ⌝ }
+fn product_wrong(system: &[u64], certificate: &[u64], dimensions: Dimensions, j: usize) -> bool
+    requires { ⌜ Loaded dimensions (dimensions .rows) (now system) (now certificate) × (j < dimensions .columns) ⌝ }
     ensures { λ r. ⌜ r ≡
-        productWrong (systemIn layout (now (system .entry))) (vectorIn (layout .rows) 0 (now (certificate .entry))) j ⌝ }
+        productWrong (systemInSlots dimensions (now (system .entry))) (vectorIn (dimensions .rows) 0 (now (certificate .entry))) j ⌝ }
 {
-    let sum = column(system, certificate, 0, layout, j);
+    let sum = column(system, certificate, 0, dimensions, j);
     !sum.is_zero()
 }
 
 // Tries 35: q·A not zero; first such column.
-fn try_products(system: &[u64], certificate: &[u64], layout: Layout) -> Verdict
-    requires { ⌜ Loaded layout (layout .rows) (now system) (now certificate) ⌝ }
+fn try_products(system: &[u64], certificate: &[u64], dimensions: Dimensions) -> Verdict
+    requires { ⌜ Loaded dimensions (dimensions .rows) (now system) (now certificate) ⌝ }
     ensures { λ r. ⌜ verdictOutcome r ≡
-        tryProducts (systemIn layout (now (system .entry))) (vectorIn (layout .rows) 0 (now (certificate .entry))) ⌝ }
+        tryProducts (systemInSlots dimensions (now (system .entry))) (vectorIn (dimensions .rows) 0 (now (certificate .entry))) ⌝ }
 {
     let mut j = 0;
-    while j < layout.columns {
-        if product_wrong(system, certificate, layout, j) {
+    while j < dimensions.columns {
+        if product_wrong(system, certificate, dimensions, j) {
             return Verdict::Refused(Refusal {
                 number: 35,
                 place: j,
@@ -41,12 +41,12 @@ fn try_products(system: &[u64], certificate: &[u64], layout: Layout) -> Verdict
 }
 
 // Tries 36: q·b zero.
-fn try_side(system: &[u64], certificate: &[u64], layout: Layout) -> Verdict
-    requires { ⌜ Loaded layout (layout .rows) (now system) (now certificate) ⌝ }
+fn try_side(system: &[u64], certificate: &[u64], dimensions: Dimensions) -> Verdict
+    requires { ⌜ Loaded dimensions (dimensions .rows) (now system) (now certificate) ⌝ }
     ensures { λ r. ⌜ verdictOutcome r ≡
-        trySide (systemIn layout (now (system .entry))) (vectorIn (layout .rows) 0 (now (certificate .entry))) ⌝ }
+        trySide (systemInSlots dimensions (now (system .entry))) (vectorIn (dimensions .rows) 0 (now (certificate .entry))) ⌝ }
 {
-    let sum = side(system, certificate, 0, layout);
+    let sum = side(system, certificate, 0, dimensions);
     if sum.is_zero() {
         return Verdict::Refused(Refusal {
             number: 36,
@@ -57,14 +57,14 @@ fn try_side(system: &[u64], certificate: &[u64], layout: Layout) -> Verdict
 }
 
 // Tries 35, then 36.
-pub fn check_absence(system: &[u64], certificate: &[u64], layout: Layout) -> Verdict
-    requires { ⌜ Loaded layout (layout .rows) (now system) (now certificate) ⌝ }
+pub fn check_absence(system: &[u64], certificate: &[u64], dimensions: Dimensions) -> Verdict
+    requires { ⌜ Loaded dimensions (dimensions .rows) (now system) (now certificate) ⌝ }
     ensures { λ r. ⌜ verdictOutcome r ≡
-        absenceVerdict (systemIn layout (now (system .entry))) (vectorIn (layout .rows) 0 (now (certificate .entry))) ⌝ }
+        absenceVerdict (systemInSlots dimensions (now (system .entry))) (vectorIn (dimensions .rows) 0 (now (certificate .entry))) ⌝ }
 {
-    let products = try_products(system, certificate, layout);
+    let products = try_products(system, certificate, dimensions);
     let Verdict::Accepted = products else {
         return products;
     };
-    try_side(system, certificate, layout)
+    try_side(system, certificate, dimensions)
 }

@@ -2,8 +2,7 @@
 // system"), and the conditions 31 to 36 on them ("Turned back"). `solution` and `absence` have a function for each row of the
 // table.
 pub mod absence;
-pub mod layout;
+pub mod dimensions;
 pub mod matrix;
-pub mod products;
 pub mod solution;
 pub mod sum;

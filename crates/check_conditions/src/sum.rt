@@ -1,7 +1,7 @@
 // Sums of products of a system's polynomials with a certificate's. They stay unreduced until the last product is added.
-use crate::products::CERTIFICATE_WIDTH;
-use crate::products::SYSTEM_WIDTH;
 use loader::coefficients_in;
+use loader::width::CERTIFICATE_WIDTH;
+use loader::width::SYSTEM_WIDTH;
 use polynomial::Polynomial;
 use polynomial::product::add_rows;
 use polynomial::value::zeros;
@@ -9,9 +9,9 @@ use residue::modulus::Modulus;
 ghost use Prim.Native.Nat.{ℕ, _+_, _*_, _≤_, _<_};
 ghost use Rattle.residue.specs.Modulus.{ValidModulus};
 ghost use Rattle.polynomial.specs.Value.{Represents};
-ghost use Rattle.truth.specs.Solution.{total};
-ghost use Rattle.loader.specs.Slot.{Filled};
-ghost use Rattle.check_conditions.specs.Widths.{systemWidth, certificateWidth};
+ghost use Rattle.truth.specs.Solution.{totalModulo};
+ghost use Rattle.loader.specs.Slot.{SlotFilled};
+ghost use Rattle.loader.specs.Widths.{systemWidth, certificateWidth};
 ghost use Rattle.check_conditions.specs.Products.{product};
 
 // The most coefficients of a product: of 16 and of 121.
@@ -29,10 +29,10 @@ pub fn sum_of_products(
     modulus: Modulus,
 ) -> Polynomial
     requires { ⌜ ValidModulus modulus × (count ≤ 8) ⌝ }
-    requires system { ⌜ ((k : ℕ) → k < count → Filled (modulus .p) systemWidth (now system) (first + k * step)) ⌝ }
-    requires certificate { ⌜ ((k : ℕ) → k < count → Filled (modulus .p) certificateWidth (now certificate) (start + k)) ⌝ }
+    requires system { ⌜ ((k : ℕ) → k < count → SlotFilled (modulus .p) systemWidth (now system) (first + k * step)) ⌝ }
+    requires certificate { ⌜ ((k : ℕ) → k < count → SlotFilled (modulus .p) certificateWidth (now certificate) (start + k)) ⌝ }
     ensures { λ r. ⌜ Represents (modulus .p) r
-        (total (modulus .p) count (product (modulus .p) (now (system .entry)) first step (now (certificate .entry)) start)) ⌝ }
+        (totalModulo (modulus .p) count (product (modulus .p) (now (system .entry)) first step (now (certificate .entry)) start)) ⌝ }
 {
     let mut h = zeros();
     let mut k = 0;

@@ -17,7 +17,7 @@ use Rattle.vector.specs.Stored.{stored, length-stored, stored-outside}
 use Rattle.vector.specs.Bound.{AtMost, at-most-set, at-most-sum}
 use Rattle.vector.specs.Reduced.{polynomial, reduced, canonical-reduced, coefficient-reduced, residue-same, word-inside}
 use Rattle.vector.specs.Multiple.{sumAt, GainsMultiple}
-use Rattle.division.specs.Long.{Divisor, Divided}
+use Rattle.division.specs.Long.{Divisor, LongDivided}
 use Rattle.division.proofs.Rest.{canonical-drop, polynomial-first, reduced-canonical, polynomial-zero, polynomial-rest}
 use Rattle.division.proofs.Step.{extend-is, subtract-multiple, divide-short}
 
@@ -182,7 +182,7 @@ factor-is p x y ev ec = rw (← ev) ec
 
 -- at the end all coefficients are divided
 pub dividing-end : (p : ℕ) {h₀ q₀ : List ℕ} {n : ℕ} {b q h : List ℕ} {i : ℕ} → 0 < p → n ≤ 256 → i ≡ 0 →
-    Dividing p h₀ q₀ n b q h i → Divided p (take n h₀) n b q h
+    Dividing p h₀ q₀ n b q h i → LongDivided p (take n h₀) n b q h
 dividing-end p {h₀} {q₀} {n} {b} {q} {h} positive few end state =
     let last : Dividing p h₀ q₀ n b q h 0 = rw end at state in
     let all : n - 0 ≡ n = omega arith in

@@ -9,7 +9,7 @@ use native.Mathlib.Omega.{arith}
 use lib.ListN.{length}
 use borrow.Author.Tests.{ne-eqb}
 use Rattle.algebra.specs.Coefficients.{Division, single, cons, coefficient, leading, add, negate, subtract, scale}
-use Rattle.algebra.specs.Coefficients.{factor, extend, divide}
+use Rattle.algebra.specs.Coefficients.{factor, extendDivision, divide}
 use Rattle.modular.specs.Modulo.{modulo}
 use Rattle.modular.specs.Canonical.{Canonical}
 use Rattle.modular.specs.Closed.{canonical-tail, canonical-add, canonical-scale, canonical-subtract}
@@ -19,9 +19,9 @@ use Rattle.polynomial.proofs.Rows.{add-nil, scale-zero}
 -- a step, where it is known what it computes with: the remainder r to go on with, and its factor c
 pub extend-is : (p : ℕ) (d : List ℕ) (a : ℕ) (w : Division ℕ) (r : List ℕ) (c : ℕ) →
     cons (modulo p) a (w .remainder) ≡ r → factor (modulo p) d r ≡ c →
-    extend (modulo p) d a w
+    extendDivision (modulo p) d a w
     ≡ record { quotient = cons (modulo p) c (w .quotient); remainder = subtract (modulo p) r (scale (modulo p) c d) }
-unfolding extend
+unfolding extendDivision
 extend-is p d a w r c er ec =
     let first : factor (modulo p) d (cons (modulo p) a (w .remainder)) ≡ c = ap (factor (modulo p) d) er ∙ ec in
     let made : ℕ → List ℕ → Division ℕ =
@@ -46,7 +46,7 @@ divide-short p (a ∷ f) d h short =
     let none : coefficient (modulo p) (a ∷ f) (length d - 1) ≡ 0 = coefficient-beyond p (a ∷ f) (length d - 1) (omega arith) in
     let factor-zero : factor (modulo p) d (a ∷ f) ≡ 0 =
     ap (λ (x : ℕ). x * modulo p .inverse (leading (modulo p) d) % p) none ∙ ap (λ (x : ℕ). x % p) (zero-mul _) ∙ zero-mod p in
-    ap (extend (modulo p) d a) (divide-short p f d (canonical-tail p a f h) (omega arith))
+    ap (extendDivision (modulo p) d a) (divide-short p f d (canonical-tail p a f h) (omega arith))
     ∙ extend-is p d a (record { quotient = []; remainder = f }) (a ∷ f) 0 (cons-canonical p a f h) factor-zero
     ∙ ap (λ (g : List ℕ). record { quotient = []; remainder = g }) (subtract-nothing p (a ∷ f) d)
 

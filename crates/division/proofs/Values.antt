@@ -9,7 +9,7 @@ use Rattle.modular.specs.Modulo.{modulo}
 use Rattle.modular.specs.Canonical.{Canonical}
 use Rattle.polynomial.specs.declared.value.Polynomial.{Polynomial}
 use Rattle.polynomial.specs.Value.{coefficientsOf, ValidPolynomial, word-below}
-use Rattle.division.specs.Long.{Divisor, Divided}
+use Rattle.division.specs.Long.{Divisor, LongDivided}
 
 module _ (p : ℕ) (positive : 0 < p) (d : Polynomial) (valid : ValidPolynomial p d) (some : 0 < d .size) where
   all-coefficients : take (d .size - 1 + 1) (d .coefficients) ≡ coefficientsOf d
@@ -25,6 +25,6 @@ module _ (p : ℕ) (positive : 0 < p) (d : Polynomial) (valid : ValidPolynomial 
     inverts = e ∙ ap (λ (l : List ℕ). modulo p .inverse (leading (modulo p) l)) (sym all-coefficients);
   }
 
-  pub divided : {f : List ℕ} {n : ℕ} {q h : List ℕ} → Divided p f n (take (d .size - 1 + 1) (d .coefficients)) q h →
-      Divided p f n (coefficientsOf d) q h
-  divided {f} {n} {q} {h} by = subst (λ (l : List ℕ). Divided p f n l q h) all-coefficients by
+  pub divided : {f : List ℕ} {n : ℕ} {q h : List ℕ} → LongDivided p f n (take (d .size - 1 + 1) (d .coefficients)) q h →
+      LongDivided p f n (coefficientsOf d) q h
+  divided {f} {n} {q} {h} by = subst (λ (l : List ℕ). LongDivided p f n l q h) all-coefficients by

@@ -18,7 +18,7 @@ pub record Divisor (p : ℕ) (d : List ℕ) (e inverse : ℕ) : Type 0 where
   pub inverts : inverse ≡ modulo p .inverse (leading (modulo p) (take (e + 1) d))
 
 -- n words of q are the quotient of f by d and n words of h its remainder, all of them small enough for a reduction
-pub record Divided (p : ℕ) (f : List ℕ) (n : ℕ) (d q h : List ℕ) : Type 0 where
+pub record LongDivided (p : ℕ) (f : List ℕ) (n : ℕ) (d q h : List ℕ) : Type 0 where
   pub quotient : polynomial p q 0 n ≡ divide (modulo p) f d .quotient
   pub remainder : polynomial p h 0 n ≡ divide (modulo p) f d .remainder
   pub small-quotient : (i : ℕ) → SmallSum p (getD q i 0)

@@ -6,7 +6,7 @@ ghost use lib.ListN.{length, take};
 ghost use Rattle.modular.specs.Canonical.{Canonical};
 ghost use Rattle.residue.specs.Modulus.{ValidModulus};
 ghost use Rattle.vector.specs.Bound.{AtMost};
-ghost use Rattle.division.specs.Long.{Divisor, Divided};
+ghost use Rattle.division.specs.Long.{Divisor, LongDivided};
 
 // Takes multiples of d, which has e + 1 coefficients, off n words of h until only e places are left; stores the factors in q.
 pub fn divide_words(
@@ -22,7 +22,7 @@ pub fn divide_words(
     requires dividend { ⌜ Canonical (m .p) (take n (now h)) × AtMost (m .p) (now h) ⌝ }
     requires divisor { ⌜ Divisor (m .p) (now d) e inverse ⌝ }
     requires zero { ⌜ AtMost 0 (now q) ⌝ }
-    ensures { λ _. ⌜ Divided (m .p) (take n (now (h .entry))) n (take (e + 1) (now (d .entry))) (now (q .exit)) (now (h .exit)) ⌝ }
+    ensures { λ _. ⌜ LongDivided (m .p) (take n (now (h .entry))) n (take (e + 1) (now (d .entry))) (now (q .exit)) (now (h .exit)) ⌝ }
 {
     let mut k = n;
     while e < k {

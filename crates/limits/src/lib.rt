@@ -52,6 +52,11 @@ impl Office {
 
     pub const CERTIFICATE_COEFFICIENTS: u16 = 121;
 
+    // The most polynomials of a system, and of a certificate.
+    pub const SYSTEM_POLYNOMIALS: usize = 72;
+
+    pub const CERTIFICATE_POLYNOMIALS: usize = 18;
+
     pub const SYSTEM_WORDS: usize = 1226;
 
     pub const CERTIFICATE_WORDS: usize = 2198;

@@ -16,7 +16,7 @@ use Rattle.words.specs.Limits.{Limits, longestCertificate}
 use Rattle.words.specs.Outcome.{Outcome, refuse, followedBy}
 use Rattle.words.specs.Outcome.Outcome.{accepted, refused}
 use Rattle.words.specs.OutcomeLaws.{refused-accepted}
-use Rattle.words.specs.System.{System, Shape, shape, rightSide, readSystem}
+use Rattle.words.specs.System.{System, Shape, shape, sideEntry, readSystem}
 use Rattle.words.specs.RefusedLaws as reading
 use Rattle.words.specs.Bytes.{wordsOf, broken, tooLong, readSystemFile}
 use Rattle.words.specs.Certificate.{Certificate, readCertificate}
@@ -112,7 +112,7 @@ module _ (limits : Limits) where
       let p = s .modulus in
       refusals-row (not (monic? p d)) 31 0 _ (omega arith) (omega arith)
       (refusals-row (not (monic? p w)) 31 1 _ (omega arith) (omega arith)
-      (refusals-first (s .rows) (λ i. not (same? (rowOf s N i) (mul (modulo p) d (rightSide s i)))) 32 _ (omega arith) (omega arith)
+      (refusals-first (s .rows) (λ i. not (same? (rowOf s N i) (mul (modulo p) d (sideEntry s i)))) 32 _ (omega arith) (omega arith)
       (refusals-first (s .columns) (λ j. not (zero? (remainder (modulo p) (columnOf s Z j) w))) 33 _ (omega arith) (omega arith)
       (refusals-row (not (same? (certified s w Z) d)) 34 0 _ (omega arith) (omega arith) (refusals-accepted tt)))))
   says-numbers s (absence q) =

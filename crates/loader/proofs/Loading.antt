@@ -14,12 +14,12 @@ use Rattle.words.specs.Frame.{endWord, entryPlace}
 use Rattle.words.specs.PolynomialLaws.{length-polynomialWords}
 use Rattle.words.specs.PlaceLaws.{entry-words, entryPlace-zero, entryPlace-next, count-at, coefficient-at}
 use Rattle.vector.specs.Stored.{stored, length-stored, stored-inside, stored-outside}
-use Rattle.loader.specs.Slot.{Holds, Stands}
+use Rattle.loader.specs.Slot.{FramedForSlots, InSlots}
 use Rattle.loader.specs.SlotLaws.{slot-before, slot-is}
 
 -- ---- the words at the place of polynomial k
 
-module _ {width : ℕ} {ws : List ℕ} {fs : List (List ℕ)} (h : Holds width ws fs) (k : ℕ) (some : k < length fs) where
+module _ {width : ℕ} {ws : List ℕ} {fs : List (List ℕ)} (h : FramedForSlots width ws fs) (k : ℕ) (some : k < length fs) where
   abbrev f : List ℕ
   f = getD fs k []
 
@@ -75,7 +75,7 @@ pub record Loading (width : ℕ) (fs : List (List ℕ)) (area : List ℕ) (at k 
 pub record Loads (width : ℕ) (ws : List ℕ) (count : ℕ) (before area : List ℕ) (at k : ℕ) : Type 0 where
   pub within : k ≤ count
   pub same-length : length area ≡ length before
-  pub loading : (fs : List (List ℕ)) → Holds width ws fs → length fs ≡ count → Loading width fs area at k
+  pub loading : (fs : List (List ℕ)) → FramedForSlots width ws fs → length fs ≡ count → Loading width fs area at k
 
 pub loads-start : (width : ℕ) (ws : List ℕ) (count : ℕ) (area : List ℕ) → Loads width ws count area area 1 0
 loads-start width ws count area = record {
@@ -95,7 +95,7 @@ module _
     (room : count * width ≤ length before)
   where
     -- a turn stores a polynomial in slot k
-    module _ (fs : List (List ℕ)) (h : Holds width ws fs) (all : length fs ≡ count) where
+    module _ (fs : List (List ℕ)) (h : FramedForSlots width ws fs) (all : length fs ≡ count) where
       abbrev next : List ℕ
       next = getD fs k []
 
@@ -160,7 +160,7 @@ module _
     }
 
 pub loads-end : {width : ℕ} {ws : List ℕ} {count : ℕ} {before area : List ℕ} {at k : ℕ} → Loads width ws count before area at k → count ≤ k
-    → count * width ≤ length before → (fs : List (List ℕ)) → Holds width ws fs → length fs ≡ count → Stands width area fs
+    → count * width ≤ length before → (fs : List (List ℕ)) → FramedForSlots width ws fs → length fs ≡ count → InSlots width area fs
 loads-end {width} {area = area} done past room fs h all = record {
   sizes = λ j lt. in-slot j lt .size;
   slots =

@@ -14,10 +14,10 @@ use Rattle.words.specs.System.{System, Shape, SystemWithin, ShapeWithin, shape,
 use Rattle.words.specs.SystemLaws.{system-laws}
 use Rattle.words.specs.Certificate.{Certificate, CertificateWithin, certificateForm, certificateEntries, formWord, certificateWords, entryCount}
 use Rattle.words.specs.CertificateLaws.{certificate-laws}
-use Rattle.loader.specs.Slot.{Holds}
+use Rattle.loader.specs.Slot.{FramedForSlots}
 
 holds-framed : {p limit n : ℕ} (head : ℕ) (ws : List ℕ) (fs : List (List ℕ)) → ws ≡ framedWords head fs → VectorWithin p limit n fs
-    → p ≤ largestModulus → limit ≤ 65535 → Holds (limit + 1) ws fs
+    → p ≤ largestModulus → limit ≤ 65535 → FramedForSlots (limit + 1) ws fs
 holds-framed {p} {limit} head ws fs words within small few = record {
   head = head;
   words = words;
@@ -33,7 +33,7 @@ module _ (limits : Limits) (fit : LimitsFit limits) (ws : List ℕ) where
     system-entries : VectorWithin (s .modulus) (limits .systemCoefficients) (systemCount (s .rows) (s .columns)) (systemEntries s)
     system-entries = system-laws limits fit .apart s within .entries
 
-    pub system-holds : Holds (limits .systemCoefficients + 1) ws (systemEntries s)
+    pub system-holds : FramedForSlots (limits .systemCoefficients + 1) ws (systemEntries s)
     unfolding systemWords
     system-holds = holds-framed (headWord (shape s)) ws (systemEntries s) written system-entries (within .shape .modulus) (fit .systemCoefficients)
 
@@ -47,7 +47,7 @@ module _ (limits : Limits) (fit : LimitsFit limits) (ws : List ℕ) where
     certificate-entries : VectorWithin (h .modulus) (limits .certificateCoefficients) (entryCount h (certificateForm c)) (certificateEntries c)
     certificate-entries = certificate-laws limits h .apart c within .entries
 
-    pub certificate-holds : Holds (limits .certificateCoefficients + 1) ws (certificateEntries c)
+    pub certificate-holds : FramedForSlots (limits .certificateCoefficients + 1) ws (certificateEntries c)
     unfolding certificateWords
     certificate-holds =
         holds-framed

@@ -1,4 +1,5 @@
--- interface, what contracts, other crates and PROVED.md cite: Slot, SlotLaws, HoldLaws
+-- interface, what contracts, other crates and PROVED.md cite: Widths, Slot, SlotLaws, HoldLaws
+pub mod Widths
 pub mod Slot
 pub mod SlotLaws
 pub mod HoldLaws

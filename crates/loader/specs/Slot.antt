@@ -11,7 +11,7 @@ unfoldable pub slot : ℕ → List ℕ → ℕ → List ℕ
 slot width area k = take (getD area (k * width) 0) (drop (k * width + 1) area)
 
 -- the words are a head, these polynomials and an end, and each polynomial fits a slot
-pub record Holds (width : ℕ) (ws : List ℕ) (fs : List (List ℕ)) : Type 0 where
+pub record FramedForSlots (width : ℕ) (ws : List ℕ) (fs : List (List ℕ)) : Type 0 where
   pub head : ℕ
   pub words : ws ≡ framedWords head fs
   pub modulus : ℕ
@@ -21,12 +21,12 @@ pub record Holds (width : ℕ) (ws : List ℕ) (fs : List (List ℕ)) : Type 0 w
   pub narrow : width ≤ 268435456
 
 -- each of these polynomials stands in its slot
-pub record Stands (width : ℕ) (area : List ℕ) (fs : List (List ℕ)) : Type 0 where
+pub record InSlots (width : ℕ) (area : List ℕ) (fs : List (List ℕ)) : Type 0 where
   pub sizes : (k : ℕ) → k < length fs → getD area (k * width) 0 ≡ length (getD fs k [])
   pub slots : (k : ℕ) → k < length fs → slot width area k ≡ getD fs k []
 
 -- slot k holds a polynomial modulo p
-pub record Filled (p width : ℕ) (area : List ℕ) (k : ℕ) : Type 0 where
+pub record SlotFilled (p width : ℕ) (area : List ℕ) (k : ℕ) : Type 0 where
   pub room : k * width + width ≤ length area
   pub size : getD area (k * width) 0 < width
   pub canonical : Canonical p (slot width area k)

@@ -9,7 +9,7 @@ use lib.Seq.{length-take-le, take-all, getD-take, getD-drop, ext-getD}
 use Rattle.modular.specs.Canonical.{Canonical}
 use Rattle.modular.specs.Coefficientwise.{coefficient-getD, coefficient-below}
 use Rattle.vector.specs.Reduced.{reduced, polynomial, reduced-is}
-use Rattle.loader.specs.Slot.{slot, Stands, Filled}
+use Rattle.loader.specs.Slot.{slot, InSlots, SlotFilled}
 
 -- a slot before another ends where that begins, or earlier
 pub slot-before : (width : ℕ) {j k : ℕ} → j < k → j * width + width ≤ k * width
@@ -43,13 +43,13 @@ module _ (p : ℕ) (positive : 0 < p) (f : List ℕ) (canonical : Canonical p f)
 
 -- ---- filled slots
 
-pub filled-size : {p width : ℕ} {area : List ℕ} {k : ℕ} → Filled p width area k → length (slot width area k) < width
+pub filled-size : {p width : ℕ} {area : List ℕ} {k : ℕ} → SlotFilled p width area k → length (slot width area k) < width
 filled-size {p} {width} {area} {k} filled =
     let size = filled .size in
     omega (arith, length-slot width area k (omega (arith, filled .room)))
 
 -- the coefficients that were taken out of one
-module _ {p width : ℕ} {area : List ℕ} {k : ℕ} {f : List ℕ} (is : f ≡ slot width area k) (filled : Filled p width area k) where
+module _ {p width : ℕ} {area : List ℕ} {k : ℕ} {f : List ℕ} (is : f ≡ slot width area k) (filled : SlotFilled p width area k) where
   pub taken-canonical : Canonical p f
   taken-canonical = rw is (filled .canonical)
 
@@ -57,8 +57,9 @@ module _ {p width : ℕ} {area : List ℕ} {k : ℕ} {f : List ℕ} (is : f ≡ 
   taken-size = rw is (filled-size filled)
 
 -- what `load` leaves is filled
-pub stands-filled : {p width : ℕ} {area : List ℕ} {fs : List (List ℕ)} → Stands width area fs → (k : ℕ) → k < length fs → length fs * width ≤ length area
-    → length (getD fs k []) < width → Canonical p (getD fs k []) → Filled p width area k
+pub stands-filled : {p width : ℕ} {area : List ℕ} {fs : List (List ℕ)} → InSlots width area fs → (k : ℕ) → k < length fs
+    → length fs * width ≤ length area
+    → length (getD fs k []) < width → Canonical p (getD fs k []) → SlotFilled p width area k
 stands-filled {p} {width} stands k lt room small canonical = record {
   room = omega (arith, slot-before width lt);
   size = omega (arith, stands .sizes k lt);

@@ -1,5 +1,7 @@
 // Polynomials loaded from the words of a system or a certificate that was read, each into a slot of an area: a number of
 // coefficients, then these, as the loops on words take them.
+pub mod width;
+
 use polynomial::Polynomial;
 use read_frame::word::payload_of;
 use residue::modulus::Modulus;
@@ -11,7 +13,7 @@ ghost use Rattle.words.specs.Word.{payload};
 ghost use Rattle.vector.specs.Stored.{stored};
 ghost use Rattle.residue.specs.Modulus.{ValidModulus};
 ghost use Rattle.polynomial.specs.Value.{Represents};
-ghost use Rattle.loader.specs.Slot.{slot, Holds, Stands, Filled};
+ghost use Rattle.loader.specs.Slot.{slot, FramedForSlots, InSlots, SlotFilled};
 
 // Stores the payload of words[a + j] at area[d + j] for j below n.
 fn copy_payloads(area: &mut [u64], d: usize, words: &[u32], a: usize, n: usize)
@@ -27,9 +29,10 @@ fn copy_payloads(area: &mut [u64], d: usize, words: &[u32], a: usize, n: usize)
 
 // Loads the `count` polynomials of `words`, each into its slot of `width` words.
 pub fn load(area: &mut [u64], width: usize, words: &[u32], count: usize)
-    requires { ⌜ ((fs : List (List ℕ)) × Holds width (now words) fs × (length fs ≡ count)) × (count * width ≤ length (now area)) ⌝ }
-    ensures { λ _. ⌜ ((fs : List (List ℕ)) → Holds width (now (words .entry)) fs → length fs ≡ count
-        → Stands width (now (area .exit)) fs) ⌝ }
+    requires { ⌜ ((fs : List (List ℕ)) × FramedForSlots width (now words) fs × (length fs ≡ count))
+        × (count * width ≤ length (now area)) ⌝ }
+    ensures { λ _. ⌜ ((fs : List (List ℕ)) → FramedForSlots width (now (words .entry)) fs → length fs ≡ count
+        → InSlots width (now (area .exit)) fs) ⌝ }
 {
     let mut at = 1;
     let mut k = 0;
@@ -54,7 +57,7 @@ pub fn coefficients_in(area: &[u64], width: usize, k: usize) -> &[u64]
 
 // Returns the polynomial in slot k.
 pub fn polynomial_in(area: &[u64], width: usize, k: usize, m: Modulus) -> Polynomial
-    requires { ⌜ ValidModulus m × Filled (m .p) width (now area) k × (width ≤ 257) ⌝ }
+    requires { ⌜ ValidModulus m × SlotFilled (m .p) width (now area) k × (width ≤ 257) ⌝ }
     ensures { λ r. ⌜ Represents (m .p) r (slot width (now (area .entry)) k) ⌝ }
 {
     let f = coefficients_in(area, width, k);

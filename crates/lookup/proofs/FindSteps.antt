@@ -12,7 +12,7 @@ use Rattle.words.specs.Certificate.{Certificate, Form, certificateForm, readCer
 use Rattle.lookup.specs.Lookup.{Side, Part, on, entriesOn, shown, polynomialLookup, boundsShown}
 use Rattle.lookup.specs.Answer.{partOutcome}
 use Rattle.lookup.specs.Lookup.Side.{system, certificate}
-use Rattle.lookup.specs.Holding.{Holds, Holding}
+use Rattle.lookup.specs.Holding.{HasPolynomials, Holding}
 use Rattle.words.specs.OutcomeLaws.{mapped-accepted, mapped-refused}
 use Rattle.lookup.specs.FramedLaws.{FramedIn, system-framed, certificate-framed, framed-size}
 use Rattle.lookup.specs.LookupLaws.{lookup-system-refused, lookup-certificate-refused, lookup-read}
@@ -20,7 +20,7 @@ use Rattle.lookup.specs.declared.part.Part.{Part as PartValue}
 use Rattle.lookup.specs.declared.part.Part.the-variants.{Refused}
 use Rattle.answers.specs.declared.answer.Refusal.{Refusal}
 
-holds : {ws : List ℕ} {due : Due} {fs : List (List ℕ)} → due .limit ≤ 65535 → FramedIn ws due fs → Holds ws fs
+holds : {ws : List ℕ} {due : Due} {fs : List (List ℕ)} → due .limit ≤ 65535 → FramedIn ws due fs → HasPolynomials ws fs
 holds few f = record { head = f .head; words = f .words; sizes = λ k. let s = framed-size f k in omega arith }
 
 module _ (limits : Limits) (ss cs : List ℕ) (side : Side) (k : ℕ) where
@@ -64,7 +64,7 @@ module _ (limits : Limits) (ss cs : List ℕ) (side : Side) (k : ℕ) where
       c = read-certificate .0
 
       module _ (few : limits .systemCoefficients ≤ 65535) (few′ : limits .certificateCoefficients ≤ 65535) where
-        holds-on : (side : Side) → Holds (on side ss cs) (entriesOn side s c)
+        holds-on : (side : Side) → HasPolynomials (on side ss cs) (entriesOn side s c)
         unfolding s c
         holds-on system = holds few (system-framed limits ss s (read-system .1))
         holds-on certificate = holds few′ (certificate-framed limits cs (shape s) c (read-certificate .1))
@@ -73,7 +73,7 @@ module _ (limits : Limits) (ss cs : List ℕ) (side : Side) (k : ℕ) where
         find-holding ws e = rw e (_, holds-on side)
 
         pub find-part : (ws : List ℕ) → ws ≡ on side ss cs → (r : PartValue)
-            → ((fs : List (List ℕ)) → Holds ws fs → partOutcome r ≡ boundsShown (shown k fs))
+            → ((fs : List (List ℕ)) → HasPolynomials ws fs → partOutcome r ≡ boundsShown (shown k fs))
             → Tells r
         unfolding s c
         find-part ws e r found =

@@ -17,12 +17,12 @@ use Rattle.words.specs.PlaceLaws.{entry-words, entryPlace-zero, entryPlace-next
 use Rattle.lookup.specs.Lookup.{partOf, shown, bounds, boundsShown}
 use Rattle.lookup.specs.Answer.{partOutcome}
 use Rattle.lookup.specs.FramedLaws.{polynomial-from, polynomial-inside}
-use Rattle.lookup.specs.Holding.{Holds, Holding, Stands}
+use Rattle.lookup.specs.Holding.{HasPolynomials, Holding, StartsAt}
 use Rattle.lookup.specs.declared.part.Part.the-variants.{Words, Refused}
 
 -- ---- what stands at a place
 
-module _ {ws : List ℕ} {fs : List (List ℕ)} (h : Holds ws fs) (k at : ℕ) (place : at ≡ entryPlace fs k) where
+module _ {ws : List ℕ} {fs : List (List ℕ)} (h : HasPolynomials ws fs) (k at : ℕ) (place : at ≡ entryPlace fs k) where
   end : List ℕ
   end = endWord (1 + length (polynomialsWords fs)) ∷ []
 
@@ -104,11 +104,11 @@ module _ {ws : List ℕ} {fs : List (List ℕ)} (h : Holds ws fs) (k at : ℕ) (
 
 -- ---- a place that the walk has reached
 
-pub stands-start : (ws : List ℕ) → Stands ws 0 1
+pub stands-start : (ws : List ℕ) → StartsAt ws 0 1
 stands-start ws = record { place = λ fs h. sym (entryPlace-zero fs) }
 
-module _ {ws : List ℕ} {k at : ℕ} (s : Stands ws k at) where
-  pub stands-as : (j : ℕ) → k ≡ j → Stands ws j at
+module _ {ws : List ℕ} {k at : ℕ} (s : StartsAt ws k at) where
+  pub stands-as : (j : ℕ) → k ≡ j → StartsAt ws j at
   stands-as j e = rw (← e) s
 
   pub stands-inside : Holding ws → at < length ws
@@ -116,7 +116,7 @@ module _ {ws : List ℕ} {k at : ℕ} (s : Stands ws k at) where
 
   -- no polynomials are left
   module _ (other : kind (getD ws at 0) ≡ 2 → ⊥) where
-    pub stands-past : (j : ℕ) → k ≤ j → Stands ws j at
+    pub stands-past : (j : ℕ) → k ≤ j → StartsAt ws j at
     unfolding entryPlace
     stands-past j l = record {
       place = λ fs h.
@@ -125,7 +125,7 @@ module _ {ws : List ℕ} {k at : ℕ} (s : Stands ws k at) where
           e ∙ rw (take-all k fs n, take-all j fs (omega arith)) refl;
     }
 
-    pub stands-none : (fs : List (List ℕ)) → Holds ws fs
+    pub stands-none : (fs : List (List ℕ)) → HasPolynomials ws fs
         → partOutcome (Refused (record { number = 12; place = 0 })) ≡ boundsShown (shown k fs)
     stands-none fs h =
         let e = s .place fs h in
@@ -138,14 +138,14 @@ module _ {ws : List ℕ} {k at : ℕ} (s : Stands ws k at) where
         let e = s .place (w .0) (w .1) in
         next-inside (w .1) k at e (some-by-kind (w .1) k at e two) count counted
 
-    pub stands-next : Stands ws (suc k) (at + 1 + count)
+    pub stands-next : StartsAt ws (suc k) (at + 1 + count)
     stands-next = record {
       place = λ fs h.
           let e = s .place fs h in
           next-place h k at e (some-by-kind h k at e two) count counted;
     }
 
-    pub stands-shown : (fs : List (List ℕ)) → Holds ws fs → partOutcome (Words at (at + 1 + count)) ≡ boundsShown (shown k fs)
+    pub stands-shown : (fs : List (List ℕ)) → HasPolynomials ws fs → partOutcome (Words at (at + 1 + count)) ≡ boundsShown (shown k fs)
     stands-shown fs h =
         let e = s .place fs h in
         let some = some-by-kind h k at e two in

@@ -9,9 +9,9 @@ use Rattle.lookup.specs.declared.Side.the-variants.{System, Certificate}
 use Rattle.lookup.specs.declared.part.Part.{Part}
 use Rattle.lookup.specs.declared.part.Part.the-variants.{Words, Refused}
 
-abbrev pub sideOf : SideValue → Side
-sideOf System = system
-sideOf Certificate = certificate
+abbrev pub sideAsked : SideValue → Side
+sideAsked System = system
+sideAsked Certificate = certificate
 
 -- from one place up to before another, or why nowhere
 abbrev pub partOutcome : Part → Outcome (ℕ × ℕ)

@@ -7,15 +7,15 @@ use lib.ListN.{length, getD}
 use Rattle.words.specs.Frame.{framedWords, entryPlace}
 
 -- these polynomials, each of which has its number of coefficients in its start word
-pub record Holds (ws : List ℕ) (fs : List (List ℕ)) : Type 0 where
+pub record HasPolynomials (ws : List ℕ) (fs : List (List ℕ)) : Type 0 where
   pub head : ℕ
   pub words : ws ≡ framedWords head fs
   pub sizes : (k : ℕ) → length (getD fs k []) < 268435456
 
 -- some polynomials
 abbrev pub Holding : List ℕ → Type 0
-Holding ws = (fs : List (List ℕ)) × Holds ws fs
+Holding ws = (fs : List (List ℕ)) × HasPolynomials ws fs
 
 -- at a place stands the start word of polynomial k; behind the last polynomial, the end word
-pub record Stands (ws : List ℕ) (k at : ℕ) : Type 0 where
-  pub place : (fs : List (List ℕ)) → Holds ws fs → at ≡ entryPlace fs k
+pub record StartsAt (ws : List ℕ) (k at : ℕ) : Type 0 where
+  pub place : (fs : List (List ℕ)) → HasPolynomials ws fs → at ≡ entryPlace fs k

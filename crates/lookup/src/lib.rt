@@ -14,7 +14,7 @@ ghost use mathlib.Core.Path.{_≡_};
 ghost use Rattle.limits.specs.Value.{limitsOf};
 ghost use Rattle.lookup.specs.Lookup.{on, polynomialLookup, Borrows, companion, boundsShown};
 ghost use Rattle.answers.specs.Answer.{verdictOutcome};
-ghost use Rattle.lookup.specs.Answer.{sideOf, partOutcome};
+ghost use Rattle.lookup.specs.Answer.{sideAsked, partOutcome};
 
 // Where the polynomial is to be looked up.
 pub enum Side {
@@ -26,8 +26,8 @@ pub enum Side {
 
 // Borrows the words of the side that is asked for.
 fn words_on<'a>(side: Side, system: &'a [u32], certificate: &'a [u32]) -> &'a [u32]
-    ensures { λ r. ⌜ (now r ≡ on (sideOf side) (now (system .entry)) (now (certificate .entry)))
-        × (r .ptr ≡ on (sideOf side) (system .entry .ptr) (certificate .entry .ptr)) ⌝ }
+    ensures { λ r. ⌜ (now r ≡ on (sideAsked side) (now (system .entry)) (now (certificate .entry)))
+        × (r .ptr ≡ on (sideAsked side) (system .entry .ptr) (certificate .entry .ptr)) ⌝ }
 {
     match side {
         Side::System => system,
@@ -45,7 +45,7 @@ pub fn lookup_part(
     limits: Limits,
 ) -> Part
     ensures { λ r. ⌜ partOutcome r ≡
-        boundsShown (polynomialLookup (limitsOf limits) (now (system .entry)) (now (certificate .entry)) (sideOf side) number) ⌝ }
+        boundsShown (polynomialLookup (limitsOf limits) (now (system .entry)) (now (certificate .entry)) (sideAsked side) number) ⌝ }
 {
     let read = read_system(system, limits);
     match read {
@@ -72,8 +72,8 @@ pub fn lookup<'a>(
     limits: Limits,
 ) -> &'a [u32]
     ensures { λ r. ⌜ Borrows
-        (polynomialLookup (limitsOf limits) (now (system .entry)) (now (certificate .entry)) (sideOf side) number)
-        (on (sideOf side) (system .entry .ptr) (certificate .entry .ptr)) (r .ptr) (now r) ⌝ }
+        (polynomialLookup (limitsOf limits) (now (system .entry)) (now (certificate .entry)) (sideAsked side) number)
+        (on (sideAsked side) (system .entry .ptr) (certificate .entry .ptr)) (r .ptr) (now r) ⌝ }
 {
     let words = words_on(side, system, certificate);
     let part = lookup_part(system, certificate, side, number, limits);
@@ -92,7 +92,7 @@ pub fn lookup_refusal(
     limits: Limits,
 ) -> Verdict
     ensures { λ r. ⌜ verdictOutcome r ≡
-        companion (polynomialLookup (limitsOf limits) (now (system .entry)) (now (certificate .entry)) (sideOf side) number) ⌝ }
+        companion (polynomialLookup (limitsOf limits) (now (system .entry)) (now (certificate .entry)) (sideAsked side) number) ⌝ }
 {
     let part = lookup_part(system, certificate, side, number, limits);
     match part {

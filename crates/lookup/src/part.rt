@@ -8,7 +8,7 @@ ghost use mathlib.Core.List.{List};
 ghost use Prim.Native.Nat.{ℕ};
 ghost use Rattle.lookup.specs.Lookup.{shown, boundsShown};
 ghost use Rattle.lookup.specs.Answer.{partOutcome};
-ghost use Rattle.lookup.specs.Holding.{Holds, Holding, Stands};
+ghost use Rattle.lookup.specs.Holding.{HasPolynomials, Holding, StartsAt};
 
 // Where a polynomial stands in the words of its side.
 pub enum Part {
@@ -20,7 +20,7 @@ pub enum Part {
 // Finds the place of the start word of polynomial `number`; behind the last polynomial that of the end word.
 fn start_of(words: &[u32], number: usize) -> usize
     requires { ⌜ Holding (now words) ⌝ }
-    ensures { λ r. ⌜ Stands (now (words .entry)) number r ⌝ }
+    ensures { λ r. ⌜ StartsAt (now (words .entry)) number r ⌝ }
 {
     let mut at: usize = 1;
     let mut left = number;
@@ -38,7 +38,7 @@ fn start_of(words: &[u32], number: usize) -> usize
 // Finds where polynomial `number` stands.
 pub fn part_of(words: &[u32], number: usize) -> Part
     requires { ⌜ Holding (now words) ⌝ }
-    ensures { λ r. ⌜ ((fs : List (List ℕ)) → Holds (now (words .entry)) fs → partOutcome r ≡ boundsShown (shown number fs)) ⌝ }
+    ensures { λ r. ⌜ ((fs : List (List ℕ)) → HasPolynomials (now (words .entry)) fs → partOutcome r ≡ boundsShown (shown number fs)) ⌝ }
 {
     let from = start_of(words, number);
     let word = words[from];

@@ -3,11 +3,11 @@ use mathlib.Core.List.{List, [], _∷_}
 use Prim.Native.Nat.{ℕ, _<_}
 
 -- of the coefficient a with f behind it: it is not the last, or it is not 0
-unfoldable pub Ends : ℕ → List ℕ → Type 0
-Ends a [] = 0 < a
-Ends a (b ∷ f) = Unit {0}
+unfoldable pub LastNonzero : ℕ → List ℕ → Type 0
+LastNonzero a [] = 0 < a
+LastNonzero a (b ∷ f) = Unit {0}
 
 unfoldable pub Canonical : ℕ → List ℕ → Type 0
-unfolding Ends
+unfolding LastNonzero
 Canonical p [] = Unit {0}
-Canonical p (a ∷ f) = (a < p) × Ends a f × Canonical p f
+Canonical p (a ∷ f) = (a < p) × LastNonzero a f × Canonical p f

@@ -13,7 +13,7 @@ use Rattle.algebra.specs.Operations.{Operations}
 use Rattle.algebra.specs.Coefficients.{single, cons, constant, one, coefficient, leading, add, negate, subtract, scale, shift}
 use Rattle.algebra.specs.Coefficients.{mul, monic, divide, quotient, remainder, euclid, gcd}
 use Rattle.modular.specs.Modulo.{modulo}
-use Rattle.modular.specs.Canonical.{Canonical, Ends}
+use Rattle.modular.specs.Canonical.{Canonical, LastNonzero}
 
 module _ (p : ℕ) where
   abbrev o : Operations ℕ
@@ -37,7 +37,7 @@ module _ (p : ℕ) where
   canonical-single a false e h = let z : ¬ (a ≡ 0) = eqb-false a 0 e in (h, omega arith, tt)
 
   pub canonical-cons : (a : ℕ) (f : List ℕ) → a < p → Canonical p f → Canonical p (cons o a f)
-  unfolding modulo cons Canonical Ends
+  unfolding modulo cons Canonical LastNonzero
   canonical-cons a [] h hf = canonical-single a (eqb a 0) refl h
   canonical-cons a (b ∷ f) h hf = (h, tt, hf)
 

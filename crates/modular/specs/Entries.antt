@@ -4,12 +4,12 @@ use mathlib.Core.List.{List, [], _∷_}
 use Prim.Native.Nat.{ℕ, zero, suc, _<_}
 use native.Mathlib.Omega.{arith}
 use lib.ListN.{length, getD}
-use Rattle.modular.specs.Canonical.{Canonical, Ends}
+use Rattle.modular.specs.Canonical.{Canonical, LastNonzero}
 
 module _ (p : ℕ) where
   pub canonical-entries : (f : List ℕ) → ((i : ℕ) → i < length f → getD f i 0 < p)
       → ((n : ℕ) → length f ≡ suc n → 0 < getD f n 0) → Canonical p f
-  unfolding Canonical Ends
+  unfolding Canonical LastNonzero
   canonical-entries [] below last = tt
   canonical-entries (a ∷ []) below last = (below 0 (omega arith), last 0 (omega arith), tt)
   canonical-entries (a ∷ b ∷ f) below last =

@@ -9,7 +9,8 @@ use Rattle.algebra.specs.Operations.{Operations}
 use Rattle.algebra.specs.Coefficients.{cons, coefficient, add, scale, shift, mul}
 use Rattle.modular.specs.Modulo.{modulo}
 use Rattle.modular.specs.Canonical.{Canonical}
-use Rattle.modular.specs.Total.{total, total-ext, total-front, total-beyond, total-bound}
+use Rattle.ring.specs.Total.{total, total-ext}
+use Rattle.modular.specs.Total.{total-front, total-beyond, total-bound}
 use Rattle.modular.specs.Closed.{canonical-nil, canonical-cons, canonical-add, canonical-scale, canonical-shift}
 use Rattle.modular.specs.Closed.{canonical-multiple, canonical-mul}
 use Rattle.modular.specs.Coefficientwise.{coefficient-nil, coefficient-beyond, coefficient-below, canonical-same}

@@ -4,16 +4,7 @@ use Prim.Native.Nat.{ℕ, zero, suc, _+_, _*_, _%_, _≤_, _<_}
 use native.Mathlib.Nat.{add-zero, add-assoc, add-mod, suc-mul}
 use native.Mathlib.Decide.{le-ind}
 use native.Mathlib.Omega.{arith}
-
--- t 0 + .. + t (n - 1)
-unfoldable pub total : ℕ → (ℕ → ℕ) → ℕ
-total zero t = 0
-total (suc n) t = total n t + t n
-
-pub total-ext : (n : ℕ) (t u : ℕ → ℕ) → ((i : ℕ) → i < n → t i ≡ u i) → total n t ≡ total n u
-unfolding total
-total-ext zero t u e = refl
-total-ext (suc n) t u e = ap₂ _+_ (total-ext n t u (λ i h. e i (omega arith))) (e n (omega arith))
+use Rattle.ring.specs.Total.{total, total-ext}
 
 pub total-front : (n : ℕ) (t : ℕ → ℕ) → total (suc n) t ≡ t 0 + total n (λ i. t (suc i))
 unfolding total

@@ -10,14 +10,14 @@ use Rattle.algebra.specs.Canonical.{Canonical as Canonicalᶠ}
 use Rattle.algebra.specs.Polynomial.{Polynomial, equal-lists}
 use Rattle.modular.specs.Prime.{Prime}
 use Rattle.modular.specs.Residue.{Residue, value, residue-ext, residue-positive, residues}
-use Rattle.modular.specs.Canonical.{Canonical, Ends}
+use Rattle.modular.specs.Canonical.{Canonical, LastNonzero}
 
 -- a canonical list of numbers: a polynomial modulo p as a value
 abbrev pub NumberPolynomial : ℕ → Type 0
 NumberPolynomial p = (f : List ℕ) × Canonical p f
 
-ends-unique : (a : ℕ) (f : List ℕ) → IsProp (Ends a f)
-unfolding Ends
+ends-unique : (a : ℕ) (f : List ℕ) → IsProp (LastNonzero a f)
+unfolding LastNonzero
 ends-unique a [] = le-prop {n = 1} {m = a}
 ends-unique a (b ∷ f) = Unit-prop
 
@@ -38,7 +38,7 @@ values-injective (a ∷ f) (b ∷ g) e = ap₂ _∷_ (residue-ext a b (cc)) (val
 
 module _ (p : ℕ) (prime : Prime p) where
   pub canonical-values : (f : List (Residue p)) → Canonicalᶠ (residues p prime) f → Canonical p (map value f)
-  unfolding Canonical Ends residues
+  unfolding Canonical LastNonzero residues
   canonical-values [] h = tt
   canonical-values (a ∷ []) h = (a .below, residue-positive p (prime .large) a h, tt)
   canonical-values (a ∷ b ∷ f) h = (a .below, tt, canonical-values (b ∷ f) h)
@@ -49,7 +49,7 @@ module _ (p : ℕ) (prime : Prime p) where
   withBounds (a ∷ f) h = record { value = a; below = h .0 } ∷ withBounds f (h .2)
 
   canonical-withBounds : (f : List ℕ) (h : Canonical p f) → Canonicalᶠ (residues p prime) (withBounds f h)
-  unfolding Canonical Ends withBounds residues
+  unfolding Canonical LastNonzero withBounds residues
   canonical-withBounds [] h = tt
   canonical-withBounds (a ∷ []) h = λ e. let z : a ≡ 0 = ap value e in omega (arith, h .1)
   canonical-withBounds (a ∷ b ∷ f) h = canonical-withBounds (b ∷ f) (h .2)

@@ -1,6 +1,7 @@
 // Sums and multiples, and the monic associate.
 use crate::value::Polynomial;
 use residue::modulus::Modulus;
+use residue::number::larger;
 use vector::add_scaled;
 ghost use mathlib.Core.Path.{_≡_};
 ghost use Prim.Native.Nat.{_<_, max};
@@ -8,13 +9,6 @@ ghost use Rattle.algebra.specs.Coefficients.{add, subtract, scale, monic};
 ghost use Rattle.modular.specs.Modulo.{modulo};
 ghost use Rattle.residue.specs.Modulus.{ValidModulus};
 ghost use Rattle.polynomial.specs.Value.{coefficientsOf, ValidPolynomial, Represents};
-
-// Returns the larger of two sizes.
-pub fn larger(a: usize, b: usize) -> usize
-    ensures { λ r. ⌜ r ≡ max a b ⌝ }
-{
-    if a < b { b } else { a }
-}
 
 impl Polynomial {
     // Returns self + c g. A sum, a difference and a multiple are each one of these.

@@ -1,7 +1,7 @@
 // Products: all terms of a product are added up before they are reduced.
-use crate::linear::larger;
 use crate::value::Polynomial;
 use residue::modulus::Modulus;
+use residue::number::larger;
 use vector::add_scaled;
 ghost use Prim.Native.Nat.{_+_, _≤_};
 ghost use lib.ListN.{length};

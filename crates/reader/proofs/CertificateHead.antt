@@ -10,7 +10,7 @@ use Rattle.words.specs.Word.{kind, payload}
 use Rattle.words.specs.Outcome.{Outcome}
 use Rattle.words.specs.Outcome.Outcome.{accepted, refused}
 use Rattle.words.specs.Reading.{outcome}
-use Rattle.words.specs.Certificate.{Form, formOf, certificateHeadFrom}
+use Rattle.words.specs.Certificate.{Form, formWhen, certificateHeadFrom}
 use Rattle.words.specs.Certificate.Form.{solving, absent}
 
 abbrev pub OfHead : List ℕ → Outcome Form
@@ -37,12 +37,12 @@ module _ (ws : List ℕ) (some : length ws ≡ 0 → ⊥) where
 
   module _ (five : kind w ≡ 5) where
     pub head-solution : payload w ≡ 1 → OfHead ws ≡ accepted solving
-    unfolding certificateHeadFrom formOf
+    unfolding certificateHeadFrom formWhen
     head-solution e = step ∙ simp (eq-eqb _ _ five, eq-eqb _ _ e)
 
     module _ (other : payload w ≡ 1 → ⊥) where
       pub head-absence : payload w ≡ 2 → OfHead ws ≡ accepted absent
-      unfolding certificateHeadFrom formOf
+      unfolding certificateHeadFrom formWhen
       head-absence e = step ∙ simp (eq-eqb _ _ five, ne-eqb _ _ other, eq-eqb _ _ e)
 
       pub head-form : (payload w ≡ 2 → ⊥) → OfHead ws ≡ refused 21 0

@@ -10,14 +10,14 @@ use read_frame::word::kind_of;
 use read_frame::word::payload_of;
 ghost use mathlib.Core.Path.{_≡_};
 ghost use Rattle.words.specs.Outcome.{mapped};
-ghost use Rattle.words.specs.Reading.{told};
+ghost use Rattle.words.specs.Reading.{outcomeOf};
 ghost use Rattle.words.specs.Certificate.{certificateForm, certificateHeadFrom, entryCount, readCertificate};
 ghost use Rattle.limits.specs.Value.{limitsOf};
 ghost use Rattle.answers.specs.Answer.{shapeOf, formOf, certificateOutcome};
 
 // Reads the head, which is the first word.
 fn read_head(words: &[u32]) -> CertificateRead
-    ensures { λ r. ⌜ certificateOutcome r ≡ told certificateHeadFrom (now (words .entry)) ⌝ }
+    ensures { λ r. ⌜ certificateOutcome r ≡ outcomeOf certificateHeadFrom (now (words .entry)) ⌝ }
 {
     let place: usize = 0;
     if words.len() == 0 {

@@ -10,14 +10,14 @@ use read_frame::word::kind_of;
 use residue::prime::is_prime;
 ghost use mathlib.Core.Path.{_≡_};
 ghost use Rattle.words.specs.Outcome.{mapped};
-ghost use Rattle.words.specs.Reading.{told};
+ghost use Rattle.words.specs.Reading.{outcomeOf};
 ghost use Rattle.words.specs.System.{shape, systemHeadFrom, readSystem};
 ghost use Rattle.limits.specs.Value.{limitsOf};
 ghost use Rattle.answers.specs.Answer.{systemOutcome};
 
 // Reads the head, which is the first word.
 fn read_head(words: &[u32], limits: Limits) -> SystemRead
-    ensures { λ r. ⌜ systemOutcome r ≡ told (systemHeadFrom (limitsOf limits)) (now (words .entry)) ⌝ }
+    ensures { λ r. ⌜ systemOutcome r ≡ outcomeOf (systemHeadFrom (limitsOf limits)) (now (words .entry)) ⌝ }
 {
     let place: usize = 0;
     if words.len() == 0 {

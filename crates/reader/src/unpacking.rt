@@ -1,5 +1,5 @@
 // The words of a file's bytes, four bytes to a word, lowest first.
-use answers::number::lesser;
+use residue::number::lesser;
 ghost use mathlib.Core.Path.{_≡_};
 ghost use Prim.Native.Nat.{_+_, _≤_};
 ghost use lib.ListN.{length};

@@ -23,19 +23,19 @@ use Rattle.reduction.specs.Euclidean.{Euclidean}
 use Rattle.reduction.specs.Trace.{State}
 use Rattle.reduction.specs.Insert.{Stuck}
 use Rattle.reduction.specs.Inserting.{Inserting, kept, inserting-blocks, inserting-hand}
-use Rattle.reduction.specs.System.{System}
-use Rattle.reduction.specs.Levels.{Columns, Level, level-spans}
+use Rattle.reduction.specs.System.{LinearSystem}
+use Rattle.reduction.specs.Levels.{Columns, LevelKnown, level-spans}
 use Rattle.reduction.specs.Dual.{Dual}
 use Rattle.reduction.specs.Transpose.{Tops}
-use Rattle.reduction.specs.Certificate.{RightAbsence, SmallAbsence}
+use Rattle.reduction.specs.Certificate.{RightAbsenceIn, SmallAbsence}
 use Rattle.reduction.specs.Killing.{PivotOf, Killing}
 
 -- the certificate: w at h, minus Y elsewhere
 abbrev pub absence : {A : Type 0} → Ring A → ℕ → A → (ℕ → A) → ℕ → A
 absence R h w Y = replace (λ k. R .neg (Y k)) h w
 
-module _ {A : Type 0} {R : Ring A} {S : Sized R} (E : Euclidean S) (T : System S) where
-  open System T using (rows as n, columns as m, degree as δ, matrix as M, right as b)
+module _ {A : Type 0} {R : Ring A} {S : Sized R} (E : Euclidean S) (T : LinearSystem S) where
+  open LinearSystem T using (rows as n, columns as m, degree as δ, matrix as M, side as b)
   open Ring R using (add as _+_, mul as _*_, neg as -_, zero as 𝟘, one as 𝟙)
   open Sized S using (size, size-neg)
 
@@ -46,7 +46,7 @@ module _ {A : Type 0} {R : Ring A} {S : Sized R} (E : Euclidean S) (T : System S
   abbrev _-_ : A → A → A
   a - b = a + (- b)
 
-  module _ {U : Slots A} (L : Level T m U) (X : Inserting S n unweighted U b) (K : Stuck S n unweighted (X .now)) where
+  module _ {U : Slots A} (L : LevelKnown T m U) (X : Inserting S n unweighted U b) (K : Stuck S n unweighted (X .now)) where
     abbrev t : State A
     t = X .now
 
@@ -152,7 +152,7 @@ module _ {A : Type 0} {R : Ring A} {S : Sized R} (E : Euclidean S) (T : System S
         contradiction = Q .nonzero (sym (replace-here (λ k. - Y k) h w) ∙ row-zero S n G q₀ pivots killed h (P .inside))
 
       -- L9
-      pub absence-right : RightAbsence E T (absence R (K .at) w Y)
+      pub absence-right : RightAbsenceIn E T (absence R (K .at) w Y)
       absence-right = record { kills = λ j l. kills (λ i. M i j) (L .spanned j l); nonzero = contradiction }
 
       pub absence-sizes : SmallAbsence E T (suc (rank n (U .size) *ₙ δ)) (absence R (K .at) w Y)

@@ -9,16 +9,16 @@ use Rattle.algebra.specs.Sized.{Sized}
 use Rattle.algebra.specs.Divides.{Divides}
 use Rattle.algebra.specs.Bezout.{Greatest}
 use Rattle.reduction.specs.Euclidean.{Euclidean}
-use Rattle.reduction.specs.System.{System}
+use Rattle.reduction.specs.System.{LinearSystem}
 
-module _ {A : Type 0} {R : Ring A} {S : Sized R} (E : Euclidean S) (T : System S) where
-  open System T using (rows as n, columns as m, matrix as M, right as b)
+module _ {A : Type 0} {R : Ring A} {S : Sized R} (E : Euclidean S) (T : LinearSystem S) where
+  open LinearSystem T using (rows as n, columns as m, matrix as M, side as b)
   open Ring R using (mul as _*_, zero as 𝟘)
 
   infixl 70 _*_
   -- "d and w are monic; A·N = d·b in every row; every entry of Z·A is divisible by w; w divided by the greatest common divisor of
   -- w and Z·b, made monic, is d"
-  pub record RightSolution (d : A) (N : ℕ → A) (w : A) (Z : ℕ → A) : Type 0 where
+  pub record RightSolutionIn (d : A) (N : ℕ → A) (w : A) (Z : ℕ → A) : Type 0 where
     pub monic : E .Monic d
     pub certifying-monic : E .Monic w
     pub solves : (i : ℕ) → i < n → sum R m (λ j. M i j * N j) ≡ d * b i
@@ -29,7 +29,7 @@ module _ {A : Type 0} {R : Ring A} {S : Sized R} (E : Euclidean S) (T : System S
     pub quotient : w ≡ d * divisor
 
   -- "q·A zero in every column and q·b not zero"
-  pub record RightAbsence (q : ℕ → A) : Type 0 where
+  pub record RightAbsenceIn (q : ℕ → A) : Type 0 where
     pub kills : (j : ℕ) → j < m → sum R n (λ i. q i * M i j) ≡ 𝟘
     pub nonzero : ¬ (sum R n (λ i. q i * b i) ≡ 𝟘)
 

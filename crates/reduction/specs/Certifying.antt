@@ -49,7 +49,7 @@ module _ {A : Type 0} {R : Ring A} (S : Sized R) (n m : ℕ) (M : ℕ → ℕ �
     -- z·b = 1/d modulo polynomials
     pub cofactor : A
     pub quotient : w ≡ d * cofactor
-    pub right : Divides R w (sum R n (λ i. Z i * b i) - cofactor)
+    pub side : Divides R w (sum R n (λ i. Z i * b i) - cofactor)
     pub short : (i : ℕ) → i < n → ¬ (Z i ≡ 𝟘) → Short w Z i
     -- lowest terms
     pub lowest : (c : A) (y : ℕ → A) → ((i : ℕ) → i < n → c * Z i ≡ y i * w) → Divides R w c
@@ -89,7 +89,7 @@ module _ {A : Type 0} {R : Ring A} (S : Sized R) (n m : ℕ) (M : ℕ → ℕ �
     row-divides = divides-equal
         (sym (ap (λ y. y - β * K .cofactor) apart
         ∙ identity R (Zm ∷ β ∷ Zb ∷ K .cofactor ∷ []) (λ ρ q1 q2 q3 q4. search quotes depth 16) refl))
-        (divides-add columns-divide (divides-mul β (K .right)))
+        (divides-add columns-divide (divides-mul β (K .side)))
 
   module _ {d w w₁ : A} {Z Z₁ : ℕ → A} (K : Certifying d w Z) (K₁ : Certifying d w₁ Z₁) where
     Y : ℕ → A

@@ -10,11 +10,12 @@ use Rattle.algebra.specs.Sized.{Sized, mul-cancel}
 use Rattle.algebra.specs.Divides.{Divides, divides-equal, divides-mul, divides-sum, divides-products, mul-divides-cancel}
 use Rattle.algebra.specs.Bezout.{Greatest}
 use Rattle.reduction.specs.Euclidean.{Euclidean}
-use Rattle.reduction.specs.System.{System}
-use Rattle.reduction.specs.Certificate.{RightSolution}
+use Rattle.reduction.specs.System.{LinearSystem}
+use Rattle.reduction.specs.Certificate.{RightSolutionIn}
 
-module _ {A : Type 0} {R : Ring A} {S : Sized R} (E : Euclidean S) (T : System S) {d w : A} {N Z : ℕ → A} (C : RightSolution E T d N w Z) where
-  open System T using (rows as n, columns as m, matrix as M, right as b)
+module _ {A : Type 0} {R : Ring A} {S : Sized R} (E : Euclidean S) (T : LinearSystem S) {d w : A} {N Z : ℕ → A}
+    (C : RightSolutionIn E T d N w Z) where
+  open LinearSystem T using (rows as n, columns as m, matrix as M, side as b)
   open Ring R using (add as _+_, mul as _*_, zero as 𝟘)
 
   infixl 65 _+_

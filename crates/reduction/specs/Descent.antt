@@ -15,8 +15,8 @@ use Rattle.reduction.specs.Total.{rank, degrees}
 use Rattle.reduction.specs.Replace.{extend, extend-below, extend-at, below-suc}
 use Rattle.reduction.specs.Slots.{Slots}
 use Rattle.reduction.specs.Span.{combined, InSpan}
-use Rattle.reduction.specs.System.{System}
-use Rattle.reduction.specs.Levels.{Level, Levels, level-of}
+use Rattle.reduction.specs.System.{LinearSystem}
+use Rattle.reduction.specs.Levels.{LevelKnown, Levels, level-of}
 use Rattle.reduction.specs.Lowering.{Bounded, Lowered, lowered}
 
 -- N from j on, z before
@@ -31,8 +31,8 @@ onward-before : {A : Type 0} (j : ℕ) (z : A) (N : ℕ → A) (k : ℕ) → k <
 unfolding onward
 onward-before j z N k h = if-pos (decLt k j) h z (N k)
 
-module _ {A : Type 0} {R : Ring A} {S : Sized R} (T : System S) (level : ℕ → Slots A) (kernel : ℕ → A) where
-  open System T using (rows as n, columns as m, degree as δ, matrix as M, matrix-small)
+module _ {A : Type 0} {R : Ring A} {S : Sized R} (T : LinearSystem S) (level : ℕ → Slots A) (kernel : ℕ → A) where
+  open LinearSystem T using (rows as n, columns as m, degree as δ, matrix as M, matrix-small)
   open Ring R using (add as _+_, mul as _*_, neg as -_, zero as 𝟘, one as 𝟙, add-zero)
   open Sized S using (size)
 
@@ -85,7 +85,7 @@ module _ {A : Type 0} {R : Ring A} {S : Sized R} (T : System S) (level : ℕ →
     Q = lowered S n δ (C .link j h) (λ i l. matrix-small i j l h) (D .surplus) t (D .rest-small) (X .tails) (X .span)
         (X .multiple) (N′ j) (X .coordinate) (X .reduced) t′ (X .rest)
 
-    L : Level T j (level j)
+    L : LevelKnown T j (level j)
     L = level-of T C j (omega arith)
 
     coordinate-small : (k : ℕ) → j ≤ k → k < m → Dec (k ≡ j) → size (N′ k) ≤ suc (rank n (level m .size) *ₙ δ)

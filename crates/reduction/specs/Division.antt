@@ -29,26 +29,26 @@ module _ {A : Type 0} (R : Ring A) (n : ℕ) (U : Slots A) where
   abbrev _-_ : A → A → A
   a - b = a + (- b)
 
-  pub data Division (f : ℕ → A) : (ℕ → A) → Type 0 where
-    start : {g : ℕ → A} → ((k : ℕ) → k < suc n → g k ≡ f k) → Division f g
-    step : {g h : ℕ → A} → Division f g → Taken R n U g h → Division f h
+  pub data DivisionTrace (f : ℕ → A) : (ℕ → A) → Type 0 where
+    start : {g : ℕ → A} → ((k : ℕ) → k < suc n → g k ≡ f k) → DivisionTrace f g
+    step : {g h : ℕ → A} → DivisionTrace f g → Taken R n U g h → DivisionTrace f h
 
   -- what has been taken off of each slot
-  unfoldable pub quotient : {f g : ℕ → A} → Division f g → ℕ → A
-  quotient (start e) = λ q. 𝟘
-  quotient (step r m) = replace (quotient r) (m .at) (quotient r (m .at) + m .factor)
+  unfoldable pub slotQuotient : {f g : ℕ → A} → DivisionTrace f g → ℕ → A
+  slotQuotient (start e) = λ q. 𝟘
+  slotQuotient (step r m) = replace (slotQuotient r) (m .at) (slotQuotient r (m .at) + m .factor)
 
-  pub quotient-empty : {f g : ℕ → A} (r : Division f g) (q : ℕ) → q < n → U .size q ≡ 0 → quotient r q ≡ 𝟘
-  unfolding quotient
+  pub quotient-empty : {f g : ℕ → A} (r : DivisionTrace f g) (q : ℕ) → q < n → U .size q ≡ 0 → slotQuotient r q ≡ 𝟘
+  unfolding slotQuotient
   quotient-empty (start e) q h z = refl
   quotient-empty (step r m) q h z =
-      replace-other (quotient r) (m .at) (quotient r (m .at) + m .factor) q
+      replace-other (slotQuotient r) (m .at) (slotQuotient r (m .at) + m .factor) q
       (λ x. absurd (omega (arith, ap (U .size) x, m .filled)))
       ∙ quotient-empty r q h z
 
   -- f is g and the quotients times the slots, tails included
-  pub division-equal : {f g : ℕ → A} (r : Division f g) (k : ℕ) → k < suc n → f k ≡ g k + combined R n (quotient r) U k
-  unfolding quotient
+  pub division-equal : {f g : ℕ → A} (r : DivisionTrace f g) (k : ℕ) → k < suc n → f k ≡ g k + combined R n (slotQuotient r) U k
+  unfolding slotQuotient
   division-equal {f} {g} (start e) k h = sym (ap₂ _+_ (e k h)
       (sum-none R n (λ q. 𝟘 * U .at q k) (λ q l. zero-mul R (U .at q k))) ∙ R .add-zero (f k))
   division-equal {f} (step {g} {h} r m) k l = combination R (f k) (h k + combined R n c′ U k)
@@ -63,7 +63,7 @@ module _ {A : Type 0} (R : Ring A) (n : ℕ) (U : Slots A) where
       a = m .factor
 
       c : ℕ → A
-      c = quotient r
+      c = slotQuotient r
 
       c′ : ℕ → A
       c′ = replace c p (c p + a)
@@ -75,31 +75,31 @@ module _ {A : Type 0} (R : Ring A) (n : ℕ) (U : Slots A) where
           ∙ ap (λ y. combined R n c U k + y * U .at p k) (replace-here c p (c p + a))
 
   -- so what is taken off is in the span, with the quotients for coefficients
-  pub division-span : {f g : ℕ → A} → Division f g → (x : ℕ → A) → ((k : ℕ) → k < suc n → x k ≡ f k - g k)
+  pub division-span : {f g : ℕ → A} → DivisionTrace f g → (x : ℕ → A) → ((k : ℕ) → k < suc n → x k ≡ f k - g k)
       → InSpan R n (suc n) U x
   division-span {f} {g} r x e = record {
-    coefficient = quotient r;
+    coefficient = slotQuotient r;
     empty = quotient-empty r;
-    equal = λ k h. combination R (x k) (combined R n (quotient r) U k) (given 𝟙 (e k h) ∷ given 𝟙 (division-equal r k h) ∷ [])
-        (identity R (x k ∷ f k ∷ g k ∷ combined R n (quotient r) U k ∷ []) (λ ρ qx qf qg qs. search quotes depth 16) refl);
+    equal = λ k h. combination R (x k) (combined R n (slotQuotient r) U k) (given 𝟙 (e k h) ∷ given 𝟙 (division-equal r k h) ∷ [])
+        (identity R (x k ∷ f k ∷ g k ∷ combined R n (slotQuotient r) U k ∷ []) (λ ρ qx qf qg qs. search quotes depth 16) refl);
   }
 
   -- the rest of a vector of the span is in the span
-  pub division-rest : {f g : ℕ → A} → Division f g → InSpan R n n U f → InSpan R n n U g
+  pub division-rest : {f g : ℕ → A} → DivisionTrace f g → InSpan R n n U f → InSpan R n n U g
   division-rest {f} {g} r s =
       span-combine R 𝟙 (- 𝟙) s (span-fewer R (omega arith) (division-span r (λ k. f k - g k) (λ k h. refl))) g
       (λ k h. identity R (f k ∷ g k ∷ []) (λ ρ qf qg. search quotes depth 16) refl)
 
   -- at the end, with block zero: the quotients are coefficients of f
-  pub division-quotients : {f g : ℕ → A} (r : Division f g) → Vanishes R n g
-      → (k : ℕ) → k < n → f k ≡ combined R n (quotient r) U k
+  pub division-quotients : {f g : ℕ → A} (r : DivisionTrace f g) → Vanishes R n g
+      → (k : ℕ) → k < n → f k ≡ combined R n (slotQuotient r) U k
   division-quotients {f} {g} r z k h =
       division-equal r k (omega arith)
-      ∙ ap (λ x. x + combined R n (quotient r) U k) (z k h)
-      ∙ identity R (combined R n (quotient r) U k ∷ []) (λ ρ qs. search quotes depth 16) refl
+      ∙ ap (λ x. x + combined R n (slotQuotient r) U k) (z k h)
+      ∙ identity R (combined R n (slotQuotient r) U k ∷ []) (λ ρ qs. search quotes depth 16) refl
 
   -- and from (t | 0) the tail ends as minus the combination of the tails
-  pub division-tail : {f g : ℕ → A} → Division f g → (t : ℕ → A) → ((k : ℕ) → k < n → f k ≡ t k) → f n ≡ 𝟘 → Vanishes R n g
+  pub division-tail : {f g : ℕ → A} → DivisionTrace f g → (t : ℕ → A) → ((k : ℕ) → k < n → f k ≡ t k) → f n ≡ 𝟘 → Vanishes R n g
       → InSpan R n (suc n) U (extend n t (- g n))
   division-tail {f} {g} r t e e′ z = division-span r (extend n t (- g n)) (below-suc n (λ k. extend n t (- g n) k ≡ f k - g k)
       (λ k h. extend-below n t (- g n) k h
@@ -109,18 +109,18 @@ module _ {A : Type 0} (R : Ring A) (n : ℕ) (U : Slots A) where
   -- a division that has come to its end
   pub record Divided (f : ℕ → A) : Type 0 where
     pub rest : ℕ → A
-    pub trace : Division f rest
+    pub trace : DivisionTrace f rest
     pub ends : Vanishes R n rest
 
   module _ {S : Sized R} {ω : ℕ → ℕ} (full : Filled S n ω U) where
     -- no test is needed: the slot at the pivot is filled and no longer
-    pub division-on : {f g : ℕ → A} {p d : ℕ} → Division f g → InSpan R n n U f → Pivot S n ω g p d
+    pub division-on : {f g : ℕ → A} {p d : ℕ} → DivisionTrace f g → InSpan R n n U f → Pivot S n ω g p d
         → (0 < U .size p) × (U .size p ≤ d)
     division-on r s P = span-pivot full (omega arith) (division-rest r s) P
 
     -- divide as a function
     module _ (E : Euclidean S) (f : ℕ → A) (s : InSpan R n n U f) where
-      run : (fuel : ℕ) (g : ℕ → A) → Division f g → (p d : ℕ) → Pivot S n ω g p d → place n p d < fuel → Divided f
+      run : (fuel : ℕ) (g : ℕ → A) → DivisionTrace f g → (p d : ℕ) → Pivot S n ω g p d → place n p d < fuel → Divided f
       run zero g r p d P m = absurd (omega arith)
       run (suc fuel) g r p d P m = next (λ h. run fuel h) (find-pivot S ω n h)
         where
@@ -136,20 +136,20 @@ module _ {A : Type 0} (R : Ring A) (n : ℕ) (U : Slots A) where
           h : ℕ → A
           h k = g k - c .factor * U .at p k
 
-          r′ : Division f h
+          r′ : DivisionTrace f h
           r′ = step r (record { at = p; inside = P .inside; filled = on .0; factor = c .factor; equal = λ k l. refl })
 
           L : Low S n ω h p d
           L = step-low R P Q (on .1) (c .factor) (omega (arith, c .shift, Q .reached)) (c .smaller)
 
-          next : ((h : ℕ → A) → Division f h → (p d : ℕ) → Pivot S n ω h p d → place n p d < fuel → Divided f)
+          next : ((h : ℕ → A) → DivisionTrace f h → (p d : ℕ) → Pivot S n ω h p d → place n p d < fuel → Divided f)
               → HasPivot S ω n h ⊎ Vanishes R n h → Divided f
           next rec (inr z) = record { rest = h; trace = r′; ends = z }
           next rec (inl y) = rec h r′ (y .at) (y .size) (y .pivot)
               (omega (arith, place-before n (y .at) (y .size) p d (y .pivot .inside) (P .inside) (low-pivot L (y .pivot))))
 
-      pub divide : Divided f
-      divide = go (find-pivot S ω n f)
+      pub divideOut : Divided f
+      divideOut = go (find-pivot S ω n f)
         where
           go : HasPivot S ω n f ⊎ Vanishes R n f → Divided f
           go (inr z) = record { rest = f; trace = start (λ k h. refl); ends = z }

@@ -8,26 +8,27 @@ use native.Mathlib.Omega.{arith}
 use native.Mathlib.Nat.{mul-le-mul-right}
 use Rattle.ring.specs.Ring.{Ring}
 use Rattle.algebra.specs.Sized.{Sized}
-use Rattle.reduction.specs.Total.{total, total-term, rank-le, degrees}
+use Rattle.ring.specs.Total.{total}
+use Rattle.reduction.specs.Total.{total-term, rank-le, degrees}
 use Rattle.reduction.specs.Total
 use Rattle.reduction.specs.Pivot.{Vanishes}
 use Rattle.reduction.specs.Slots.{Slots, unweighted, tailed}
 use Rattle.reduction.specs.Euclidean.{Euclidean, Associate}
 use Rattle.reduction.specs.Insert.{Stop, Stuck}
-use Rattle.reduction.specs.System.{System}
-use Rattle.reduction.specs.Levels.{Level, level-of}
-use Rattle.reduction.specs.Certificate.{RightSolution, RightAbsence}
+use Rattle.reduction.specs.System.{LinearSystem}
+use Rattle.reduction.specs.Levels.{LevelKnown, level-of}
+use Rattle.reduction.specs.Certificate.{RightSolutionIn, RightAbsenceIn}
 use Rattle.reduction.specs.Certificate.{SmallSolution, small-solution-le, SmallAbsence, small-absence-le}
 use Rattle.reduction.specs.Solution.{solution-positive, solution-tops, solution-span, solution-small}
 use Rattle.reduction.specs.Solution.{solution-right, solution-sizes}
 use Rattle.reduction.specs.Absence.{absence, absence-tops, absence-right, absence-sizes}
 use Rattle.reduction.specs.Run.{Run, run}
-use Rattle.reduction.specs.RunSecond.{SecondSolved, second}
+use Rattle.reduction.specs.RunSecond.{SecondSolution, second}
 use Rattle.reduction.specs.RunLevels.{level, kernel, levels}
 use Rattle.reduction.specs.RunDescent.{Numerators, numerators}
 
-module _ {A : Type 0} {R : Ring A} {S : Sized R} (E : Euclidean S) (T : System S) where
-  open System T using (rows as n, columns as m, degree as δ, right as b)
+module _ {A : Type 0} {R : Ring A} {S : Sized R} (E : Euclidean S) (T : LinearSystem S) where
+  open LinearSystem T using (rows as n, columns as m, degree as δ, side as b)
 
   -- a solution certificate whose sizes are at most B
   pub record Solved (B : ℕ) : Type 0 where
@@ -35,16 +36,16 @@ module _ {A : Type 0} {R : Ring A} {S : Sized R} (E : Euclidean S) (T : System S
     pub N : ℕ → A
     pub w : A
     pub Z : ℕ → A
-    pub right : RightSolution E T d N w Z
+    pub right : RightSolutionIn E T d N w Z
     pub small : SmallSolution E T B d N w Z
 
   -- an absence certificate whose sizes are at most B
   pub record Unsolvable (B : ℕ) : Type 0 where
     pub q : ℕ → A
-    pub right : RightAbsence E T q
+    pub right : RightAbsenceIn E T q
     pub small : SmallAbsence E T B q
 
-  pub record Certified : Type 0 where
+  pub record RankCertified : Type 0 where
     pub rank : ℕ
     pub rank-rows : rank ≤ n
     pub rank-columns : rank ≤ m
@@ -54,7 +55,7 @@ module _ {A : Type 0} {R : Ring A} {S : Sized R} (E : Euclidean S) (T : System S
   U : Slots A
   U = level E T m
 
-  L : Level T m U
+  L : LevelKnown T m U
   unfolding U
   L = level-of T (levels E T) m (omega arith)
 
@@ -77,7 +78,7 @@ module _ {A : Type 0} {R : Ring A} {S : Sized R} (E : Euclidean S) (T : System S
     coordinates = numerators E T (level E T) (kernel E T) (levels E T) (λ k. R .mul d (b k))
         (solution-span E T L (X .inserting) z μ) (solution-small E T L (X .inserting) z μ)
 
-    certifying : SecondSolved E n (degrees n (U .size)) (X .inserting .now .slots)
+    certifying : SecondSolution E n (degrees n (U .size)) (X .inserting .now .slots)
     certifying = second E n (degrees n (U .size)) (X .inserting .now .slots) (solution-tops E T L (X .inserting) z
         (total n (X .inserting .now .slots .size)) (total-term n (X .inserting .now .slots .size)))
 
@@ -99,7 +100,7 @@ module _ {A : Type 0} {R : Ring A} {S : Sized R} (E : Euclidean S) (T : System S
     abbrev C : Slots A
     C = tailed n U (λ q. U .at q (K .at))
 
-    killing : SecondSolved E n (degrees n (U .size)) C
+    killing : SecondSolution E n (degrees n (U .size)) C
     killing = second E n (degrees n (U .size)) C
         (absence-tops E T L (X .inserting) K (total n (U .size)) (total-term n (U .size)))
 
@@ -110,7 +111,7 @@ module _ {A : Type 0} {R : Ring A} {S : Sized R} (E : Euclidean S) (T : System S
       small = absence-sizes E T L (X .inserting) K (killing .w) (killing .Y) (killing .dual);
     }
 
-  pub certificate-exists : Certified
+  pub certificate-exists : RankCertified
   certificate-exists = record {
     rank = r;
     rank-rows = rank-le n (U .size);
@@ -126,10 +127,10 @@ module _ {A : Type 0} {R : Ring A} {S : Sized R} (E : Euclidean S) (T : System S
   pub certificate-within : (B : ℕ) → min n m *ₙ δ ≤ B → Solved (suc B) ⊎ Unsolvable (suc B)
   certificate-within B h = go certificate-exists
     where
-      bound : (C : Certified) → suc (C .rank *ₙ δ) ≤ suc B
+      bound : (C : RankCertified) → suc (C .rank *ₙ δ) ≤ suc B
       bound C = let k : C .rank ≤ min n m = omega arith in omega (arith, mul-le-mul-right δ k)
 
-      solution : (C : Certified) → Solved (suc (C .rank *ₙ δ)) → Solved (suc B)
+      solution : (C : RankCertified) → Solved (suc (C .rank *ₙ δ)) → Solved (suc B)
       solution C s = record {
         d = s .d;
         N = s .N;
@@ -139,8 +140,8 @@ module _ {A : Type 0} {R : Ring A} {S : Sized R} (E : Euclidean S) (T : System S
         small = small-solution-le E T (bound C) (s .small);
       }
 
-      none : (C : Certified) → Unsolvable (suc (C .rank *ₙ δ)) → Unsolvable (suc B)
+      none : (C : RankCertified) → Unsolvable (suc (C .rank *ₙ δ)) → Unsolvable (suc B)
       none C s = record { q = s .q; right = s .right; small = small-absence-le E T (bound C) (s .small) }
 
-      go : Certified → Solved (suc B) ⊎ Unsolvable (suc B)
+      go : RankCertified → Solved (suc B) ⊎ Unsolvable (suc B)
       go C = ⊎-elim (λ s. inl (solution C s)) (λ s. inr (none C s)) (C .certificate)

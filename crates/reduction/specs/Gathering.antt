@@ -13,8 +13,8 @@ use Rattle.algebra.specs.Exact.{quotient-exact}
 use Rattle.algebra.specs.Monic.{Monic, monic-one, monic-nonzero, monic-positive, monic-cofactor}
 use Rattle.algebra.specs.Gcd.{gcd, gcd-left, gcd-monic}
 use Rattle.algebra.specs.Lcm.{lcm, lcm-left, lcm-right, lcm-gcd, lcm-monic}
-use Rattle.reduction.specs.System.{System}
-use Rattle.reduction.specs.Certificate.{RightSolution}
+use Rattle.reduction.specs.System.{LinearSystem}
+use Rattle.reduction.specs.Certificate.{RightSolutionIn}
 use Rattle.reduction.specs.LowerBounds.{LowerBound, bound-start, bound-row, bound-join, bound-right, join-shorter}
 use Rattle.reduction.specs.Polynomials.{euclidean}
 
@@ -109,10 +109,10 @@ module _ {K : Type 0} (F : Field K) (n m : ℕ) (B : ℕ → ℕ → Polynomial 
         exact₂ = quotient-exact F W w₂ (lcm-right F w₁ w₂)
 
 -- closed: a solution whose denominator has been reached from below
-pub gathered-right : {K : Type 0} (F : Field K) (T : System (sized F)) {d w : Polynomial F} {N Z : ℕ → Polynomial F}
-    → Gathered F (T .rows) (T .columns) (T .matrix) (T .right) w Z d
+pub gathered-right : {K : Type 0} (F : Field K) (T : LinearSystem (sized F)) {d w : Polynomial F} {N Z : ℕ → Polynomial F}
+    → Gathered F (T .rows) (T .columns) (T .matrix) (T .side) w Z d
     → ((i : ℕ) → i < T .rows
-    → sum (polynomials F) (T .columns) (λ j. polynomials F .mul (T .matrix i j) (N j)) ≡ polynomials F .mul d (T .right i))
-    → RightSolution (euclidean F) T d N w Z
+    → sum (polynomials F) (T .columns) (λ j. polynomials F .mul (T .matrix i j) (N j)) ≡ polynomials F .mul d (T .side i))
+    → RightSolutionIn (euclidean F) T d N w Z
 gathered-right F T {d} G solves = bound-right (euclidean F) T (G .bound) (G .monic) (G .certifying-monic)
     (monic-cofactor F d (G .bound .k) (G .monic) (ap (leading F) (sym (G .bound .product)) ∙ G .certifying-monic)) solves

@@ -7,7 +7,8 @@ use native.Mathlib.Omega.{arith}
 use native.Mathlib.Decide.{ℕ-discrete, decLe}
 use Rattle.ring.specs.Ring.{Ring}
 use Rattle.algebra.specs.Sized.{Sized}
-use Rattle.reduction.specs.Total.{total, total-change}
+use Rattle.ring.specs.Total.{total}
+use Rattle.reduction.specs.Total.{total-change}
 use Rattle.reduction.specs.Replace.{replace-here, replace-other}
 use Rattle.reduction.specs.Pivot.{Vanishes, Pivot, Low, Before, low-pivot, HasPivot, find-pivot}
 use Rattle.reduction.specs.Step.{place, place-before, step-low}

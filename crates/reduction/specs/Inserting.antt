@@ -13,7 +13,7 @@ use Rattle.reduction.specs.Replace.{extend, extend-below, extend-at, bel
 use Rattle.reduction.specs.Slots.{Slots, Filled, tailed, filled-tailed}
 use Rattle.reduction.specs.Span.{combined, InSpan, InSpanWith, with-hand, with-none}
 use Rattle.reduction.specs.Trace.{State, Trace}
-use Rattle.reduction.specs.Kept.{Begins, Kept, trace-kept}
+use Rattle.reduction.specs.Kept.{InsertionBegins, Kept, trace-kept}
 
 module _ {A : Type 0} (R : Ring A) (n : ℕ) (U : Slots A) where
   open Ring R using (add as _+_, mul as _*_, neg as -_, zero as 𝟘, one as 𝟙)
@@ -33,7 +33,7 @@ module _ {A : Type 0} (R : Ring A) (n : ℕ) (U : Slots A) where
   abbrev pub begin : (ℕ → A) → ℕ → State A
   begin a d = record { slots = cleared; hand = extend n a 𝟙; size = d }
 
-  pub begins : {S : Sized R} {ω : ℕ → ℕ} → Filled S n ω U → (a : ℕ → A) (d : ℕ) → Begins S n ω (begin a d)
+  pub begins : {S : Sized R} {ω : ℕ → ℕ} → Filled S n ω U → (a : ℕ → A) (d : ℕ) → InsertionBegins S n ω (begin a d)
   begins full a d = record {
     filled = filled-tailed (λ q. 𝟘) full;
     tails = λ q h f. extend-at n (U .at q) 𝟘;

@@ -13,10 +13,10 @@ use Rattle.reduction.specs.Total
 use Rattle.reduction.specs.Slots.{Slots}
 use Rattle.reduction.specs.Span.{InSpan, span-ext, span-scale}
 use Rattle.reduction.specs.Euclidean.{Euclidean}
-use Rattle.reduction.specs.System.{System}
+use Rattle.reduction.specs.System.{LinearSystem}
 use Rattle.reduction.specs.Link.{Link, Kernel}
 use Rattle.reduction.specs.Dependence.{Dependent, dependent-kernel, link-times, links-up}
-use Rattle.reduction.specs.Levels.{Columns, Level, level-of, level-spans}
+use Rattle.reduction.specs.Levels.{Columns, LevelKnown, level-of, level-spans}
 use Rattle.reduction.specs.RunLevels.{level, kernel, levels, slotsAfter, kernelAfter, after-none, after-link}
 use Rattle.reduction.specs.RunDescent.{Numerators, numerators}
 
@@ -62,8 +62,8 @@ module _ {A : Type 0} {R : Ring A} {S : Sized R} {n δ : ℕ} (c : ℕ) (U : ℕ
             (λ i h. R .mul-assoc (P .e) (κ k) (x i));
       }
 
-module _ {A : Type 0} {R : Ring A} {S : Sized R} (T : System S) (a : ℕ → ℕ → A) where
-  open System T using (rows as n, columns as m, degree as δ, matrix as M)
+module _ {A : Type 0} {R : Ring A} {S : Sized R} (T : LinearSystem S) (a : ℕ → ℕ → A) where
+  open LinearSystem T using (rows as n, columns as m, degree as δ, matrix as M)
   open Ring R using (mul as _*_, zero as 𝟘)
   open Sized S using (size)
 
@@ -98,7 +98,7 @@ module _ {A : Type 0} {R : Ring A} {S : Sized R} (T : System S) (a : ℕ → ℕ
     U : Slots A
     U = level E T m
 
-    L : Level T m U
+    L : LevelKnown T m U
     unfolding U
     L = level-of T (levels E T) m (omega arith)
 

@@ -18,7 +18,7 @@ use Rattle.reduction.specs.Moves.{Fresh, fresh-same, fresh-taken, fresh-
 use Rattle.reduction.specs.Trace.{State, SameState, Step, Exchange, Trace, start, alike, step, exchange}
 
 -- how an insertion begins: slots with tails 0, a hand with tail 1
-pub record Begins {A : Type 0} {R : Ring A} (S : Sized R) (n : ℕ) (ω : ℕ → ℕ) (s : State A) : Type 0 where
+pub record InsertionBegins {A : Type 0} {R : Ring A} (S : Sized R) (n : ℕ) (ω : ℕ → ℕ) (s : State A) : Type 0 where
   pub filled : Filled S n ω (s .slots)
   pub tails : (q : ℕ) → q < n → 0 < s .slots .size q → s .slots .at q n ≡ R .zero
   pub tail : s .hand n ≡ R .one
@@ -41,7 +41,7 @@ module _ {A : Type 0} {R : Ring A} {S : Sized R} {n : ℕ} {ω : ℕ → ℕ} wh
   open Sized S using (size, size-one)
 
   infixl 70 _*_
-  kept-start : {s : State A} → Begins S n ω s → Kept S n ω s s
+  kept-start : {s : State A} → InsertionBegins S n ω s → Kept S n ω s s
   kept-start {s} b = record {
     filled = b .filled;
     same = λ q h. refl;
@@ -140,7 +140,7 @@ module _ {A : Type 0} {R : Ring A} {S : Sized R} {n : ℕ} {ω : ℕ → ℕ} wh
       )
       same q h (no r) = ap (min 1) (sizes q h r) ∙ I .same q h
 
-  pub trace-kept : {s t : State A} → Begins S n ω s → Trace S n ω s t → Kept S n ω s t
+  pub trace-kept : {s t : State A} → InsertionBegins S n ω s → Trace S n ω s t → Kept S n ω s t
   trace-kept b start = kept-start b
   trace-kept b (alike r e) = kept-alike (trace-kept b r) e
   trace-kept b (step r m) = kept-step (trace-kept b r) m

@@ -15,12 +15,12 @@ use Rattle.reduction.specs.Total.{rank, degrees, rank-ext, degrees-ext, 
 use Rattle.reduction.specs.Replace.{replace, replace-here, replace-other, below-suc}
 use Rattle.reduction.specs.Slots.{Slots, Filled, unweighted, Same, SameBlocks, same-blocks, blocks-sym, filled-blocks}
 use Rattle.reduction.specs.Span.{combined, InSpan, InSpanWith, span-zero, span-ext, span-combine, span-blocks}
-use Rattle.reduction.specs.System.{System}
+use Rattle.reduction.specs.System.{LinearSystem}
 use Rattle.reduction.specs.Link.{Link, Grows, Kernel, link-same}
 use Rattle.reduction.specs.Dependence.{link-lower}
 
-module _ {A : Type 0} {R : Ring A} {S : Sized R} (T : System S) where
-  open System T using (rows as n, degree as δ, matrix as M)
+module _ {A : Type 0} {R : Ring A} {S : Sized R} (T : LinearSystem S) where
+  open LinearSystem T using (rows as n, degree as δ, matrix as M)
 
   -- x is a combination of the first j columns
   pub record Columns (j : ℕ) (x : ℕ → A) : Type 0 where
@@ -28,14 +28,14 @@ module _ {A : Type 0} {R : Ring A} {S : Sized R} (T : System S) where
     pub equal : (i : ℕ) → i < n → x i ≡ sum R j (λ k. R .mul (M i k) (parts k))
 
   -- what is known of the slots of level j
-  pub record Level (j : ℕ) (U : Slots A) : Type 0 where
+  pub record LevelKnown (j : ℕ) (U : Slots A) : Type 0 where
     pub filled : Filled S n unweighted U
     pub spanned : (k : ℕ) → k < j → InSpan R n n U (λ i. M i k)
     pub within : (x : ℕ → A) → InSpan R n n U x → Columns j x
     pub rank-le : rank n (U .size) ≤ j
     pub degrees-le : degrees n (U .size) ≤ rank n (U .size) *ₙ δ
 
-  pub level-empty : (U : Slots A) → ((q : ℕ) → q < n → U .size q ≡ 0) → Level 0 U
+  pub level-empty : (U : Slots A) → ((q : ℕ) → q < n → U .size q ≡ 0) → LevelKnown 0 U
   unfolding sum
   level-empty U z = record {
     filled = λ q h f. absurd (omega (arith, z q h));
@@ -53,7 +53,7 @@ module _ {A : Type 0} {R : Ring A} {S : Sized R} (T : System S) where
           (λ q h. ap (λ y. R .mul y (U .at q i)) (s .empty q h (z q h)) ∙ zero-mul R (U .at q i))
 
   -- tails play no part
-  pub level-blocks : {j : ℕ} {U U′ : Slots A} → SameBlocks n U U′ → Level j U → Level j U′
+  pub level-blocks : {j : ℕ} {U U′ : Slots A} → SameBlocks n U U′ → LevelKnown j U → LevelKnown j U′
   level-blocks {U = U} {U′} e L = record {
     filled = filled-blocks e (L .filled);
     spanned = λ k h. span-blocks R e (L .spanned k h);
@@ -66,7 +66,7 @@ module _ {A : Type 0} {R : Ring A} {S : Sized R} (T : System S) where
       same = rank-ext n (U .size) (U′ .size) (λ q h. ap (min 1) (e .sizes q h))
 
   -- L5: one column more; L6: its degrees
-  pub level-next : {j : ℕ} {U U′ : Slots A} {kernel : A} → Level j U → Link S n δ (λ i. M i j) U U′ kernel → Level (suc j) U′
+  pub level-next : {j : ℕ} {U U′ : Slots A} {kernel : A} → LevelKnown j U → Link S n δ (λ i. M i j) U U′ kernel → LevelKnown (suc j) U′
   unfolding sum
   level-next {j} {U} {U′} {kernel} L K = record {
     filled = K .filled;
@@ -104,7 +104,7 @@ module _ {A : Type 0} {R : Ring A} {S : Sized R} (T : System S) where
       bounds (inr k) = (omega (arith, L .rank-le), omega (arith, L .degrees-le, ap (λ x. x *ₙ δ) (k .no-more)))
 
   -- and every combination of the first j columns is in the span
-  pub level-spans : {j : ℕ} {U : Slots A} {x : ℕ → A} → Level j U → Columns j x → InSpan R n n U x
+  pub level-spans : {j : ℕ} {U : Slots A} {x : ℕ → A} → LevelKnown j U → Columns j x → InSpan R n n U x
   unfolding sum
   level-spans {j} {U} {x} L C = span-ext R (upto j (omega arith)) x (C .equal)
     where
@@ -119,7 +119,7 @@ module _ {A : Type 0} {R : Ring A} {S : Sized R} (T : System S) where
     pub empty : (q : ℕ) → q < n → level 0 .size q ≡ 0
     pub link : (j : ℕ) → j < i → Link S n δ (λ k. M k j) (level j) (level (suc j)) (kernel j)
 
-  pub level-of : {level : ℕ → Slots A} {kernel : ℕ → A} {i : ℕ} → Levels level kernel i → (j : ℕ) → j ≤ i → Level j (level j)
+  pub level-of : {level : ℕ → Slots A} {kernel : ℕ → A} {i : ℕ} → Levels level kernel i → (j : ℕ) → j ≤ i → LevelKnown j (level j)
   level-of {level} C zero h = level-empty (level 0) (C .empty)
   level-of C (suc j) h = level-next (level-of C j (omega arith)) (C .link j h)
 

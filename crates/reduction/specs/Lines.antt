@@ -13,29 +13,29 @@ use Rattle.algebra.specs.Size.{size, sized}
 use Rattle.algebra.specs.Divides.{Divides}
 use Rattle.algebra.specs.Lcm.{lcms, lcms-divides, lcms-least, size-lcms-le}
 use Rattle.reduction.specs.Euclidean.{Euclidean}
-use Rattle.reduction.specs.System.{System}
+use Rattle.reduction.specs.System.{LinearSystem}
 use Rattle.reduction.specs.Levels.{Columns}
-use Rattle.reduction.specs.Certificate.{RightSolution}
+use Rattle.reduction.specs.Certificate.{RightSolutionIn}
 use Rattle.reduction.specs.Clearing.{right-nonzero, right-divides}
 use Rattle.reduction.specs.Joint.{Solvable, Joint, joint-within}
 use Rattle.reduction.specs.Polynomials.{euclidean}
 
 -- T with the right side b
-abbrev pub line : {A : Type 0} {R : Ring A} {S : Sized R} (T : System S) (b : ℕ → A)
-    → ((i : ℕ) → i < T .rows → S .size (b i) ≤ suc (T .degree)) → System S
-line T b short = record {
+abbrev pub withSide : {A : Type 0} {R : Ring A} {S : Sized R} (T : LinearSystem S) (b : ℕ → A)
+    → ((i : ℕ) → i < T .rows → S .size (b i) ≤ suc (T .degree)) → LinearSystem S
+withSide T b short = record {
   rows = T .rows;
   columns = T .columns;
   degree = T .degree;
   matrix = T .matrix;
-  right = b;
+  side = b;
   matrix-small = T .matrix-small;
-  right-small = short;
+  side-small = short;
 }
 
-module _ {A : Type 0} {R : Ring A} {S : Sized R} (E : Euclidean S) (T : System S) (a : ℕ → ℕ → A) (c : ℕ)
+module _ {A : Type 0} {R : Ring A} {S : Sized R} (E : Euclidean S) (T : LinearSystem S) (a : ℕ → ℕ → A) (c : ℕ)
     (short : (k i : ℕ) → k < c → i < T .rows → S .size (a k i) ≤ suc (T .degree)) where
-  open System T using (columns as m, matrix as M)
+  open LinearSystem T using (columns as m, matrix as M)
   open Ring R using (mul as _*_)
 
   infixl 70 _*_
@@ -44,19 +44,19 @@ module _ {A : Type 0} {R : Ring A} {S : Sized R} (E : Euclidean S) (T : System S
     pub N : ℕ → A
     pub w : A
     pub Z : ℕ → A
-    pub right : RightSolution E (line T (a k) (λ i g. short k i l g)) d N w Z
+    pub right : RightSolutionIn E (withSide T (a k) (λ i g. short k i l g)) d N w Z
 
   pub line-solvable : (k : ℕ) (l : k < c) (d : A) → LineSolved k l d → Solvable T a k
   line-solvable k l d X = record {
     e = d;
-    nonzero = right-nonzero E (line T (a k) (λ i g. short k i l g)) (X .right);
+    nonzero = right-nonzero E (withSide T (a k) (λ i g. short k i l g)) (X .right);
     columns = record { parts = X .N; equal = λ i g. sym (X .right .solves i g) };
   }
 
   -- A·Q = f·(a k) for some Q just where d divides f
   pub line-least : (k : ℕ) (l : k < c) (d : A) → LineSolved k l d → (f : A) → Columns T m (λ i. f * a k i) → Divides R d f
   line-least k l d X f C =
-      right-divides E (line T (a k) (λ i g. short k i l g)) (X .right) f (C .parts) (λ i g. sym (C .equal i g))
+      right-divides E (withSide T (a k) (λ i g. short k i l g)) (X .right) f (C .parts) (λ i g. sym (C .equal i g))
 
   pub line-multiple : (k : ℕ) (l : k < c) (d : A) → LineSolved k l d → (f : A) → Divides R d f → Columns T m (λ i. f * a k i)
   line-multiple k l d X f h = record {
@@ -71,7 +71,7 @@ module _ {A : Type 0} {R : Ring A} {S : Sized R} (E : Euclidean S) (T : System S
       t = h .cofactor
 
 -- over K[x]: the least common multiple of the denominators is the least for all lines at once, and each on the way keeps the bound
-module _ {K : Type 0} (F : Field K) (T : System (sized F)) (a : ℕ → ℕ → Polynomial F) (c : ℕ)
+module _ {K : Type 0} (F : Field K) (T : LinearSystem (sized F)) (a : ℕ → ℕ → Polynomial F) (c : ℕ)
     (short : (k i : ℕ) → k < c → i < T .rows → size F (a k i) ≤ suc (T .degree)) (d : ℕ → Polynomial F)
     (X : (k : ℕ) (l : k < c) → LineSolved (euclidean F) T a c short k l (d k)) where
   abbrev R : Ring (Polynomial F)

@@ -14,8 +14,8 @@ use Rattle.algebra.specs.Sized.{Sized, mul-cancel, mul-nonzero-left, size-posit
 use Rattle.algebra.specs.Divides.{Divides, divides-equal, divides-add, divides-mul, divides-product, one-divides, mul-divides-mul}
 use Rattle.algebra.specs.Bezout.{Greatest}
 use Rattle.reduction.specs.Euclidean.{Euclidean}
-use Rattle.reduction.specs.System.{System}
-use Rattle.reduction.specs.Certificate.{RightSolution}
+use Rattle.reduction.specs.System.{LinearSystem}
+use Rattle.reduction.specs.Certificate.{RightSolutionIn}
 
 module _ {A : Type 0} (R : Ring A) (n m : ℕ) (B : ℕ → ℕ → A) (c : ℕ → A) where
   open Ring R using (add as _+_, mul as _*_, neg as -_, zero as 𝟘, one as 𝟙)
@@ -189,12 +189,12 @@ module _ {A : Type 0} {R : Ring A} (S : Sized R) where
       let both = size-add (size W -ₙ 1) (W₁ * x₁) (W₂ * x₂) (omega (arith, ap size e₁)) (omega (arith, ap size e₂)) in
       omega (arith, ap size e₁)
 
-module _ {A : Type 0} {R : Ring A} {S : Sized R} (E : Euclidean S) (T : System S) where
+module _ {A : Type 0} {R : Ring A} {S : Sized R} (E : Euclidean S) (T : LinearSystem S) where
   -- a solution with denominator d and a lower bound d: the certificate is right
-  pub bound-right : {d w : A} {N Z : ℕ → A} (P : LowerBound R (T .rows) (T .columns) (T .matrix) (T .right) w Z d)
+  pub bound-right : {d w : A} {N Z : ℕ → A} (P : LowerBound R (T .rows) (T .columns) (T .matrix) (T .side) w Z d)
       → E .Monic d → E .Monic w → E .Monic (P .k)
-      → ((i : ℕ) → i < T .rows → sum R (T .columns) (λ j. R .mul (T .matrix i j) (N j)) ≡ R .mul d (T .right i))
-      → RightSolution E T d N w Z
+      → ((i : ℕ) → i < T .rows → sum R (T .columns) (λ j. R .mul (T .matrix i j) (N j)) ≡ R .mul d (T .side i))
+      → RightSolutionIn E T d N w Z
   bound-right P hd hw hk solves = record {
     monic = hd;
     certifying-monic = hw;
@@ -202,6 +202,6 @@ module _ {A : Type 0} {R : Ring A} {S : Sized R} (E : Euclidean S) (T : System S
     divides = P .congruent .columns;
     divisor = P .k;
     divisor-monic = hk;
-    divisor-greatest = bound-greatest R (T .rows) (T .columns) (T .matrix) (T .right) P;
+    divisor-greatest = bound-greatest R (T .rows) (T .columns) (T .matrix) (T .side) P;
     quotient = P .product;
   }

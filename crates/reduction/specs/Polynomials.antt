@@ -10,8 +10,8 @@ use Rattle.algebra.specs.Cancellation.{multiplier, size-multiplier, size-cancel
 use Rattle.algebra.specs.Division.{quotient, remainder, division, size-remainder}
 use Rattle.algebra.specs.Monic.{Monic, monic-scale, monic-monic, monic-nonzero, monic-mul}
 use Rattle.reduction.specs.Euclidean.{Associate, Euclidean}
-use Rattle.reduction.specs.System.{System}
-use Rattle.reduction.specs.Existence.{Certified, certificate-exists}
+use Rattle.reduction.specs.System.{LinearSystem}
+use Rattle.reduction.specs.Existence.{RankCertified, certificate-exists}
 
 module _ {K : Type 0} (F : Field K) where
   open Ring (polynomials F) using (mul as _*_, one as 𝟙, mul-one)
@@ -56,5 +56,5 @@ module _ {K : Type 0} (F : Field K) where
     associate = associate;
   }
 
-  pub polynomials-certified : (T : System (sized F)) → Certified euclidean T
+  pub polynomials-certified : (T : LinearSystem (sized F)) → RankCertified euclidean T
   polynomials-certified = certificate-exists euclidean

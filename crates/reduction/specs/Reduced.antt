@@ -11,14 +11,14 @@ use Rattle.algebra.specs.Sized.{Sized, size-positive}
 use Rattle.algebra.specs.Divides.{Divides, divides-size}
 use Rattle.reduction.specs.Slots.{Slots}
 use Rattle.reduction.specs.Span.{InSpan, span-combine}
-use Rattle.reduction.specs.System.{System}
+use Rattle.reduction.specs.System.{LinearSystem}
 use Rattle.reduction.specs.Levels.{Levels, level-of, level-spans}
 use Rattle.reduction.specs.Descent.{Descent}
 use Rattle.reduction.specs.Numerators.{Relation, ReducedNumerators}
 
-module _ {A : Type 0} {R : Ring A} {S : Sized R} (T : System S) (level : ℕ → Slots A) (kernel : ℕ → A)
+module _ {A : Type 0} {R : Ring A} {S : Sized R} (T : LinearSystem S) (level : ℕ → Slots A) (kernel : ℕ → A)
     (C : Levels T level kernel (T .columns)) where
-  open System T using (rows as n, columns as m, matrix as M)
+  open LinearSystem T using (rows as n, columns as m, matrix as M)
   open Ring R using (add as _+_, mul as _*_, neg as -_, zero as 𝟘, one as 𝟙)
   open Sized S using (size)
 

@@ -15,8 +15,8 @@ use Rattle.reduction.specs.Replace.{replace, replace-here, replace-other
 use Rattle.reduction.specs.Slots.{Slots}
 use Rattle.reduction.specs.Span.{InSpan, span-ext}
 use Rattle.reduction.specs.Euclidean.{Euclidean, WithRemainder}
-use Rattle.reduction.specs.Division.{Divided, division-tail, divide}
-use Rattle.reduction.specs.System.{System}
+use Rattle.reduction.specs.Division.{Divided, division-tail, divideOut}
+use Rattle.reduction.specs.System.{LinearSystem}
 use Rattle.reduction.specs.Levels.{Levels, level-of}
 use Rattle.reduction.specs.Descent.{Descent, descent-start, descent-turn, descent-end}
 
@@ -56,8 +56,8 @@ module _ {A : Type 0} {R : Ring A} {S : Sized R} (E : Euclidean S) where
       D : WithRemainder S y₀ k
       D = E .divide y₀ k (omega arith)
 
-  module _ (T : System S) (level : ℕ → Slots A) (kernel : ℕ → A) (C : Levels T level kernel (T .columns)) (f : ℕ → A) where
-    open System T using (rows as n, columns as m, degree as δ, matrix as M)
+  module _ (T : LinearSystem S) (level : ℕ → Slots A) (kernel : ℕ → A) (C : Levels T level kernel (T .columns)) (f : ℕ → A) where
+    open LinearSystem T using (rows as n, columns as m, degree as δ, matrix as M)
 
     record Down (j : ℕ) : Type 0 where
       pub rest : ℕ → A
@@ -83,7 +83,7 @@ module _ {A : Type 0} {R : Ring A} {S : Sized R} (E : Euclidean S) where
         t = D .rest
 
         divided : Divided R n (level (suc j)) (extend n t 𝟘)
-        divided = divide R n (level (suc j)) (level-of T C (suc j) h .filled) E (extend n t 𝟘)
+        divided = divideOut R n (level (suc j)) (level-of T C (suc j) h .filled) E (extend n t 𝟘)
             (span-ext R (D .descent .span) (extend n t 𝟘) (extend-below n t 𝟘))
 
         y : Reduced (- divided .rest n) (kernel j)

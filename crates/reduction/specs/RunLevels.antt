@@ -11,7 +11,7 @@ use Rattle.reduction.specs.Slots.{Slots, Filled, unweighted, put, put-sa
 use Rattle.reduction.specs.Euclidean.{Euclidean}
 use Rattle.reduction.specs.Trace.{State}
 use Rattle.reduction.specs.Insert.{Stop, Stuck}
-use Rattle.reduction.specs.System.{System}
+use Rattle.reduction.specs.System.{LinearSystem}
 use Rattle.reduction.specs.Link.{Link}
 use Rattle.reduction.specs.Column.{link-put, link-kernel}
 use Rattle.reduction.specs.Levels.{Levels}
@@ -85,8 +85,8 @@ module _ {A : Type 0} {R : Ring A} {S : Sized R} (E : Euclidean S) where
     unfolding built slotsAfter kernelAfter
     after-link δ j = next n (built j .slots) (built j .filled) (a j) .link δ
 
-  module _ (T : System S) where
-    open System T using (rows as n, columns as m, degree as δ, matrix as M, matrix-small)
+  module _ (T : LinearSystem S) where
+    open LinearSystem T using (rows as n, columns as m, degree as δ, matrix as M, matrix-small)
 
     empty : Slots A
     empty = record { at = λ q k. R .zero; size = λ q. 0 }

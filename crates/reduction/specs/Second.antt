@@ -25,11 +25,11 @@ use Rattle.reduction.specs.Insert.{Stuck}
 use Rattle.reduction.specs.Inserting.{Inserting, kept, inserting-hand}
 use Rattle.reduction.specs.Least.{inserting-least}
 use Rattle.reduction.specs.Dual.{Dual}
-use Rattle.reduction.specs.Transpose.{Tops, masked-filled, masked-empty, back, transposed, rightSide, weights}
-use Rattle.reduction.specs.Transpose.{sizes-high, size-filled, transposed-filled, right-cases}
+use Rattle.reduction.specs.Transpose.{Tops, masked-filled, masked-empty, back, transposed, secondSide, weights}
+use Rattle.reduction.specs.Transpose.{sizes-high, size-filled, transposed-filled, secondSide-cases}
 
 module _ {A : Type 0} {R : Ring A} {S : Sized R} {n B D : ℕ} {U : Slots A} (O : Tops S n B D U)
-    (X : Inserting S n (weights R n D U) (transposed R n D U) (rightSide R n D U)) where
+    (X : Inserting S n (weights R n D U) (transposed R n D U) (secondSide R n D U)) where
   open Ring R using (add as _+_, mul as _*_, neg as -_, zero as 𝟘, one as 𝟙)
   open Sized S using (size)
 
@@ -40,7 +40,7 @@ module _ {A : Type 0} {R : Ring A} {S : Sized R} {n B D : ℕ} {U : Slots A} (O 
   C = transposed R n D U
 
   abbrev g : ℕ → A
-  g = rightSide R n D U
+  g = secondSide R n D U
 
   abbrev ω : ℕ → ℕ
   ω = weights R n D U
@@ -158,7 +158,7 @@ module _ {A : Type 0} {R : Ring A} {S : Sized R} {n B D : ℕ} {U : Slots A} (O 
 
       -- room: its weighted size
       pub second-room : (k : ℕ) → k < n → size (w * g k) ≤ (B +ₙ D) -ₙ ω k
-      second-room k h = go (right-cases O k h)
+      second-room k h = go (secondSide-cases O k h)
         where
           go : (size (g k) +ₙ degrees n (U .size) ≤ B +ₙ d k) ⊎ (g k ≡ 𝟘) → size (w * g k) ≤ (B +ₙ D) -ₙ ω k
           go (inl y) = omega (
@@ -173,7 +173,7 @@ module _ {A : Type 0} {R : Ring A} {S : Sized R} {n B D : ℕ} {U : Slots A} (O 
       most = (size (m .unit * X .now .hand n) +ₙ (B +ₙ D)) -ₙ suc (degrees n (U .size))
 
       second-room-exact : (k : ℕ) → k < n → size (w * g k) ≤ most -ₙ ω k
-      second-room-exact k h = go (right-cases O k h)
+      second-room-exact k h = go (secondSide-cases O k h)
         where
           go : (size (g k) +ₙ degrees n (U .size) ≤ B +ₙ d k) ⊎ (g k ≡ 𝟘) → size (w * g k) ≤ most -ₙ ω k
           go (inl y) = go′ (ℕ-discrete (size (g k)) 0)

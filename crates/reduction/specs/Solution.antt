@@ -21,15 +21,15 @@ use Rattle.reduction.specs.Euclidean.{Euclidean, Associate, associate-no
 use Rattle.reduction.specs.Trace.{State}
 use Rattle.reduction.specs.Kept.{tail-nonzero}
 use Rattle.reduction.specs.Inserting.{Inserting, kept, inserting-old, inserting-new, inserting-blocks, inserting-hand}
-use Rattle.reduction.specs.System.{System}
-use Rattle.reduction.specs.Levels.{Columns, Level}
+use Rattle.reduction.specs.System.{LinearSystem}
+use Rattle.reduction.specs.Levels.{Columns, LevelKnown}
 use Rattle.reduction.specs.Dual.{Dual, dual-span}
 use Rattle.reduction.specs.Transpose.{Tops}
-use Rattle.reduction.specs.Certificate.{RightSolution, SmallSolution}
+use Rattle.reduction.specs.Certificate.{RightSolutionIn, SmallSolution}
 use Rattle.reduction.specs.Certifying.{Short, Certifying}
 
-module _ {A : Type 0} {R : Ring A} {S : Sized R} (E : Euclidean S) (T : System S) where
-  open System T using (rows as n, columns as m, degree as δ, matrix as M, right as b, right-small)
+module _ {A : Type 0} {R : Ring A} {S : Sized R} (E : Euclidean S) (T : LinearSystem S) where
+  open LinearSystem T using (rows as n, columns as m, degree as δ, matrix as M, side as b, side-small)
   open Ring R using (add as _+_, mul as _*_, neg as -_, zero as 𝟘, one as 𝟙)
   open Sized S using (size)
 
@@ -40,7 +40,7 @@ module _ {A : Type 0} {R : Ring A} {S : Sized R} (E : Euclidean S) (T : System S
   abbrev _-_ : A → A → A
   a - b = a + (- b)
 
-  module _ {U : Slots A} (L : Level T m U) (X : Inserting S n unweighted U b) (z : Vanishes R n (X .now .hand)) where
+  module _ {U : Slots A} (L : LevelKnown T m U) (X : Inserting S n unweighted U b) (z : Vanishes R n (X .now .hand)) where
     abbrev t : State A
     t = X .now
 
@@ -80,7 +80,7 @@ module _ {A : Type 0} {R : Ring A} {S : Sized R} (E : Euclidean S) (T : System S
 
       pub solution-small : (i : ℕ) → i < n → size (d * b i) ≤ suc (δ +ₙ degrees n (U .size))
       solution-small i h =
-          omega (arith, size-mul-le S d (b i) (size e) (suc δ) (omega (arith, d-size)) (right-small i h), e-small)
+          omega (arith, size-mul-le S d (b i) (size e) (suc δ) (omega (arith, d-size)) (side-small i h), e-small)
 
       -- with w′ and Y of the second system, of slots G that span the same with the hand
       module _ {G : Slots A} (sizes : (q : ℕ) → q < n → X .now .slots .size q ≡ G .size q)
@@ -205,7 +205,7 @@ module _ {A : Type 0} {R : Ring A} {S : Sized R} (E : Euclidean S) (T : System S
           columns = column;
           cofactor = w′;
           quotient = refl;
-          right = record {
+          side = record {
             cofactor = - k₁;
             product = combination R (sum R n (λ i. Y i * b i) - w′) ((- k₁) * (d * w′)) (given 𝟙 Yb ∷ [])
                 (identity R (sum R n (λ i. Y i * b i) ∷ w′ ∷ k₁ ∷ d ∷ []) (λ ρ q1 q2 q3 q4. search quotes depth 16) refl);
@@ -217,7 +217,7 @@ module _ {A : Type 0} {R : Ring A} {S : Sized R} (E : Euclidean S) (T : System S
         -- with the numerators N of the way down
         module _ (N : ℕ → A) where
           -- L7
-          pub solution-right : ((i : ℕ) → i < n → sum R m (λ j. M i j * N j) ≡ d * b i) → RightSolution E T d N (d * w′) Y
+          pub solution-right : ((i : ℕ) → i < n → sum R m (λ j. M i j * N j) ≡ d * b i) → RightSolutionIn E T d N (d * w′) Y
           solution-right solves = record {
             monic = μ .monic;
             certifying-monic = E .monic-mul d w′ (μ .monic) monic;

@@ -19,9 +19,9 @@ use Rattle.reduction.specs.Slots.{Slots}
 use Rattle.reduction.specs.Span.{span-slot}
 use Rattle.reduction.specs.Row.{row-zero}
 use Rattle.reduction.specs.Euclidean.{Euclidean}
-use Rattle.reduction.specs.System.{System}
+use Rattle.reduction.specs.System.{LinearSystem}
 use Rattle.reduction.specs.Link.{Grows, Kernel}
-use Rattle.reduction.specs.Levels.{Columns, Level, Levels, level-of}
+use Rattle.reduction.specs.Levels.{Columns, LevelKnown, Levels, level-of}
 use Rattle.reduction.specs.Dependence.{link-multiple}
 use Rattle.reduction.specs.RunLevels.{level, kernel, levels}
 use Rattle.reduction.specs.Existence.{Solved, Unsolvable, certificate-within}
@@ -35,9 +35,9 @@ abbrev pub IndependentRows : {A : Type 0} → Ring A → (n m : ℕ) → (ℕ �
 IndependentRows {A} R n m M =
     (q : ℕ → A) → ((j : ℕ) → j < m → sum R n (λ i. R .mul (q i) (M i j)) ≡ R .zero) → Vanishes R n q
 
-module _ {A : Type 0} {R : Ring A} {S : Sized R} (T : System S) (level : ℕ → Slots A) (kernel : ℕ → A)
+module _ {A : Type 0} {R : Ring A} {S : Sized R} (T : LinearSystem S) (level : ℕ → Slots A) (kernel : ℕ → A)
     (C : Levels T level kernel (T .columns)) (independent : IndependentColumns R (T .rows) (T .columns) (T .matrix)) where
-  open System T using (rows as n, columns as m, matrix as M)
+  open LinearSystem T using (rows as n, columns as m, matrix as M)
   open Ring R using (add as _+_, mul as _*_, neg as -_, zero as 𝟘, one as 𝟙)
 
   infixl 65 _+_
@@ -96,7 +96,7 @@ module _ {A : Type 0} {R : Ring A} {S : Sized R} (T : System S) (level : ℕ →
       U : Slots A
       U = level m
 
-      L : Level T m U
+      L : LevelKnown T m U
       L = level-of T C m (omega arith)
 
       full : (p : ℕ) → p < n → 0 < U .size p
@@ -112,21 +112,21 @@ module _ {A : Type 0} {R : Ring A} {S : Sized R} (T : System S) (level : ℕ →
           X : Columns T m (U .at p)
           X = L .within (U .at p) (span-slot R U p l (full p l))
 
-module _ {A : Type 0} {R : Ring A} {S : Sized R} (E : Euclidean S) (T : System S) where
-  open System T using (rows as n, columns as m, degree as δ, matrix as M, right as b)
+module _ {A : Type 0} {R : Ring A} {S : Sized R} (E : Euclidean S) (T : LinearSystem S) where
+  open LinearSystem T using (rows as n, columns as m, degree as δ, matrix as M, side as b)
   open Ring R using (mul as _*_, zero as 𝟘)
 
   infixl 70 _*_
   -- the columns are the rows, and the right side is zero
-  transposed : System S
+  transposed : LinearSystem S
   transposed = record {
     rows = m;
     columns = n;
     degree = δ;
     matrix = λ j i. M i j;
-    right = λ j. 𝟘;
+    side = λ j. 𝟘;
     matrix-small = λ j i l h. T .matrix-small i j h l;
-    right-small = λ j l. omega (arith, S .size-zero);
+    side-small = λ j l. omega (arith, S .size-zero);
   }
 
   -- rows and columns independent: there are as many of both

@@ -1,18 +1,9 @@
--- Sums of numbers over the indices below n; the number of slots that are filled, and the sum of their degrees.
+-- More of sums of numbers over the indices below n; the number of slots that are filled, and the sum of their degrees.
 use Prim.Native.Nat.{ℕ, zero, suc, _+_, _-_, _*_, _<_, _≤_, min}
-use mathlib.Core.Path.{_≡_, refl, ap, ap₂}
+use mathlib.Core.Path.{_≡_, refl, ap}
 use native.Mathlib.Omega.{arith}
 use native.Mathlib.Decide.{ℕ-discrete}
-
--- f 0 + .. + f (n - 1)
-unfoldable pub total : ℕ → (ℕ → ℕ) → ℕ
-total zero f = 0
-total (suc n) f = total n f + f n
-
-pub total-ext : (n : ℕ) (f g : ℕ → ℕ) → ((i : ℕ) → i < n → f i ≡ g i) → total n f ≡ total n g
-unfolding total
-total-ext zero f g e = refl
-total-ext (suc n) f g e = ap₂ _+_ (total-ext n f g (λ i h. e i (omega arith))) (e n (omega arith))
+use Rattle.ring.specs.Total.{total, total-ext}
 
 pub total-le : (n : ℕ) (f g : ℕ → ℕ) → ((i : ℕ) → i < n → f i ≤ g i) → total n f ≤ total n g
 unfolding total

@@ -43,8 +43,8 @@ module _ {A : Type 0} (R : Ring A) (n D : ℕ) (U : Slots A) where
     size = λ k. masked (U .size (back n k)) 0 D;
   }
 
-  abbrev pub rightSide : ℕ → A
-  rightSide i = masked (U .size (back n i)) (R .zero) (U .at (back n i) n)
+  abbrev pub secondSide : ℕ → A
+  secondSide i = masked (U .size (back n i)) (R .zero) (U .at (back n i) n)
 
   abbrev pub weights : ℕ → ℕ
   weights i = D -ₙ U .size (back n i)
@@ -57,7 +57,7 @@ module _ {A : Type 0} {R : Ring A} {S : Sized R} {n B D : ℕ} {U : Slots A} (O 
   C = transposed R n D U
 
   abbrev g : ℕ → A
-  g = rightSide R n D U
+  g = secondSide R n D U
 
   abbrev ω : ℕ → ℕ
   ω = weights R n D U
@@ -102,8 +102,8 @@ module _ {A : Type 0} {R : Ring A} {S : Sized R} {n B D : ℕ} {U : Slots A} (O 
           go (no z) = omega (arith, ap size (masked-filled (d i) 𝟘 (U .at (back n i) (back n k)) (omega arith)), e (omega arith))
 
   -- the right side is zero at the places of empty slots, and bounded like the tails of U
-  pub right-cases : (i : ℕ) → i < n → (size (g i) +ₙ degrees n (U .size) ≤ B +ₙ d i) ⊎ (g i ≡ 𝟘)
-  right-cases i h = go (ℕ-discrete (d i) 0) (ℕ-discrete (size τ) 0)
+  pub secondSide-cases : (i : ℕ) → i < n → (size (g i) +ₙ degrees n (U .size) ≤ B +ₙ d i) ⊎ (g i ≡ 𝟘)
+  secondSide-cases i h = go (ℕ-discrete (d i) 0) (ℕ-discrete (size τ) 0)
     where
       τ : A
       τ = U .at (back n i) n

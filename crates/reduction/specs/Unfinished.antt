@@ -13,14 +13,14 @@ use Rattle.reduction.specs.Slots.{Slots, SameBlocks, unweighted}
 use Rattle.reduction.specs.Span.{InSpan, span-blocks}
 use Rattle.reduction.specs.Euclidean.{Euclidean, Associate}
 use Rattle.reduction.specs.Inserting.{Inserting}
-use Rattle.reduction.specs.System.{System}
-use Rattle.reduction.specs.Levels.{Level}
+use Rattle.reduction.specs.System.{LinearSystem}
+use Rattle.reduction.specs.Levels.{LevelKnown}
 use Rattle.reduction.specs.Dual.{Dual}
-use Rattle.reduction.specs.Certificate.{RightSolution, SmallSolution}
+use Rattle.reduction.specs.Certificate.{RightSolutionIn, SmallSolution}
 use Rattle.reduction.specs.Solution.{solution-span, solution-small, solution-right, solution-sizes}
 
-module _ {A : Type 0} {R : Ring A} {S : Sized R} (E : Euclidean S) (T : System S) where
-  open System T using (rows as n, columns as m, degree as δ, matrix as M, right as b)
+module _ {A : Type 0} {R : Ring A} {S : Sized R} (E : Euclidean S) (T : LinearSystem S) where
+  open LinearSystem T using (rows as n, columns as m, degree as δ, matrix as M, side as b)
   open Ring R using (mul as _*_)
   open Sized S using (size)
 
@@ -30,12 +30,12 @@ module _ {A : Type 0} {R : Ring A} {S : Sized R} (E : Euclidean S) (T : System S
     pub span : InSpan R n n U (λ k. d * b k)
     pub vector-small : (i : ℕ) → i < n → size (d * b i) ≤ suc (δ +ₙ degrees n (U .size))
     -- with numerators that solve the system, the certificate is right; with small ones, it is small
-    pub right : (N : ℕ → A) → ((i : ℕ) → i < n → sum R m (λ j. M i j * N j) ≡ d * b i) → RightSolution E T d N w Z
+    pub right : (N : ℕ → A) → ((i : ℕ) → i < n → sum R m (λ j. M i j * N j) ≡ d * b i) → RightSolutionIn E T d N w Z
     pub small : (N : ℕ → A) → ((j : ℕ) → j < m → size (N j) ≤ suc (rank n (U .size) *ₙ δ))
         → SmallSolution E T (suc (rank n (U .size) *ₙ δ)) d N w Z
 
   -- L7 and L8
-  pub unfinished : {U : Slots A} (L : Level T m U) (X : Inserting S n unweighted U b) (z : Vanishes R n (X .now .hand))
+  pub unfinished : {U : Slots A} (L : LevelKnown T m U) (X : Inserting S n unweighted U b) (z : Vanishes R n (X .now .hand))
       (μ : Associate S (E .Monic) (X .now .hand n)) (w′ : A) (Y : ℕ → A) → E .Monic w′
       → Dual S n (degrees n (U .size)) (X .now .slots) w′ Y
       → Unfinished U (μ .unit * X .now .hand n) (μ .unit * X .now .hand n * w′) Y

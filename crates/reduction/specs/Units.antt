@@ -13,18 +13,18 @@ use Rattle.algebra.specs.Sized.{Sized, mul-nonzero-left}
 use Rattle.algebra.specs.Divides.{Divides, divides-equal, divides-mul, divides-sum, mul-divides-mul, mul-divides-cancel}
 use Rattle.reduction.specs.Replace.{replace, replace-here, replace-other, replace-elim}
 use Rattle.reduction.specs.Euclidean.{Euclidean}
-use Rattle.reduction.specs.System.{System}
+use Rattle.reduction.specs.System.{LinearSystem}
 use Rattle.reduction.specs.Existence.{Solved, Unsolvable, certificate-within}
 use Rattle.reduction.specs.Square.{IndependentRows}
 use Rattle.reduction.specs.Joint.{Solvable, Joint, joint-within}
-use Rattle.reduction.specs.Lines.{line, line-solvable}
+use Rattle.reduction.specs.Lines.{withSide, line-solvable}
 
 -- one at k, zero elsewhere
 abbrev pub unitColumn : {A : Type 0} → Ring A → ℕ → ℕ → A
 unitColumn R k = replace (λ i. R .zero) k (R .one)
 
-module _ {A : Type 0} {R : Ring A} {S : Sized R} (E : Euclidean S) (T : System S) where
-  open System T using (rows as n, columns as m, degree as δ, matrix as M)
+module _ {A : Type 0} {R : Ring A} {S : Sized R} (E : Euclidean S) (T : LinearSystem S) where
+  open LinearSystem T using (rows as n, columns as m, degree as δ, matrix as M)
   open Ring R using (mul as _*_, zero as 𝟘, one as 𝟙)
   open Sized S using (size, size-zero, size-one)
 
@@ -39,8 +39,8 @@ module _ {A : Type 0} {R : Ring A} {S : Sized R} (E : Euclidean S) (T : System S
       solvable : (k : ℕ) → k < n → Solvable T (unitColumn R) k
       solvable k l = go (certificate-within E t B h)
         where
-          t : System S
-          t = line T (unitColumn R k) (λ i g. unit-short k i l g)
+          t : LinearSystem S
+          t = withSide T (unitColumn R k) (λ i g. unit-short k i l g)
 
           go : Solved E t (suc B) ⊎ Unsolvable E t (suc B) → Solvable T (unitColumn R) k
           go (inl s) = line-solvable E T (unitColumn R) n unit-short k l (s .d)

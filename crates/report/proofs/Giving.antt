@@ -12,7 +12,7 @@ use Rattle.words.specs.Outcome.{Outcome}
 use Rattle.words.specs.Outcome.Outcome.{accepted, refused}
 use Rattle.words.specs.System.{System, Shape, shape, readSystem}
 use Rattle.words.specs.SystemLaws.{system-written-of-read}
-use Rattle.words.specs.Certificate.{formOf}
+use Rattle.words.specs.Certificate.{formWhen}
 use Rattle.words.specs.Bytes.{readSystemFile}
 use Rattle.truth.specs.Solution.{Answer, Answers}
 use Rattle.truth.specs.Solution.Answer.{least, none}
@@ -25,13 +25,13 @@ use Rattle.report_text.specs.Written.{Written}
 use Rattle.solve_meaning.specs.TakenLaws.{polynomial-within}
 use Rattle.writer.specs.Output.{sizeIn}
 use Rattle.writer.specs.OutputLaws.{size-most}
-use Rattle.solver.specs.Certified.{Read, Certified, CertifiedRead, certified-at}
+use Rattle.solver.specs.Certified.{Read, CertifiedOutput, CertifiedRead, certified-at}
 use Rattle.solver.specs.OutputLaws.{taken-part}
-use Rattle.report.specs.Reporting.{Reports, Given, GivenUnless, ReportsFile}
+use Rattle.report.specs.Reporting.{Reports, ReportGiven, GivenUnless, ReportsFile}
 
 module _ {entry exit : List ℕ} {count : ℕ} where
   pub given-refused : {o : Outcome System} (number place : ℕ) → o ≡ refused number place
-      → Written (reportText (refused number place)) entry exit count → Given o entry exit count
+      → Written (reportText (refused number place)) entry exit count → ReportGiven o entry exit count
   unfolding Reports
   given-refused number place e w = record {
     text = reportText (refused number place);
@@ -40,7 +40,7 @@ module _ {entry exit : List ℕ} {count : ℕ} where
   }
 
   given-accepted : {o : Outcome System} (s : System) → o ≡ accepted s → (a : Answer) → Answers s a
-      → Written (reportText (accepted a)) entry exit count → Given o entry exit count
+      → Written (reportText (accepted a)) entry exit count → ReportGiven o entry exit count
   unfolding Reports
   given-accepted s e a answers w = record {
     text = reportText (accepted a);
@@ -52,7 +52,7 @@ module _ {entry exit : List ℕ} {count : ℕ} where
 
 module _ {h : Shape} {ws : List ℕ} (R : Read h ws) (output : List ℕ) (solved : Bool)
     (certified : CertifiedRead (readSystem office ws) output solved) where
-  held : Certified (R .system) output solved
+  held : CertifiedOutput (R .system) output solved
   held = certified-at (R .read) certified
 
   valid : ValidOutput (R .system .modulus) output
@@ -77,22 +77,22 @@ module _ {h : Shape} {ws : List ℕ} (R : Read h ws) (output : List ℕ) (solved
 
   module _ {entry exit : List ℕ} {count : ℕ} where
     -- d, or that there is none
-    by-answer : (a : Answer) → answerOf (takenCertificate (shape (R .system)) (formOf solved) output) ≡ a
-        → Written (reportText (accepted a)) entry exit count → Given (readSystem office ws) entry exit count
+    by-answer : (a : Answer) → answerOf (takenCertificate (shape (R .system)) (formWhen solved) output) ≡ a
+        → Written (reportText (accepted a)) entry exit count → ReportGiven (readSystem office ws) entry exit count
     by-answer a e w =
         given-accepted (R .system) (R .read) a (subst (Answers (R .system)) e (held .answers)) w
 
     pub given-solution : solved ≡ true → {n : ℕ} → n ≡ sizeIn output 0
-        → Written (reportText (accepted (least (take n output)))) entry exit count → Given (readSystem office ws) entry exit count
-    unfolding answerOf takenCertificate formOf
+        → Written (reportText (accepted (least (take n output)))) entry exit count → ReportGiven (readSystem office ws) entry exit count
+    unfolding answerOf takenCertificate formWhen
     given-solution e {n} size w =
         by-answer (least (take n output))
-        (ap (λ b. answerOf (takenCertificate (shape (R .system)) (formOf b) output)) e ∙ ap least (d-is size)) w
+        (ap (λ b. answerOf (takenCertificate (shape (R .system)) (formWhen b) output)) e ∙ ap least (d-is size)) w
 
     pub given-none : solved ≡ false → Written (reportText (accepted none)) entry exit count
-        → Given (readSystem office ws) entry exit count
-    unfolding answerOf takenCertificate formOf
-    given-none e w = by-answer none (ap (λ b. answerOf (takenCertificate (shape (R .system)) (formOf b) output)) e) w
+        → ReportGiven (readSystem office ws) entry exit count
+    unfolding answerOf takenCertificate formWhen
+    given-none e w = by-answer none (ap (λ b. answerOf (takenCertificate (shape (R .system)) (formWhen b) output)) e) w
 
 -- ---- a file
 
@@ -103,7 +103,7 @@ module _ (file : List ℕ) {entry exit : List ℕ} {count : ℕ} where
       subst (λ b. GivenUnless b (readSystemFile office file) entry exit count) (sym (lt-ltb (length entry) reportSpace h)) (n, e)
 
   module _ (room : reportSpace ≤ length entry) where
-    file-given : Given (readSystemFile office file) entry exit count → ReportsFile office file entry exit count
+    file-given : ReportGiven (readSystemFile office file) entry exit count → ReportsFile office file entry exit count
     unfolding GivenUnless
     file-given g =
         subst (λ b. GivenUnless b (readSystemFile office file) entry exit count) (sym (le-ltb (length entry) reportSpace room)) g
@@ -112,6 +112,6 @@ module _ (file : List ℕ) {entry exit : List ℕ} {count : ℕ} where
         → Written (reportText (refused number place)) entry exit count → ReportsFile office file entry exit count
     file-refused number place e w = file-given (given-refused number place e w)
 
-    pub file-words : {o : Outcome System} → readSystemFile office file ≡ o → Given o entry exit count
+    pub file-words : {o : Outcome System} → readSystemFile office file ≡ o → ReportGiven o entry exit count
         → ReportsFile office file entry exit count
-    file-words e g = file-given (subst (λ o. Given o entry exit count) (sym e) g)
+    file-words e g = file-given (subst (λ o. ReportGiven o entry exit count) (sym e) g)

@@ -14,7 +14,7 @@ use Rattle.words.specs.SystemLaws.{system-written-of-read}
 use Rattle.words.specs.Bytes.{bytesOf, readSystemFile}
 use Rattle.words.specs.BytesLaws.{file-read-of-written}
 use Rattle.truth.specs.Verdict.{verdict}
-use Rattle.truth.specs.Cases.{Case, Told, cases, told, wanted, row-true}
+use Rattle.truth.specs.Cases.{Case, CaseOutcome, cases, caseOutcome, wanted, row-true}
 use Rattle.solve_meaning.specs.Answers.{answerOf, true-answers}
 use Rattle.report_text.specs.Ascii.{ascii}
 use Rattle.report_text.specs.Decimal.{decimal}
@@ -61,19 +61,19 @@ AllReported (e ∷ es) = Reported (bytesOf (systemWords (e .case .system))) (asc
 
 -- what is computed of a row
 record Shown : Type 0 where
-  told : Told
+  outcome : CaseOutcome
   verdict : Outcome (Unit {0})
   text : List ℕ
 
 abbrev shown : Example → Shown
 shown e = record {
-  told = told (e .case);
+  outcome = caseOutcome (e .case);
   verdict = e .case .expected;
   text = reportText (accepted (answerOf (e .case .certificate)));
 }
 
 abbrev due : Example → Shown
-due e = record { told = wanted (e .case); verdict = accepted tt; text = ascii (e .text) }
+due e = record { outcome = wanted (e .case); verdict = accepted tt; text = ascii (e .text) }
 
 -- a certificate that the check accepts gives the answer, and so the report
 row-reported : (e : Example) → shown e ≡ due e → Reported (bytesOf (systemWords (e .case .system))) (ascii (e .text))
@@ -81,7 +81,7 @@ unfolding Reports
 row-reported e r =
     let s = e .case .system in
     let c = e .case .certificate in
-    let row = ap (λ x. x .told) r in
+    let row = ap (λ x. x .outcome) r in
     let within = system-written-of-read office office-fits (systemWords s) s (ap (λ t. t .system) row) .1 in
     reported (subst (λ o. Reports o (ascii (e .text))) (sym (file-read-of-written office office-fits s within)) (
       answerOf c,

@@ -26,7 +26,7 @@ abbrev pub ReportOf : Limits → List ℕ → List ℕ → Type 0
 ReportOf limits file text = Reports (readSystemFile limits file) text
 
 -- a report written over the first of the lent bytes; those behind it stay
-pub record Given (read : Outcome System) (entry exit : List ℕ) (count : ℕ) : Type 0 where
+pub record ReportGiven (read : Outcome System) (entry exit : List ℕ) (count : ℕ) : Type 0 where
   pub text : List ℕ
   pub reports : Reports read text
   pub written : Written text entry exit count
@@ -34,7 +34,7 @@ pub record Given (read : Outcome System) (entry exit : List ℕ) (count : ℕ) :
 -- where too few bytes are lent for every report, none is written, and no lent byte changes
 unfoldable pub GivenUnless : Bool → Outcome System → (entry exit : List ℕ) → ℕ → Type 0
 GivenUnless true read entry exit count = (count ≡ 0) × (exit ≡ entry)
-GivenUnless false read entry exit count = Given read entry exit count
+GivenUnless false read entry exit count = ReportGiven read entry exit count
 
 -- `reportSpace`, 1,024 bytes, suffices (`report-fits`): the bytes of a system's file, the lent bytes before and after, and the number of the report's bytes
 abbrev pub ReportsFile : Limits → List ℕ → (entry exit : List ℕ) → ℕ → Type 0

@@ -19,12 +19,12 @@ ghost use Rattle.words.specs.System.{readSystem};
 ghost use Rattle.answers.specs.Answer.{shapeOf};
 ghost use Rattle.report_text.specs.Longest.{reportSpace};
 ghost use Rattle.solver.specs.Certified.{Read};
-ghost use Rattle.report.specs.Reporting.{Given, ReportsFile};
+ghost use Rattle.report.specs.Reporting.{ReportGiven, ReportsFile};
 
 // Writes the report of a system that was read. Returns the number of its bytes.
 fn report_read(out: &mut [u8], system: &[u32], shape: Shape) -> usize
     requires { ⌜ Read (shapeOf shape) (now system) × (reportSpace ≤ length (now out)) ⌝ }
-    ensures { λ r. ⌜ Given (readSystem office (now (system .entry))) (now (out .entry)) (now (out .exit)) r ⌝ }
+    ensures { λ r. ⌜ ReportGiven (readSystem office (now (system .entry))) (now (out .entry)) (now (out .exit)) r ⌝ }
 {
     let mut output = [0u64; OUTPUT];
     let solved = certify_words(&mut output, system, shape);
@@ -40,7 +40,7 @@ fn report_read(out: &mut [u8], system: &[u32], shape: Shape) -> usize
 // Writes the report of the words of a file. Returns the number of its bytes.
 fn report_words(out: &mut [u8], system: &[u32]) -> usize
     requires { ⌜ reportSpace ≤ length (now out) ⌝ }
-    ensures { λ r. ⌜ Given (readSystem office (now (system .entry))) (now (out .entry)) (now (out .exit)) r ⌝ }
+    ensures { λ r. ⌜ ReportGiven (readSystem office (now (system .entry))) (now (out .entry)) (now (out .exit)) r ⌝ }
 {
     let read = read_system(system, Office::limits());
     match read {

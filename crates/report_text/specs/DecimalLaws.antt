@@ -59,21 +59,21 @@ module _ (P : ℕ → Type 0) (one : (n : ℕ) → n < 10 → P n) (more : (n : 
 -- ---- the value
 
 -- of the digits behind those whose value is n
-abbrev pub valueFrom : ℕ → List ℕ → ℕ
-valueFrom n [] = n
-valueFrom n (c ∷ text) = valueFrom (n * 10 + (c - 48)) text
+abbrev pub decimalValueFrom : ℕ → List ℕ → ℕ
+decimalValueFrom n [] = n
+decimalValueFrom n (c ∷ text) = decimalValueFrom (n * 10 + (c - 48)) text
 
-abbrev pub value : List ℕ → ℕ
-value text = valueFrom 0 text
+abbrev pub decimalValue : List ℕ → ℕ
+decimalValue text = decimalValueFrom 0 text
 
-value-append : (n : ℕ) (s t : List ℕ) → valueFrom n (s ++ t) ≡ valueFrom (valueFrom n s) t
+value-append : (n : ℕ) (s t : List ℕ) → decimalValueFrom n (s ++ t) ≡ decimalValueFrom (decimalValueFrom n s) t
 value-append n [] t = refl
 value-append n (c ∷ s) t = value-append (n * 10 + (c - 48)) s t
 
-pub value-decimal : (n : ℕ) → value (decimal n) ≡ n
-value-decimal = by-digits (λ n. value (decimal n) ≡ n)
-    (λ n h. ap value (decimal-one n h) ∙ omega arith)
-    (λ n h ih. ap value (decimal-more n h) ∙ value-append 0 (decimal (n / 10)) (digit (n % 10) ∷ [])
+pub value-decimal : (n : ℕ) → decimalValue (decimal n) ≡ n
+value-decimal = by-digits (λ n. decimalValue (decimal n) ≡ n)
+    (λ n h. ap decimalValue (decimal-one n h) ∙ omega arith)
+    (λ n h ih. ap decimalValue (decimal-more n h) ∙ value-append 0 (decimal (n / 10)) (digit (n % 10) ∷ [])
     ∙ ap (λ q. q * 10 + (digit (n % 10) - 48)) ih ∙ omega arith)
 
 -- ---- the form
@@ -92,7 +92,7 @@ IsDecimal [] = ⊥
 IsDecimal (c ∷ []) = Digit c
 IsDecimal (c ∷ b ∷ text) = (48 < c) × Digit c × Digits (b ∷ text)
 
-form-append : (text : List ℕ) (c : ℕ) → IsDecimal text → 0 < value text → Digit c → IsDecimal (text ++ (c ∷ []))
+form-append : (text : List ℕ) (c : ℕ) → IsDecimal text → 0 < decimalValue text → Digit c → IsDecimal (text ++ (c ∷ []))
 form-append [] c h v d = absurd h
 form-append (a ∷ []) c h v d = (omega arith, h, (d, tt))
 form-append (a ∷ b ∷ text) c h v d = (h .0, h .1, digits-append (b ∷ text) (h .2))
@@ -108,7 +108,7 @@ decimal-form = by-digits (λ n. IsDecimal (decimal n))
     (form-append (decimal (n / 10)) (digit (n % 10)) ih (rw (value-decimal (n / 10)) (omega arith)) (omega arith)))
 
 -- more digits behind a number that is not 0
-decimal-append : (n : ℕ) (text : List ℕ) → 0 < n → Digits text → decimal (valueFrom n text) ≡ decimal n ++ text
+decimal-append : (n : ℕ) (text : List ℕ) → 0 < n → Digits text → decimal (decimalValueFrom n text) ≡ decimal n ++ text
 decimal-append n [] h d = sym (append-nil (decimal n))
 decimal-append n (c ∷ text) h d =
     let next : ℕ = n * 10 + (c - 48) in
@@ -117,15 +117,15 @@ decimal-append n (c ∷ text) h d =
     ∙ ap₂ (λ q e. decimal q ++ (e ∷ [])) (omega arith) (omega arith))
     ∙ append-assoc (decimal n) (c ∷ []) text
 
-decimal-digit : (c : ℕ) → Digit c → decimal (value (c ∷ [])) ≡ c ∷ []
-decimal-digit c h = decimal-one (value (c ∷ [])) (omega arith) ∙ ap (λ e. e ∷ []) (omega arith)
+decimal-digit : (c : ℕ) → Digit c → decimal (decimalValue (c ∷ [])) ≡ c ∷ []
+decimal-digit c h = decimal-one (decimalValue (c ∷ [])) (omega arith) ∙ ap (λ e. e ∷ []) (omega arith)
 
 -- a number has no other decimal
-pub decimal-value : (text : List ℕ) → IsDecimal text → decimal (value text) ≡ text
+pub decimal-value : (text : List ℕ) → IsDecimal text → decimal (decimalValue text) ≡ text
 decimal-value [] h = absurd h
 decimal-value (c ∷ []) h = decimal-digit c h
 decimal-value (c ∷ b ∷ text) h =
-    decimal-append (value (c ∷ [])) (b ∷ text) (omega arith) (h .2) ∙ ap (λ t. t ++ (b ∷ text)) (decimal-digit c (h .1))
+    decimal-append (decimalValue (c ∷ [])) (b ∷ text) (omega arith) (h .2) ∙ ap (λ t. t ++ (b ∷ text)) (decimal-digit c (h .1))
 
 -- ---- how long it is
 

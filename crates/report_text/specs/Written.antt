@@ -6,8 +6,8 @@ use lib.ListN.{length, drop}
 use lib.Seq.{sets}
 
 -- there is room for the text from the place `at` on
-abbrev pub Room : List ℕ → List ℕ → ℕ → Type 0
-Room text bytes at = at + length text ≤ length bytes
+abbrev pub TextRoom : List ℕ → List ℕ → ℕ → Type 0
+TextRoom text bytes at = at + length text ≤ length bytes
 
 -- the text stands from the place `at` on, and the other bytes are as before; `next` is the place behind it
 pub record Appended (text before : List ℕ) (at : ℕ) (after : List ℕ) (next : ℕ) : Type 0 where

@@ -4,11 +4,11 @@ use crate::text::append_labelled;
 use crate::text::append_numbers;
 ghost use mathlib.Core.Path.{_≡_};
 ghost use Rattle.report_text.specs.Text.{degree, denominatorLine, feedbackLine};
-ghost use Rattle.report_text.specs.Written.{Room, Appended};
+ghost use Rattle.report_text.specs.Written.{TextRoom, Appended};
 
 // Appends the second line: the coefficients of d, lowest first.
 pub fn append_denominator(out: &mut [u8], at: usize, d: &[u64]) -> usize
-    requires { ⌜ Room (denominatorLine (now d)) (now out) at ⌝ }
+    requires { ⌜ TextRoom (denominatorLine (now d)) (now out) at ⌝ }
     ensures { λ r. ⌜ Appended (denominatorLine (now (d .entry))) (now (out .entry)) at (now (out .exit)) r ⌝ }
 {
     let labelled = append(out, at, b"denominator");
@@ -18,7 +18,7 @@ pub fn append_denominator(out: &mut [u8], at: usize, d: &[u64]) -> usize
 
 // Appends the third line: the degree of d.
 pub fn append_feedback(out: &mut [u8], at: usize, d: &[u64]) -> usize
-    requires { ⌜ Room (feedbackLine (now d)) (now out) at ⌝ }
+    requires { ⌜ TextRoom (feedbackLine (now d)) (now out) at ⌝ }
     ensures { λ r. ⌜ Appended (feedbackLine (now (d .entry))) (now (out .entry)) at (now (out .exit)) r ⌝ }
 {
     let numbered = append_labelled(out, at, b"feedback", degree_of(d));

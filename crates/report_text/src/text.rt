@@ -3,11 +3,11 @@
 ghost use mathlib.Core.List.{_++_, map};
 ghost use Rattle.report_text.specs.Decimal.{decimal};
 ghost use Rattle.report_text.specs.Text.{spaced, allSpaced};
-ghost use Rattle.report_text.specs.Written.{Room, Appended};
+ghost use Rattle.report_text.specs.Written.{TextRoom, Appended};
 
 // Appends the bytes of `text`.
 pub fn append(out: &mut [u8], at: usize, text: &[u8]) -> usize
-    requires { ⌜ Room (now text) (now out) at ⌝ }
+    requires { ⌜ TextRoom (now text) (now out) at ⌝ }
     ensures { λ r. ⌜ Appended (now (text .entry)) (now (out .entry)) at (now (out .exit)) r ⌝ }
 {
     let mut j: usize = 0;
@@ -20,7 +20,7 @@ pub fn append(out: &mut [u8], at: usize, text: &[u8]) -> usize
 
 // Appends the number n in decimal.
 fn append_decimal(out: &mut [u8], at: usize, n: u64) -> usize
-    requires { ⌜ Room (decimal n) (now out) at ⌝ }
+    requires { ⌜ TextRoom (decimal n) (now out) at ⌝ }
     ensures { λ r. ⌜ Appended (decimal n) (now (out .entry)) at (now (out .exit)) r ⌝ }
 {
     let mut digits = [0u8; 20];
@@ -30,7 +30,7 @@ fn append_decimal(out: &mut [u8], at: usize, n: u64) -> usize
 
 // Appends the number n as a part of a line, behind a space.
 fn append_number(out: &mut [u8], at: usize, n: u64) -> usize
-    requires { ⌜ Room (spaced (decimal n)) (now out) at ⌝ }
+    requires { ⌜ TextRoom (spaced (decimal n)) (now out) at ⌝ }
     ensures { λ r. ⌜ Appended (spaced (decimal n)) (now (out .entry)) at (now (out .exit)) r ⌝ }
 {
     let next = append(out, at, b" ");
@@ -39,7 +39,7 @@ fn append_number(out: &mut [u8], at: usize, n: u64) -> usize
 
 // Appends a label, and the number n behind it.
 pub fn append_labelled(out: &mut [u8], at: usize, label: &[u8], n: u64) -> usize
-    requires { ⌜ Room (now label ++ spaced (decimal n)) (now out) at ⌝ }
+    requires { ⌜ TextRoom (now label ++ spaced (decimal n)) (now out) at ⌝ }
     ensures { λ r. ⌜ Appended (now (label .entry) ++ spaced (decimal n)) (now (out .entry)) at (now (out .exit)) r ⌝ }
 {
     let next = append(out, at, label);
@@ -48,7 +48,7 @@ pub fn append_labelled(out: &mut [u8], at: usize, label: &[u8], n: u64) -> usize
 
 // Appends the numbers in their order, each behind a space.
 pub fn append_numbers(out: &mut [u8], at: usize, numbers: &[u64]) -> usize
-    requires { ⌜ Room (allSpaced (map decimal (now numbers))) (now out) at ⌝ }
+    requires { ⌜ TextRoom (allSpaced (map decimal (now numbers))) (now out) at ⌝ }
     ensures { λ r. ⌜ Appended (allSpaced (map decimal (now (numbers .entry)))) (now (out .entry)) at (now (out .exit)) r ⌝ }
 {
     let mut next = at;

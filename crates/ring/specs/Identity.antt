@@ -39,10 +39,10 @@ module _ {A : Type 0} (R : Ring A) (ρ : List A) where
 pub ruleset quotes = (q-both, q-add, q-mul, q-neg, q-zero, q-one)
 
 module _ {A : Type 0} (R : Ring A) where
-  abbrev pub Same : {ρ : List A} {x y : A} → Both R ρ x y → Type 0
-  Same b = norm (b .lhs .expr) ≡ norm (b .rhs .expr)
+  abbrev pub SameNorm : {ρ : List A} {x y : A} → Both R ρ x y → Type 0
+  SameNorm b = norm (b .lhs .expr) ≡ norm (b .rhs .expr)
 
-  pub by-quotes : (ρ : List A) {x y : A} (b : Both R ρ x y) → Same b → x ≡ y
+  pub by-quotes : (ρ : List A) {x y : A} (b : Both R ρ x y) → SameNorm b → x ≡ y
   by-quotes ρ b e = sym (b .lhs .means) ∙ solve R ρ (b .lhs .expr) (b .rhs .expr) e ∙ b .rhs .means
 
   -- T, given an expression for each of the variables xs
@@ -58,5 +58,6 @@ module _ {A : Type 0} (R : Ring A) where
   abbrev pub variable : (ρ : List A) (i : ℕ) → Quote R ρ (at R ρ i)
   variable ρ i = record { expr = v i; means = refl }
 
-  pub identity : (ρ : List A) {x y : A} (f : (σ : List A) → Quoted σ ρ (Both R σ x y)) → Same (give ρ ρ (Both R ρ x y) (variable ρ) (f ρ)) → x ≡ y
+  pub identity : (ρ : List A) {x y : A} (f : (σ : List A) → Quoted σ ρ (Both R σ x y))
+      → SameNorm (give ρ ρ (Both R ρ x y) (variable ρ) (f ρ)) → x ≡ y
   identity ρ {x} {y} f e = by-quotes ρ (give ρ ρ (Both R ρ x y) (variable ρ) (f ρ)) e

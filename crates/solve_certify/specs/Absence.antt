@@ -25,7 +25,7 @@ use Rattle.solve_lattice.specs.Word.{words}
 use Rattle.solve_lattice.specs.Memory.{Level, ValidLevel}
 use Rattle.solve_lattice.specs.Holding.{HoldsSlots}
 use Rattle.solve_lattice.specs.Range.{words-apart}
-use Rattle.solve_lattice.specs.Input.{Equations, systemOf}
+use Rattle.solve_lattice.specs.Input.{Equations, inputSystem}
 use Rattle.solve_lattice.specs.Output.{ValidOutput, HoldsAt, HoldsAbsence}
 use Rattle.solve_second.specs.WithRow.{withRow, row-valid, row-holds}
 use Rattle.solve_second.specs.Solved.{HasTops, HoldsSecond, SecondSolved}
@@ -36,7 +36,7 @@ use Rattle.solve_certify.specs.Inserted.{HoldsStuck, slots-high, last-de
 pub record AbsenceFound (p n : ℕ) (L : Level) (h : ℕ) (output : List ℕ) : Type 0 where
   pub valid : ValidOutput p output
   pub holds : (prime : Prime p) (m : ℕ) (X : Equations p prime n m) (U : Slots (Polynomial (residues p prime)))
-      → HoldsStuck p prime n m X U L h → HoldsAbsence p prime (systemOf p prime n m X) output
+      → HoldsStuck p prime n m X U L h → HoldsAbsence p prime (inputSystem p prime n m X) output
 
 -- the second system of these slots
 module _ {p n m h : ℕ} {L : Level} (few-rows : n ≤ lanes) (level : ValidLevel p L) (prime : Prime p) (X : Equations p prime n m)
@@ -49,7 +49,7 @@ module _ {p n m h : ℕ} {L : Level} (few-rows : n ≤ lanes) (level : ValidLeve
       (row-holds h level prime few-rows (omega (arith, Q .at, Q .stuck .pivot .inside)) (Q .slots))
 
   tops : Tops (sized (residues p prime)) n (degrees n (U .size)) blockDegrees (tailed n U (λ q. U .at q (Q .stuck .at)))
-  tops = absence-tops (euclidean (residues p prime)) (systemOf p prime n m X) (Q .last) (Q .inserting) (Q .stuck) blockDegrees
+  tops = absence-tops (euclidean (residues p prime)) (inputSystem p prime n m X) (Q .last) (Q .inserting) (Q .stuck) blockDegrees
       (slots-high prime few-rows (row-valid h level (omega (arith, Q .at, Q .stuck .pivot .inside))) held)
 
   pub stuck-tops : HasTops p n (withRow h L)
@@ -112,17 +112,17 @@ stored-found {p} {n} {h} {L} {w} {rows} prime₀ few-rows inside level solved va
   holds = λ prime m X U Q.
       let S = stuck-second few-rows level prime X U Q solved in record {
         q = absence (polynomials (residues p prime)) (Q .stuck .at) (S .polynomial) (S .Y);
-        right = absence-right (euclidean (residues p prime)) (systemOf p prime n m X) (Q .last) (Q .inserting) (Q .stuck)
+        right = absence-right (euclidean (residues p prime)) (inputSystem p prime n m X) (Q .last) (Q .inserting) (Q .stuck)
             (S .polynomial) (S .Y) (S .dual);
         small = λ i l. omega (
           arith,
-          absence-sizes (euclidean (residues p prime)) (systemOf p prime n m X) (Q .last) (Q .inserting) (Q .stuck)
+          absence-sizes (euclidean (residues p prime)) (inputSystem p prime n m X) (Q .last) (Q .inserting) (Q .stuck)
               (S .polynomial) (S .Y) (S .dual) i l,
           last-degrees prime few-rows (Q .last) .0,
         );
-        killing = absence-killing (euclidean (residues p prime)) (systemOf p prime n m X) (Q .last) (Q .inserting) (Q .stuck)
+        killing = absence-killing (euclidean (residues p prime)) (inputSystem p prime n m X) (Q .last) (Q .inserting) (Q .stuck)
             (S .polynomial) (S .Y) (S .dual);
-        monic = subst (Monic (residues p prime)) (sym (absence-at (euclidean (residues p prime)) (systemOf p prime n m X) (Q .last)
+        monic = subst (Monic (residues p prime)) (sym (absence-at (euclidean (residues p prime)) (inputSystem p prime n m X) (Q .last)
             (Q .inserting) (Q .stuck) (S .polynomial) (S .Y) (S .dual))) (S .monic);
         holds-q = λ i l. replace-elim (λ i x. i < n → HoldsAt p prime (storedAbsence p n h w rows) i x)
             (λ k. polynomials (residues p prime) .neg (S .Y k)) (Q .stuck .at) (S .polynomial)

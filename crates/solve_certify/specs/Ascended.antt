@@ -15,7 +15,7 @@ use Rattle.reduction.specs.Unfinished.{Unfinished}
 use Rattle.solve_lattice.specs.Memory.{Level}
 use Rattle.solve_lattice.specs.Holding.{HoldsSlots}
 use Rattle.solve_lattice.specs.Coefficients.{HoldsCoefficients}
-use Rattle.solve_lattice.specs.Input.{Equations, systemOf, HoldsSystem}
+use Rattle.solve_lattice.specs.Input.{Equations, inputSystem, HoldsSystem}
 use Rattle.solve_lattice.specs.Output.{ValidOutput, HoldsAt, HoldsAbsence}
 
 module _ (p : ℕ) (prime : Prime p) (n m : ℕ) where
@@ -24,7 +24,7 @@ module _ (p : ℕ) (prime : Prime p) (n m : ℕ) where
     pub system : HoldsSystem p prime n m X input
     pub level : ℕ → Slots (Polynomial (residues p prime))
     pub kernel : ℕ → Polynomial (residues p prime)
-    pub levels : Levels (systemOf p prime n m X) level kernel j
+    pub levels : Levels (inputSystem p prime n m X) level kernel j
     -- memory has the blocks of level j, with whatever tails
     pub slots : Slots (Polynomial (residues p prime))
     pub holds : HoldsSlots p prime n unweighted L slots
@@ -36,17 +36,17 @@ module _ (p : ℕ) (prime : Prime p) (n m : ℕ) where
       (quotients output : List ℕ) : Type 0 where
     pub level : ℕ → Slots (Polynomial (residues p prime))
     pub kernel : ℕ → Polynomial (residues p prime)
-    pub levels : Levels (systemOf p prime n m X) level kernel m
+    pub levels : Levels (inputSystem p prime n m X) level kernel m
     -- they begin as H's
     pub same-level : (k : ℕ) → k ≤ j → level k ≡ H .level k
     pub same-kernel : (k : ℕ) → k < j → kernel k ≡ H .kernel k
     pub d : Polynomial (residues p prime)
     pub w : Polynomial (residues p prime)
     pub Z : ℕ → Polynomial (residues p prime)
-    pub unfinished : Unfinished (euclidean (residues p prime)) (systemOf p prime n m X) (level m) d w Z
+    pub unfinished : Unfinished (euclidean (residues p prime)) (inputSystem p prime n m X) (level m) d w Z
     pub vector : ℕ → Polynomial (residues p prime)
     pub N : ℕ → Polynomial (residues p prime)
-    pub descent : Descent (systemOf p prime n m X) level kernel (λ k. polynomials (residues p prime) .mul d (X .right k)) j vector N
+    pub descent : Descent (inputSystem p prime n m X) level kernel (λ k. polynomials (residues p prime) .mul d (X .side k)) j vector N
     pub holds-d : HoldsAt p prime output 0 d
     pub holds-N : (k : ℕ) → j ≤ k → k < m → HoldsAt p prime output (1 + k) (N k)
     pub holds-w : HoldsAt p prime output (1 + m) w
@@ -57,7 +57,7 @@ module _ (p : ℕ) (prime : Prime p) (n m : ℕ) where
   unfoldable pub HoldsAscended : Bool → (X : Equations p prime n m) {j : ℕ} {input : List ℕ} {L : Level} → HoldsLevels X j input L
       → List ℕ → List ℕ → Type 0
   HoldsAscended true X H quotients output = HoldsDescended H quotients output
-  HoldsAscended false X H quotients output = HoldsAbsence p prime (systemOf p prime n m X) output
+  HoldsAscended false X H quotients output = HoldsAbsence p prime (inputSystem p prime n m X) output
 
 -- some system has this level
 pub record HasLevels (p n m j : ℕ) (input : List ℕ) (L : Level) : Type 0 where

@@ -13,7 +13,7 @@ use Rattle.reduction.specs.Certificate.{small-solution-le}
 use Rattle.reduction.specs.Descent.{descent-end}
 use Rattle.reduction.specs.Reduced.{descent-reduced}
 use Rattle.solve_lattice.specs.Memory.{Level}
-use Rattle.solve_lattice.specs.Input.{Equations, systemOf}
+use Rattle.solve_lattice.specs.Input.{Equations, inputSystem}
 use Rattle.solve_lattice.specs.Output.{HoldsSolution, HoldsCertificate}
 use Rattle.solve_certify.specs.Ascended.{HoldsLevels, HoldsDescended, HoldsAscended, Ascended}
 use Rattle.solve_certify.specs.Certifies.{Certifies}
@@ -22,18 +22,18 @@ use Rattle.solve_lattice.specs.Room.{lanes}
 
 module _ {p n m : ℕ} (few : n ≤ lanes) {input : List ℕ} {L : Level} (quotients output : List ℕ) where
   module _ (prime : Prime p) {X : Equations p prime n m} (H : HoldsLevels p prime n m X 0 input L) where
-    solution : HoldsDescended p prime n m H quotients output → HoldsSolution p prime (systemOf p prime n m X) output
+    solution : HoldsDescended p prime n m H quotients output → HoldsSolution p prime (inputSystem p prime n m X) output
     solution D = record {
       d = D .d;
       N = D .N;
       w = D .w;
       Z = D .Z;
-      right = D .unfinished .right (D .N) (descent-end (systemOf p prime n m X) (D .level) (D .kernel) (D .levels)
-          (λ k. polynomials (residues p prime) .mul (D .d) (X .right k)) (D .vector) (D .N) (D .descent));
-      small = small-solution-le (euclidean (residues p prime)) (systemOf p prime n m X)
+      right = D .unfinished .right (D .N) (descent-end (inputSystem p prime n m X) (D .level) (D .kernel) (D .levels)
+          (λ k. polynomials (residues p prime) .mul (D .d) (X .side k)) (D .vector) (D .N) (D .descent));
+      small = small-solution-le (euclidean (residues p prime)) (inputSystem p prime n m X)
           (omega (arith, rank-le n (D .level m .size))) (D .unfinished .small (D .N) (λ j h. D .descent .small j (omega arith) h));
-      reduced = descent-reduced (systemOf p prime n m X) (D .level) (D .kernel) (D .levels)
-          (λ k. polynomials (residues p prime) .mul (D .d) (X .right k)) (D .vector) (D .N) (D .descent);
+      reduced = descent-reduced (inputSystem p prime n m X) (D .level) (D .kernel) (D .levels)
+          (λ k. polynomials (residues p prime) .mul (D .d) (X .side k)) (D .vector) (D .N) (D .descent);
       holds-d = D .holds-d;
       holds-N = λ j h. D .holds-N j (omega arith) h;
       holds-w = D .holds-w;
@@ -41,7 +41,7 @@ module _ {p n m : ℕ} (few : n ≤ lanes) {input : List ℕ} {L : Level} (quoti
     }
 
     certificate : (solved : Bool) → HoldsAscended p prime n m solved X H quotients output
-        → HoldsCertificate p prime (systemOf p prime n m X) output solved
+        → HoldsCertificate p prime (inputSystem p prime n m X) output solved
     unfolding HoldsAscended HoldsCertificate
     certificate true D = solution D
     certificate false A = A

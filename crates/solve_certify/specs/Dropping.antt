@@ -25,10 +25,10 @@ use Rattle.solve_lattice.specs.Memory.{Level}
 use Rattle.solve_lattice.specs.Range.{words-zero}
 use Rattle.solve_lattice.specs.Reading.{ends-zero}
 use Rattle.solve_lattice.specs.Coefficients.{HoldsCoefficients}
-use Rattle.solve_levels.specs.Column.{HoldsLeft, ColumnDivided}
+use Rattle.solve_levels.specs.Column.{HoldsLeft, DividedByLevel}
 use Rattle.solve_lattice.specs.Room.{outputWords, blockWords, lanes}
 use Rattle.solve_certify.specs.Words.{stored-below}
-use Rattle.solve_lattice.specs.Input.{Equations, systemOf}
+use Rattle.solve_lattice.specs.Input.{Equations, inputSystem}
 use Rattle.solve_lattice.specs.Output.{ValidOutput, HoldsAt}
 use Rattle.solve_certify.specs.Ascended.{HoldsLevels, HoldsDescended, HoldsAscended, Ascended}
 use Rattle.solve_certify.specs.Extending.{Extension, extended, extended-next, extended-last}
@@ -36,12 +36,12 @@ use Rattle.solve_certify.specs.Undoing.{above, undone, has-extended}
 use Rattle.solve_certify.specs.Ready.{Ready, AscendedFrom, nextStage, ready-next}
 
 -- nothing is left of the stage's column
-pub record Spanned (s : Stage) (L : Level) (input : List ℕ) : Type 0 where
+pub record ColumnSpanned (s : Stage) (L : Level) (input : List ℕ) : Type 0 where
   pub inside : s .column < s .columns
   pub rest : List ℕ
   pub factors : List ℕ
   pub left : ℕ
-  pub divided : ColumnDivided (s .modulus .p) L input (blockWords * s .column) rest factors left
+  pub divided : DividedByLevel (s .modulus .p) L input (blockWords * s .column) rest factors left
   pub nothing : left ≡ 0
 
 -- zeros for the numerator of column j
@@ -72,7 +72,7 @@ left-valid {p} true output j some valid = record {
 left-valid false output j some valid = valid
 
 module _ {p : ℕ} {n m j : ℕ} {input : List ℕ} {L : Level} (inside : j < m) {rest factors : List ℕ} {left : ℕ}
-    (C : ColumnDivided p L input (blockWords * j) rest factors left) (nothing : left ≡ 0) where
+    (C : DividedByLevel p L input (blockWords * j) rest factors left) (nothing : left ≡ 0) where
   module _ (prime : Prime p) {X : Equations p prime n m} (H : HoldsLevels p prime n m X j input L) where
     abbrev R : Ring (Polynomial (residues p prime))
     R = polynomials (residues p prime)
@@ -96,7 +96,7 @@ module _ {p : ℕ} {n m j : ℕ} {input : List ℕ} {L : Level} (inside : j < m)
       next = H .level j;
       kernel = R .one;
       link = link-drop (sized (residues p prime)) n 15 column (H .level j)
-          (level-of (systemOf p prime n m X) (H .levels) j (omega arith) .filled) spanned;
+          (level-of (inputSystem p prime n m X) (H .levels) j (omega arith) .filled) spanned;
       slots = H .slots;
       holds = H .holds;
       blocks = H .blocks;
@@ -121,7 +121,7 @@ module _ {p : ℕ} {n m j : ℕ} {input : List ℕ} {L : Level} (inside : j < m)
 
       pub dropped : HoldsDescended p prime n m H quotients (withZeros output j)
       dropped = undone inside dropping D (R .zero) (D .vector)
-          (turn-drop (systemOf p prime n m X) (D .level) (D .kernel) same-one (above inside dropping D)
+          (turn-drop (inputSystem p prime n m X) (D .level) (D .kernel) same-one (above inside dropping D)
           (replace-here (D .N) j (R .zero)) (λ k h lt. replace-other (D .N) j (R .zero) k (λ e. omega arith)))
           (subst (λ U. HoldsCoefficients p prime n U (D .vector) quotients) same-next (D .coefficients)) zeros
           (λ i out. stored-outside (λ i. 0) output (blockWords * (1 + j)) blockWords i out)
@@ -147,7 +147,7 @@ module _ {p : ℕ} {n m j : ℕ} {input : List ℕ} {L : Level} (inside : j < m)
 
 -- at a stage
 module _ {s : Stage} {input : List ℕ} {L : Level} {quotients output : List ℕ} (given : Ready s input L quotients output)
-    (C : Spanned s L input) where
+    (C : ColumnSpanned s L input) where
   pub drop-ready : Ready (nextStage s) input L quotients output
   drop-ready = ready-next given (C .inside) (given .valid-level)
       (has-extended (λ prime X H. dropping (C .inside) (C .divided) (C .nothing) prime H) (given .levels))

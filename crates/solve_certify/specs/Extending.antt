@@ -14,7 +14,7 @@ use Rattle.reduction.specs.Link.{Link}
 use Rattle.reduction.specs.Levels.{Levels, levels-next}
 use Rattle.solve_lattice.specs.Memory.{Level}
 use Rattle.solve_lattice.specs.Holding.{HoldsSlots}
-use Rattle.solve_lattice.specs.Input.{Equations, systemOf}
+use Rattle.solve_lattice.specs.Input.{Equations, inputSystem}
 use Rattle.solve_certify.specs.Ascended.{HoldsLevels}
 
 -- the next slots and a kernel behind level j, and the blocks of these slots in memory
@@ -57,8 +57,8 @@ module _ {p : ℕ} {prime : Prime p} {n m j : ℕ} {X : Equations p prime n m} {
     system = H .system;
     level = level′;
     kernel = kernel′;
-    levels = subst (Levels (systemOf p prime n m X) level′ kernel′) (sym (add-one j))
-        (levels-next (systemOf p prime n m X) (H .levels)
+    levels = subst (Levels (inputSystem p prime n m X) level′ kernel′) (sym (add-one j))
+        (levels-next (inputSystem p prime n m X) (H .levels)
         (λ k h. subst (Same n (H .level k)) (sym (earlier-level k h)) (same-refl (H .level k)))
         (λ k h. sym (earlier-kernel k h)) link);
     slots = E .slots;

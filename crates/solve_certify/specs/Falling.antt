@@ -17,12 +17,12 @@ use Rattle.solve_lattice.specs.Word.{words}
 use Rattle.solve_lattice.specs.declared.stage.Stage.{Stage}
 use Rattle.solve_lattice.specs.Memory.{Level}
 use Rattle.solve_lattice.specs.Holding.{HoldsSlots}
-use Rattle.solve_lattice.specs.Quotients.{Dividend, Divided}
+use Rattle.solve_lattice.specs.Quotients.{Dividend, BlockDivided}
 use Rattle.solve_lattice.specs.Coefficients.{HoldsCoefficients, divided-coefficients, coefficients-blocks}
 use Rattle.solve_levels.specs.Next.{NextLevel}
-use Rattle.solve_levels.specs.Column.{ColumnDivided}
+use Rattle.solve_levels.specs.Column.{DividedByLevel}
 use Rattle.solve_descent.specs.Turn.{HoldsDescent, HoldsTurn, Turned}
-use Rattle.solve_lattice.specs.Input.{Equations, systemOf}
+use Rattle.solve_lattice.specs.Input.{Equations, inputSystem}
 use Rattle.solve_lattice.specs.Room.{blockWords, lanes}
 use Rattle.solve_certify.specs.Ascended.{HoldsLevels, HoldsDescended}
 use Rattle.solve_certify.specs.Extending.{extended, extended-next, extended-last}
@@ -38,13 +38,13 @@ pub record Fallen (s : Stage) (L L′ : Level) (kernel input quotients output qu
       cleared output′
   pub emptied : List ℕ
   pub left : ℕ
-  pub divided : Divided (s .modulus .p) L rest emptied quotients′ left
+  pub divided : BlockDivided (s .modulus .p) L rest emptied quotients′ left
 
 module _ {p : ℕ} {n m j : ℕ} (few : n ≤ lanes) {input : List ℕ} {L L′ : Level} {rest factors kernel : List ℕ} {left found : ℕ}
-    (inside : j < m) (C : ColumnDivided p L input (blockWords * j) rest factors left) (some : 0 < left)
+    (inside : j < m) (C : DividedByLevel p L input (blockWords * j) rest factors left) (some : 0 < left)
     (next : NextLevel p L rest L′ kernel found) {quotients output turned cleared output′ emptied quotients′ : List ℕ} {least : ℕ}
     (T′ : Turned p L′ n kernel input (blockWords * j) quotients output (blockWords * (1 + j)) turned cleared output′)
-    (E : Divided p L turned emptied quotients′ least) (prime : Prime p)
+    (E : BlockDivided p L turned emptied quotients′ least) (prime : Prime p)
     (X : Equations p prime n m) (H : HoldsLevels p prime n m X j input L)
     (D : HoldsDescended p prime n m (extended (rising inside C some next prime H)) quotients output) where
   -- the level above, and its kernel
@@ -64,7 +64,7 @@ module _ {p : ℕ} {n m j : ℕ} (few : n ≤ lanes) {input : List ℕ} {L L′ 
   -- what the turn starts from
   abbrev start : HoldsDescent p prime L′ kernel input (blockWords * j) quotients
   start = record {
-    system = systemOf p prime n m X;
+    system = inputSystem p prime n m X;
     level = D .level;
     kernel = D .kernel;
     levels = D .levels;
@@ -72,7 +72,7 @@ module _ {p : ℕ} {n m j : ℕ} (few : n ≤ lanes) {input : List ℕ} {L L′ 
     low = omega arith;
     column = j;
     inside = inside;
-    whole = λ k. polynomials (residues p prime) .mul (D .d) (X .right k);
+    whole = λ k. polynomials (residues p prime) .mul (D .d) (X .side k);
     vector = D .vector;
     coordinates = D .N;
     descent = above inside (rising inside C some next prime H) D;

@@ -31,10 +31,10 @@ use Rattle.solve_lattice.specs.Sums.{sums-room}
 use Rattle.solve_lattice.specs.Reading.{ends-pivot}
 use Rattle.solve_lattice.specs.Quotients.{HoldsQuotient}
 use Rattle.solve_lattice.specs.Coefficients.{HoldsCoefficients, coefficients-blocks}
-use Rattle.solve_levels.specs.Column.{HoldsLeft, ColumnDivided}
+use Rattle.solve_levels.specs.Column.{HoldsLeft, DividedByLevel}
 use Rattle.solve_levels.specs.Filled.{filled, emptied, tailOf, filled-holds, filled-valid, emptied-filled}
 use Rattle.solve_descent.specs.Lowering.{HoldsLowered, Lowers}
-use Rattle.solve_lattice.specs.Input.{Equations, systemOf}
+use Rattle.solve_lattice.specs.Input.{Equations, inputSystem}
 use Rattle.solve_certify.specs.Ascended.{HoldsLevels, HoldsDescended}
 use Rattle.solve_certify.specs.Extending.{Extension, extended, extended-next, extended-last}
 use Rattle.solve_certify.specs.Undoing.{above, undone, has-extended, ascended-undone, ascended-none}
@@ -42,13 +42,13 @@ use Rattle.solve_certify.specs.Ready.{Ready, AscendedFrom, nextStage, re
 
 -- the last word that is left is not 0
 pub left-leading : {p : ℕ} {L : Level} {input : List ℕ} {at : ℕ} {rest factors : List ℕ} {left : ℕ}
-    → ColumnDivided p L input at rest factors left → 0 < left → 0 < getD rest (left - 1) 0 % p
+    → DividedByLevel p L input at rest factors left → 0 < left → 0 < getD rest (left - 1) 0 % p
 left-leading {p} {rest = rest} {left = left} C some =
     subst (λ i. 0 < getD rest i 0 % p) (zero-add (left - 1)) (C .ends .last some)
 
 module _ {p : ℕ} {n m j : ℕ} {input : List ℕ} {L : Level} (inside : j < m) (valid : ValidLevel p L)
     {rest factors : List ℕ} {left : ℕ}
-    (C : ColumnDivided p L input (blockWords * j) rest factors left) (some : 0 < left) (free : slotSize L (row left) ≡ 0) where
+    (C : DividedByLevel p L input (blockWords * j) rest factors left) (some : 0 < left) (free : slotSize L (row left) ≡ 0) where
   module _ (prime : Prime p) {X : Equations p prime n m} (H : HoldsLevels p prime n m X j input L) where
     abbrev R : Ring (Polynomial (residues p prime))
     R = polynomials (residues p prime)
@@ -66,7 +66,7 @@ module _ {p : ℕ} {n m j : ℕ} {input : List ℕ} {L : Level} (inside : j < m)
     P = ends-pivot p prime (C .ends) (Q .holds) some
 
     full : Filled (sized (residues p prime)) n unweighted (H .level j)
-    full = level-of (systemOf p prime n m X) (H .levels) j (omega arith) .filled
+    full = level-of (inputSystem p prime n m X) (H .levels) j (omega arith) .filled
 
     empty : H .level j .size (row left) ≡ 0
     empty = sym (H .blocks .sizes (row left) (P .inside)) ∙ H .holds .size (row left) (P .inside) ∙ ap height free
@@ -116,7 +116,7 @@ module _ {p : ℕ} {n m j : ℕ} {input : List ℕ} {L : Level} (inside : j < m)
       here : replace (D .N) j x j ≡ x
       here = replace-here (D .N) j x
 
-      turn : Turn (systemOf p prime n m X) (D .level) (D .kernel) j (D .vector) (D .N) vector (replace (D .N) j x)
+      turn : Turn (inputSystem p prime n m X) (D .level) (D .kernel) j (D .vector) (D .N) vector (replace (D .N) j x)
       turn = record {
         tails = x;
         span = subst (λ U. InSpan R n (suc n) U (extend n (D .vector) x)) (sym (ap (D .level) (sym (add-one j)) ∙ upper))
@@ -131,9 +131,9 @@ module _ {p : ℕ} {n m j : ℕ} {input : List ℕ} {L : Level} (inside : j < m)
       -- L6
       short : size (residues p prime) x ≤ mostCoefficients
       short =
-          let below : Descent (systemOf p prime n m X) (D .level) (D .kernel)
-          (λ k. R .mul (D .d) (X .right k)) j vector (replace (D .N) j x) =
-          descent-turn (systemOf p prime n m X) (D .level) (D .kernel) (D .levels) (λ k. R .mul (D .d) (X .right k)) j inside turn
+          let below : Descent (inputSystem p prime n m X) (D .level) (D .kernel)
+          (λ k. R .mul (D .d) (X .side k)) j vector (replace (D .N) j x) =
+          descent-turn (inputSystem p prime n m X) (D .level) (D .kernel) (D .levels) (λ k. R .mul (D .d) (X .side k)) j inside turn
           (above inside filling D) in
           omega (
             arith,
@@ -156,7 +156,7 @@ module _ {p : ℕ} {n m j : ℕ} {input : List ℕ} {L : Level} (inside : j < m)
 -- at a stage: so many words are left of its column, in `rest`, and their slot is empty
 pub record Fills (s : Stage) (L : Level) (input rest factors : List ℕ) (left : ℕ) : Type 0 where
   pub inside : s .column < s .columns
-  pub divided : ColumnDivided (s .modulus .p) L input (blockWords * s .column) rest factors left
+  pub divided : DividedByLevel (s .modulus .p) L input (blockWords * s .column) rest factors left
   pub some : 0 < left
   pub free : slotSize L (row left) ≡ 0
 

@@ -8,11 +8,11 @@ use Rattle.modular.specs.Prime.{Prime}
 use Rattle.vector.specs.Bound.{AtMost}
 use Rattle.solve_lattice.specs.Memory.{row, Level}
 use Rattle.solve_certify.specs.Witnessed.{HasLast, HoldsWitness, Witnessed}
-use Rattle.solve_certify.specs.Inserted.{HasVanished, HasStuck, Inserted}
+use Rattle.solve_certify.specs.Inserted.{HasVanished, HasStuck, LastInserted}
 use Rattle.solve_certify.specs.Solution.{SolutionFound}
 use Rattle.solve_certify.specs.Absence.{AbsenceFound}
 
-module _ {p n m : ℕ} {input : List ℕ} {L L′ : Level} {tail : List ℕ} {size : ℕ} (inserted : Inserted p m input L L′ tail size) where
+module _ {p n m : ℕ} {input : List ℕ} {L L′ : Level} {tail : List ℕ} {size : ℕ} (inserted : LastInserted p m input L L′ tail size) where
   module _ (has : HasLast p n m input L) where
     pub last-vanished : size ≡ 0 → HasVanished p n m input L′ tail
     last-vanished none = record {

@@ -28,7 +28,7 @@ use Rattle.solve_lattice.specs.Sums.{sums-fewer}
 use Rattle.solve_lattice.specs.Found.{found-ends}
 use Rattle.solve_lattice.specs.Reading.{flat-same, holds-zero, holds-pivot}
 use Rattle.solve_lattice.specs.Insertion.{Inserts}
-use Rattle.solve_lattice.specs.Input.{Equations, systemOf}
+use Rattle.solve_lattice.specs.Input.{Equations, inputSystem}
 use Rattle.solve_levels.specs.Begun.{ValidColumn}
 use Rattle.solve_levels.specs.Started.{Started}
 use Rattle.solve_second.specs.Solved.{HasTops}
@@ -41,17 +41,17 @@ module _ (p : ℕ) (prime : Prime p) (n m : ℕ) where
   -- the slots after the insertion into U, and the tail that is left
   pub record HoldsVanished (X : Equations p prime n m) (U : Slots (Polynomial (residues p prime))) (input : List ℕ) (L : Level)
       (tail : List ℕ) : Type 0 where
-    pub side : Flat (residues p prime) n lanes unweighted (words p prime input (blockWords * m) blockWords) (X .right)
-    pub last : reduction.Level (systemOf p prime n m X) m U
-    pub inserting : Inserting (sized (residues p prime)) n unweighted U (X .right)
+    pub side : Flat (residues p prime) n lanes unweighted (words p prime input (blockWords * m) blockWords) (X .side)
+    pub last : reduction.LevelKnown (inputSystem p prime n m X) m U
+    pub inserting : Inserting (sized (residues p prime)) n unweighted U (X .side)
     pub vanishes : Vanishes (polynomials (residues p prime)) n (inserting .now .hand)
     pub slots : HoldsSlots p prime n unweighted L (inserting .now .slots)
     pub held : Holds (residues p prime) (words p prime tail 0 tailWords) (inserting .now .hand n)
 
   -- stuck at h; L still holds U
   pub record HoldsStuck (X : Equations p prime n m) (U : Slots (Polynomial (residues p prime))) (L : Level) (h : ℕ) : Type 0 where
-    pub last : reduction.Level (systemOf p prime n m X) m U
-    pub inserting : Inserting (sized (residues p prime)) n unweighted U (X .right)
+    pub last : reduction.LevelKnown (inputSystem p prime n m X) m U
+    pub inserting : Inserting (sized (residues p prime)) n unweighted U (X .side)
     pub stuck : Stuck (sized (residues p prime)) n unweighted (inserting .now)
     pub at : stuck .at ≡ h
     pub slots : HoldsSlots p prime n unweighted L U
@@ -79,7 +79,7 @@ slots-high prime {L = L} few-rows valid holds q h =
 
 -- L6: at most 8 slots of degree 15
 pub last-degrees : {p : ℕ} (prime : Prime p) {n m : ℕ} {X : Equations p prime n m} {U : Slots (Polynomial (residues p prime))}
-    → n ≤ lanes → reduction.Level (systemOf p prime n m X) m U → (rank n (U .size) * 15 ≤ 120) × (degrees n (U .size) ≤ 120)
+    → n ≤ lanes → reduction.LevelKnown (inputSystem p prime n m X) m U → (rank n (U .size) * 15 ≤ 120) × (degrees n (U .size) ≤ 120)
 last-degrees prime {n = n} {U = U} few-rows last =
     let few : rank n (U .size) ≤ lanes = omega (arith, rank-le n (U .size)) in
     let small : degrees n (U .size) ≤ rank n (U .size) * 15 = last .degrees-le in
@@ -90,7 +90,7 @@ module _ {p : ℕ} (prime : Prime p) {n m : ℕ} {X : Equations p prime n m} {U 
   pub vanished-some : {input : List ℕ} {L : Level} {tail : List ℕ} (Q : HoldsVanished p prime n m X U input L tail)
       → 0 < size (residues p prime) (Q .inserting .now .hand n)
   vanished-some Q =
-      solution-positive (euclidean (residues p prime)) (systemOf p prime n m X) (Q .last) (Q .inserting) (Q .vanishes)
+      solution-positive (euclidean (residues p prime)) (inputSystem p prime n m X) (Q .last) (Q .inserting) (Q .vanishes)
 
   -- there is a second system
   pub vanished-tops : {input : List ℕ} {L : Level} {tail : List ℕ} → ValidLevel p L → HoldsVanished p prime n m X U input L tail
@@ -101,12 +101,12 @@ module _ {p : ℕ} (prime : Prime p) {n m : ℕ} {X : Equations p prime n m} {U 
     small = last-degrees prime few-rows (Q .last) .1;
     slots = Q .inserting .now .slots;
     holds = Q .slots;
-    tops = solution-tops (euclidean (residues p prime)) (systemOf p prime n m X) (Q .last) (Q .inserting) (Q .vanishes) blockDegrees
+    tops = solution-tops (euclidean (residues p prime)) (inputSystem p prime n m X) (Q .last) (Q .inserting) (Q .vanishes) blockDegrees
         (slots-high prime few-rows valid (Q .slots));
   }
 
 -- the right side inserted into a copy of L: the slots and the tail then, and how many words are left of the block
-pub record Inserted (p m : ℕ) (input : List ℕ) (L L′ : Level) (tail : List ℕ) (size : ℕ) : Type 0 where
+pub record LastInserted (p m : ℕ) (input : List ℕ) (L L′ : Level) (tail : List ℕ) (size : ℕ) : Type 0 where
   pub valid : ValidLevel p L′
   pub small : ZeroFrom p tail 0 tailWords mostCoefficients
   pub sums : Sums p 0 tail
@@ -137,16 +137,16 @@ module _ {p m : ℕ} {input : List ℕ} {L : Level} {M M′ : Memory} (started :
         ∙ ap (λ w. words p prime w 0 blockWords x) (sym copied)
 
     abbrev R : Reached p prime n unweighted
-        (begin (polynomials (residues p prime)) n (H .slots) (X .right) (height (M .hand .size))) M′
-    R = done .leads prime n unweighted (begin (polynomials (residues p prime)) n (H .slots) (X .right) (height (M .hand .size)))
-        (started .holds prime n (H .slots) (X .right) (H .holds) (flat-same same (H .system .right)))
+        (begin (polynomials (residues p prime)) n (H .slots) (X .side) (height (M .hand .size))) M′
+    R = done .leads prime n unweighted (begin (polynomials (residues p prime)) n (H .slots) (X .side) (height (M .hand .size)))
+        (started .holds prime n (H .slots) (X .side) (H .holds) (flat-same same (H .system .side)))
 
-    abbrev made : Inserting (sized (residues p prime)) n unweighted (H .slots) (X .right)
+    abbrev made : Inserting (sized (residues p prime)) n unweighted (H .slots) (X .side)
     made = record { size = height (M .hand .size); now = R .now; trace = R .trace }
 
     inserted-vanished : M′ .hand .size ≡ 0 → HoldsVanished p prime n m X (H .slots) input (M′ .level) (M′ .tail)
     inserted-vanished none = record {
-      side = H .system .right;
+      side = H .system .side;
       last = H .last;
       inserting = made;
       vanishes = holds-zero p prime (done .valid .hand) (R .holds) none;
@@ -168,7 +168,7 @@ module _ {p m : ℕ} {input : List ℕ} {L : Level} {M M′ : Memory} (started :
           slots = H .holds;
         }
 
-  pub side-inserted : Inserted p m input L (M′ .level) (M′ .tail) (M′ .hand .size)
+  pub side-inserted : LastInserted p m input L (M′ .level) (M′ .tail) (M′ .hand .size)
   side-inserted = record {
     valid = done .valid .level;
     small = done .tail;

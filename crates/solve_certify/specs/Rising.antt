@@ -14,7 +14,7 @@ use Rattle.solve_lattice.specs.Reading.{ends-pivot}
 use Rattle.solve_lattice.specs.Coefficients.{coefficients-blocks}
 use Rattle.solve_levels.specs.Linked.{Linked}
 use Rattle.solve_levels.specs.Next.{NextLevel}
-use Rattle.solve_levels.specs.Column.{HoldsLeft, ColumnDivided}
+use Rattle.solve_levels.specs.Column.{HoldsLeft, DividedByLevel}
 use Rattle.solve_lattice.specs.Input.{Equations}
 use Rattle.solve_lattice.specs.Room.{blockWords}
 use Rattle.solve_certify.specs.Ascended.{HoldsLevels}
@@ -26,11 +26,11 @@ use Rattle.solve_certify.specs.Ready.{Ready, nextStage, ready-next}
 pub record Leaves (s : Stage) (L : Level) (input rest : List ℕ) (left : ℕ) : Type 0 where
   pub inside : s .column < s .columns
   pub factors : List ℕ
-  pub divided : ColumnDivided (s .modulus .p) L input (blockWords * s .column) rest factors left
+  pub divided : DividedByLevel (s .modulus .p) L input (blockWords * s .column) rest factors left
   pub some : 0 < left
 
 module _ {p : ℕ} {n m j : ℕ} {input : List ℕ} {L L′ : Level} {rest factors kernel : List ℕ} {left found : ℕ} (inside : j < m)
-    (C : ColumnDivided p L input (blockWords * j) rest factors left) (some : 0 < left) (next : NextLevel p L rest L′ kernel found) where
+    (C : DividedByLevel p L input (blockWords * j) rest factors left) (some : 0 < left) (next : NextLevel p L rest L′ kernel found) where
   module _ (prime : Prime p) {X : Equations p prime n m} (H : HoldsLevels p prime n m X j input L) where
     abbrev Q : HoldsLeft p prime n (H .slots) (λ i. X .matrix i j) rest factors
     Q = C .divides prime n (H .slots) (λ i. X .matrix i j) (H .holds) (H .system .column j inside)

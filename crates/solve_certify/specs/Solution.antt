@@ -22,10 +22,10 @@ use Rattle.reduction.specs.Holds.{Holds}
 use Rattle.solve_lattice.specs.Word.{words}
 use Rattle.solve_lattice.specs.Memory.{Level, ValidLevel}
 use Rattle.solve_lattice.specs.Holding.{HoldsSlots}
-use Rattle.solve_lattice.specs.Quotients.{Divided}
+use Rattle.solve_lattice.specs.Quotients.{BlockDivided}
 use Rattle.solve_lattice.specs.Coefficients.{divided-coefficients}
 use Rattle.solve_lattice.specs.Range.{words-apart, ends-most}
-use Rattle.solve_lattice.specs.Input.{Equations, systemOf}
+use Rattle.solve_lattice.specs.Input.{Equations, inputSystem}
 use Rattle.solve_lattice.specs.Output.{ValidOutput}
 use Rattle.solve_second.specs.Product.{Multiplied}
 use Rattle.solve_second.specs.Solved.{HoldsSecond, SecondSolved}
@@ -105,7 +105,7 @@ module _ (p : ℕ) (prime₀ : Prime p) (n m : ℕ) (few-rows : n ≤ lanes) (co
 -- the parts of the certificate
 module _ {p n m : ℕ} {input : List ℕ} {L L′ : Level} {tail d t : List ℕ} {found : ℕ} {w rows : List ℕ} (few-rows : n ≤ lanes)
     (level : ValidLevel p L′) (has : HasDenominator p m input tail d t found) (solved : SecondSolved p n L′ w rows)
-    {t′ quotients : List ℕ} {left : ℕ} (divided : Divided p L t t′ quotients left) where
+    {t′ quotients : List ℕ} {left : ℕ} (divided : BlockDivided p L t t′ quotients left) where
   module _ (prime : Prime p) (X : Equations p prime n m) (U : Slots (Polynomial (residues p prime)))
       (Q : HoldsVanished p prime n m X U input L′ tail) where
     abbrev e : Polynomial (residues p prime)
@@ -114,17 +114,17 @@ module _ {p n m : ℕ} {input : List ℕ} {L L′ : Level} {tail d t : List ℕ}
     abbrev x : Polynomial (residues p prime)
     x = polynomials (residues p prime) .mul (associate (residues p prime) e (vanished-some prime few-rows Q) .unit) e
 
-    D : HoldsDenominator p prime n d t x (X .right)
-    D = has .holds prime n e (vanished-some prime few-rows Q) (X .right) (Q .held) (Q .side)
+    D : HoldsDenominator p prime n d t x (X .side)
+    D = has .holds prime n e (vanished-some prime few-rows Q) (X .side) (Q .held) (Q .side)
 
     S : HoldsSecond p prime n (degrees n (U .size)) (Q .inserting .now .slots) w rows
     S = solved .solved prime (degrees n (U .size)) (Q .inserting .now .slots) (last-degrees prime few-rows (Q .last) .1) (Q .slots)
-        (solution-tops (euclidean (residues p prime)) (systemOf p prime n m X) (Q .last) (Q .inserting) (Q .vanishes) blockDegrees
+        (solution-tops (euclidean (residues p prime)) (inputSystem p prime n m X) (Q .last) (Q .inserting) (Q .vanishes) blockDegrees
         (slots-high prime few-rows level (Q .slots)))
 
-    made : Unfinished (euclidean (residues p prime)) (systemOf p prime n m X) U x
+    made : Unfinished (euclidean (residues p prime)) (inputSystem p prime n m X) U x
         (polynomials (residues p prime) .mul x (S .polynomial)) (S .Y)
-    made = unfinished (euclidean (residues p prime)) (systemOf p prime n m X) (Q .last) (Q .inserting) (Q .vanishes)
+    made = unfinished (euclidean (residues p prime)) (inputSystem p prime n m X) (Q .last) (Q .inserting) (Q .vanishes)
         (associate (residues p prime) e (vanished-some prime few-rows Q)) (S .polynomial) (S .Y) (S .monic) (S .dual)
 
     -- L8: d and w′ have together at most 122 coefficients, since their product has at most 121
@@ -176,7 +176,7 @@ module _ {p n m : ℕ} {input : List ℕ} {L L′ : Level} {tail d t : List ℕ}
       };
       coefficients = divided-coefficients prime divided (record {
         slots = U;
-        vector = λ k. polynomials (residues p prime) .mul (x prime X U Q) (X .right k);
+        vector = λ k. polynomials (residues p prime) .mul (x prime X U Q) (X .side k);
         holds-slots = slots;
         holds = D prime X U Q .vector;
       }) (made prime X U Q .span);

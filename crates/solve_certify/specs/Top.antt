@@ -16,7 +16,7 @@ use Rattle.reduction.specs.Descent.{Descent, descent-start}
 use Rattle.solve_lattice.specs.Memory.{Level}
 use Rattle.solve_lattice.specs.Coefficients.{coefficients-blocks}
 use Rattle.solve_certify.specs.Witnessed.{HoldsLast, HasLast, HoldsUnfinished, HoldsWitness, Witnessed}
-use Rattle.solve_lattice.specs.Input.{Equations, systemOf}
+use Rattle.solve_lattice.specs.Input.{Equations, inputSystem}
 use Rattle.solve_certify.specs.Ascended.{HoldsLevels, HasLevels, HoldsDescended, HoldsAscended, Ascended}
 
 module _ {p n m j : ℕ} (top : j ≡ m) {input : List ℕ} {L : Level} where
@@ -26,27 +26,27 @@ module _ {p n m j : ℕ} (top : j ≡ m) {input : List ℕ} {L : Level} where
       system = H .system;
       slots = H .slots;
       holds = H .holds;
-      last = level-blocks (systemOf p prime n m X) (blocks-sym (H .blocks))
-          (subst (λ k. reduction.Level (systemOf p prime n m X) k (H .level j)) top
-          (level-of (systemOf p prime n m X) (H .levels) j (omega arith)));
+      last = level-blocks (inputSystem p prime n m X) (blocks-sym (H .blocks))
+          (subst (λ k. reduction.LevelKnown (inputSystem p prime n m X) k (H .level j)) top
+          (level-of (inputSystem p prime n m X) (H .levels) j (omega arith)));
     }
 
     module _ {quotients output : List ℕ} (W : HoldsUnfinished p prime n m X (H .slots) quotients output) where
       abbrev vector : ℕ → Polynomial (residues p prime)
-      vector k = polynomials (residues p prime) .mul (W .d) (X .right k)
+      vector k = polynomials (residues p prime) .mul (W .d) (X .side k)
 
       none : ℕ → Polynomial (residues p prime)
       none k = polynomials (residues p prime) .zero
 
-      done : Unfinished (euclidean (residues p prime)) (systemOf p prime n m X) (H .level m) (W .d) (W .w) (W .Z)
-      done = subst (λ k. Unfinished (euclidean (residues p prime)) (systemOf p prime n m X) (H .level k) (W .d) (W .w) (W .Z))
-          top (unfinished-blocks (euclidean (residues p prime)) (systemOf p prime n m X) (H .blocks) (W .unfinished))
+      done : Unfinished (euclidean (residues p prime)) (inputSystem p prime n m X) (H .level m) (W .d) (W .w) (W .Z)
+      done = subst (λ k. Unfinished (euclidean (residues p prime)) (inputSystem p prime n m X) (H .level k) (W .d) (W .w) (W .Z))
+          top (unfinished-blocks (euclidean (residues p prime)) (inputSystem p prime n m X) (H .blocks) (W .unfinished))
 
       descended-top : HoldsDescended p prime n m H quotients output
       descended-top = record {
         level = H .level;
         kernel = H .kernel;
-        levels = subst (Levels (systemOf p prime n m X) (H .level) (H .kernel)) top (H .levels);
+        levels = subst (Levels (inputSystem p prime n m X) (H .level) (H .kernel)) top (H .levels);
         same-level = λ k h. refl;
         same-kernel = λ k h. refl;
         d = W .d;
@@ -55,8 +55,8 @@ module _ {p n m j : ℕ} (top : j ≡ m) {input : List ℕ} {L : Level} where
         unfinished = done;
         vector = vector;
         N = none;
-        descent = subst (λ k. Descent (systemOf p prime n m X) (H .level) (H .kernel) vector k vector none) (sym top)
-            (descent-start (systemOf p prime n m X) (H .level) (H .kernel) vector none (done .span) (done .vector-small));
+        descent = subst (λ k. Descent (inputSystem p prime n m X) (H .level) (H .kernel) vector k vector none) (sym top)
+            (descent-start (inputSystem p prime n m X) (H .level) (H .kernel) vector none (done .span) (done .vector-small));
         holds-d = W .holds-d;
         holds-N = λ k h lt. absurd (omega arith);
         holds-w = W .holds-w;

@@ -16,7 +16,7 @@ use Rattle.reduction.specs.Descent.{Descent, Turn, descent-turn}
 use Rattle.solve_lattice.specs.Memory.{Level}
 use Rattle.solve_lattice.specs.Range.{words-same}
 use Rattle.solve_lattice.specs.Coefficients.{HoldsCoefficients}
-use Rattle.solve_lattice.specs.Input.{Equations, systemOf}
+use Rattle.solve_lattice.specs.Input.{Equations, inputSystem}
 use Rattle.solve_lattice.specs.Output.{ValidOutput, HoldsAt}
 use Rattle.solve_lattice.specs.Room.{blockWords}
 use Rattle.solve_certify.specs.Ascended.{HoldsLevels, HasLevels, HoldsDescended, HoldsAscended, Ascended}
@@ -26,11 +26,11 @@ module _ {p : ℕ} {prime : Prime p} {n m j : ℕ} {X : Equations p prime n m} {
     {H : HoldsLevels p prime n m X j input L} (E : Extension p prime H L′) {quotients output : List ℕ}
     (D : HoldsDescended p prime n m (extended E) quotients output) where
   abbrev whole : ℕ → Polynomial (residues p prime)
-  whole k = polynomials (residues p prime) .mul (D .d) (X .right k)
+  whole k = polynomials (residues p prime) .mul (D .d) (X .side k)
 
-  pub above : Descent (systemOf p prime n m X) (D .level) (D .kernel) (λ k. polynomials (residues p prime) .mul (D .d) (X .right k))
+  pub above : Descent (inputSystem p prime n m X) (D .level) (D .kernel) (λ k. polynomials (residues p prime) .mul (D .d) (X .side k))
       (suc j) (D .vector) (D .N)
-  above = subst (λ k. Descent (systemOf p prime n m X) (D .level) (D .kernel) whole k (D .vector) (D .N)) (add-one j) (D .descent)
+  above = subst (λ k. Descent (inputSystem p prime n m X) (D .level) (D .kernel) whole k (D .vector) (D .N)) (add-one j) (D .descent)
 
   pub lower-level : (k : ℕ) → k ≤ j → D .level k ≡ H .level k
   lower-level k h = D .same-level k (omega arith) ∙ extended-level E k h
@@ -45,7 +45,7 @@ module _ {p : ℕ} {prime : Prime p} {n m j : ℕ} {X : Equations p prime n m} {
   }
 
   pub undone : (x : Polynomial (residues p prime)) (vector : ℕ → Polynomial (residues p prime)) {quotients′ output′ : List ℕ}
-      → Turn (systemOf p prime n m X) (D .level) (D .kernel) j (D .vector) (D .N) vector (replace (D .N) j x)
+      → Turn (inputSystem p prime n m X) (D .level) (D .kernel) j (D .vector) (D .N) vector (replace (D .N) j x)
       → HoldsCoefficients p prime n (H .level j) vector quotients′ → HoldsAt p prime output′ (1 + j) x
       → ((i : ℕ) → (i < blockWords * (1 + j)) ⊎ (blockWords * (1 + j) + blockWords ≤ i) → getD output′ i 0 ≡ getD output i 0)
       → HoldsDescended p prime n m H quotients′ output′
@@ -61,7 +61,7 @@ module _ {p : ℕ} {prime : Prime p} {n m j : ℕ} {X : Equations p prime n m} {
     unfinished = D .unfinished;
     vector = vector;
     N = replace (D .N) j x;
-    descent = descent-turn (systemOf p prime n m X) (D .level) (D .kernel) (D .levels) whole j inside turn above;
+    descent = descent-turn (inputSystem p prime n m X) (D .level) (D .kernel) (D .levels) whole j inside turn above;
     holds-d = kept output′ others 0 (D .d) (λ e. omega arith) (D .holds-d);
     holds-N = λ k h lt. replace-elim (λ i y. HoldsAt p prime output′ (1 + i) y) (D .N) j x stored k
         (λ other. kept output′ others (1 + k) (D .N k) (λ e. other (omega arith)) (D .holds-N k (omega (arith, other)) lt));

@@ -14,7 +14,7 @@ use Rattle.reduction.specs.Unfinished.{Unfinished}
 use Rattle.solve_lattice.specs.Memory.{Level}
 use Rattle.solve_lattice.specs.Holding.{HoldsSlots}
 use Rattle.solve_lattice.specs.Coefficients.{HoldsCoefficients}
-use Rattle.solve_lattice.specs.Input.{Equations, systemOf, HoldsSystem}
+use Rattle.solve_lattice.specs.Input.{Equations, inputSystem, HoldsSystem}
 use Rattle.solve_lattice.specs.Output.{ValidOutput, HoldsAt, HoldsAbsence}
 
 module _ (p : ℕ) (prime : Prime p) (n m : ℕ) where
@@ -23,7 +23,7 @@ module _ (p : ℕ) (prime : Prime p) (n m : ℕ) where
     pub system : HoldsSystem p prime n m X input
     pub slots : Slots (Polynomial (residues p prime))
     pub holds : HoldsSlots p prime n unweighted L slots
-    pub last : reduction.Level (systemOf p prime n m X) m slots
+    pub last : reduction.LevelKnown (inputSystem p prime n m X) m slots
 
   -- d, w and Z in the output, and d·b as coefficients of the blocks of U
   pub record HoldsUnfinished (X : Equations p prime n m) (U : Slots (Polynomial (residues p prime)))
@@ -31,16 +31,16 @@ module _ (p : ℕ) (prime : Prime p) (n m : ℕ) where
     pub d : Polynomial (residues p prime)
     pub w : Polynomial (residues p prime)
     pub Z : ℕ → Polynomial (residues p prime)
-    pub unfinished : Unfinished (euclidean (residues p prime)) (systemOf p prime n m X) U d w Z
+    pub unfinished : Unfinished (euclidean (residues p prime)) (inputSystem p prime n m X) U d w Z
     pub holds-d : HoldsAt p prime output 0 d
     pub holds-w : HoldsAt p prime output (1 + m) w
     pub holds-Z : (i : ℕ) → i < n → HoldsAt p prime output (2 + m + i) (Z i)
-    pub coefficients : HoldsCoefficients p prime n U (λ k. polynomials (residues p prime) .mul d (X .right k)) quotients
+    pub coefficients : HoldsCoefficients p prime n U (λ k. polynomials (residues p prime) .mul d (X .side k)) quotients
 
   -- whether there is a solution
   unfoldable pub HoldsWitness : Bool → Equations p prime n m → Slots (Polynomial (residues p prime)) → List ℕ → List ℕ → Type 0
   HoldsWitness true X U quotients output = HoldsUnfinished X U quotients output
-  HoldsWitness false X U quotients output = HoldsAbsence p prime (systemOf p prime n m X) output
+  HoldsWitness false X U quotients output = HoldsAbsence p prime (inputSystem p prime n m X) output
 
 -- some system has this last level
 pub record HasLast (p n m : ℕ) (input : List ℕ) (L : Level) : Type 0 where

@@ -20,7 +20,7 @@ use solve_levels::fill_slot;
 use solve_levels::next_level;
 ghost use mathlib.Core.Path.{_≡_};
 ghost use Rattle.solve_certify.specs.Ready.{Ready, AscendedFrom};
-ghost use Rattle.solve_certify.specs.Dropping.{Spanned};
+ghost use Rattle.solve_certify.specs.Dropping.{ColumnSpanned};
 ghost use Rattle.solve_certify.specs.Filling.{Fills};
 ghost use Rattle.solve_certify.specs.Rising.{Leaves};
 
@@ -81,7 +81,7 @@ fn drop_column(
     stage: Stage,
 ) -> bool
     requires { ⌜ Ready stage (now input) (now level) (now quotients) (now output) ⌝ }
-    requires column { ⌜ Spanned stage (now level) (now input) ⌝ }
+    requires column { ⌜ ColumnSpanned stage (now level) (now input) ⌝ }
     ensures { λ r. ⌜ AscendedFrom stage (now (input .entry)) (now (level .entry)) (now (quotients .exit)) (now (output .exit)) r ⌝ }
     ensures level { λ _. ⌜ now (level .exit) ≡ now (level .entry) ⌝ }
 {

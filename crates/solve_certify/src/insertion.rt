@@ -16,7 +16,7 @@ ghost use Rattle.vector.specs.Bound.{AtMost};
 ghost use Rattle.solve_lattice.specs.Room.{lanes, tailWords, levelWords};
 ghost use Rattle.solve_lattice.specs.Memory.{ValidLevel};
 ghost use Rattle.solve_lattice.specs.Input.{ValidInput};
-ghost use Rattle.solve_certify.specs.Inserted.{Inserted};
+ghost use Rattle.solve_certify.specs.Inserted.{LastInserted};
 
 // Inserts the right side, which stands behind the columns of `input`, with tail 1 into a copy of `level`: stores the slots in
 // `next` and the tail that is left in `tail`, which are 0. Returns how many words are left of the right side's block.
@@ -32,7 +32,7 @@ pub fn insert_side(
     requires level { ⌜ ValidLevel (modulus .p) (now level) ⌝ }
     requires next { ⌜ (length (now next) ≡ levelWords) × AtMost 0 (now next) ⌝ }
     requires tail { ⌜ (length (now tail) ≡ tailWords) × AtMost 0 (now tail) ⌝ }
-    ensures { λ r. ⌜ Inserted (modulus .p) columns (now (input .entry)) (now (level .entry)) (now (next .exit))
+    ensures { λ r. ⌜ LastInserted (modulus .p) columns (now (input .entry)) (now (level .entry)) (now (next .exit))
         (now (tail .exit)) r ⌝ }
 {
     let mut side = [0u64; BLOCK];

@@ -24,7 +24,7 @@ use Rattle.solve_lattice.specs.Word.{words}
 use Rattle.solve_lattice.specs.Coefficients.{HoldsCoefficients}
 use Rattle.solve_lattice.specs.Room.{blockWords, lanes, lastLane, productDegrees}
 use Rattle.solve_descent.specs.Product.{less, TakesProduct}
-use Rattle.solve_descent.specs.Combination.{lessAll, factor, TakesCombination}
+use Rattle.solve_descent.specs.Combination.{lessAll, firstQuotient, TakesCombination}
 use Rattle.solve_lattice.specs.Range.{words-shorter}
 use Rattle.solve_lattice.specs.Reading.{holds-same}
 use Rattle.solve_descent.proofs.Lanes.{quotient-read}
@@ -61,7 +61,7 @@ module _ {p w N : ℕ} {quotients : List ℕ} {terms : ℕ → ℕ} {slots : Lis
           (B : (r : ℕ) → r < q + 1 → Holds (residues p prime) (λ e. words p prime slots (at r) blockWords (flat w i e)) (u r))
           (A : Holds (residues p prime) (λ e. words p prime y₀ 0 N (flat w i e)) x) where
         abbrev c : ℕ → Polynomial (residues p prime)
-        c r = factor p prime quotients (terms r) r
+        c r = firstQuotient p prime quotients (terms r) r
 
         before : Holds (residues p prime) (λ e. words p prime y 0 N (flat w i e)) (lessAll p prime q x c u)
         before = so-far .holds prime i lane x u (λ r h. B r (omega arith)) A
@@ -72,7 +72,7 @@ module _ {p w N : ℕ} {quotients : List ℕ} {terms : ℕ → ℕ} {slots : Lis
         taken : Holds (residues p prime) (λ e. words p prime y′ 0 N (flat w i e))
             (less p prime (lessAll p prime q x c u) (c q) (u q))
         taken = subst (λ z. Holds (residues p prime) (λ e. words p prime y′ 0 N (flat w i e))
-            (less p prime (lessAll p prime q x c u) (factor p prime quotients z q) (u q))) is
+            (less p prime (lessAll p prime q x c u) (firstQuotient p prime quotients z q) (u q))) is
             (T .holds N inside (omega (arith, so-far .same-length)) prime i lane _ _ before
             (holds-same (λ e. words-shorter p prime slots (at q) blockWords m short behind (flat w i e)) (B q (omega arith))))
 
@@ -95,7 +95,7 @@ module _ {p : ℕ} (prime : Prime p) {n : ℕ} (rows : n ≤ lanes) {U : Slots (
   R = polynomials (residues p prime)
 
   module _ (u z : ℕ → Polynomial (residues p prime)) (same : (q : ℕ) → q < n → 0 < U .size q → u q ≡ z q) where
-    read-is : (q : ℕ) → q < n → factor p prime quotients (terms q) q ≡ Q .span .coefficient q
+    read-is : (q : ℕ) → q < n → firstQuotient p prime quotients (terms q) q ≡ Q .span .coefficient q
     read-is q h = quotient-read p prime quotients q (omega arith) (Q .span .coefficient q) (Q .holds q h) (terms q) (few q h)
         (enough q h)
 
@@ -106,24 +106,24 @@ module _ {p : ℕ} (prime : Prime p) {n : ℕ} (rows : n ≤ lanes) {U : Slots (
         ∙ sym (ap (λ c. R .mul c (z q)) (Q .span .empty q h e) ∙ zero-mul R (z q))
     term q h (no e) = ap (R .mul (Q .span .coefficient q)) (same q h (omega arith))
 
-    sum-filled : sum R n (λ q. R .mul (factor p prime quotients (terms q) q) (u q)) ≡ sum R n
+    sum-filled : sum R n (λ q. R .mul (firstQuotient p prime quotients (terms q) q) (u q)) ≡ sum R n
         (λ q. R .mul (Q .span .coefficient q) (z q))
     sum-filled = sum-ext R n _ _ (λ q h. ap (λ c. R .mul c (u q)) (read-is q h) ∙ term q h (ℕ-discrete (U .size q) 0))
 
     pub less-filled : (x : Polynomial (residues p prime))
-        → lessAll p prime n x (λ q. factor p prime quotients (terms q) q) u ≡ lessAll p prime n x (Q .span .coefficient) z
+        → lessAll p prime n x (λ q. firstQuotient p prime quotients (terms q) q) u ≡ lessAll p prime n x (Q .span .coefficient) z
     less-filled x = ap (λ s. R .add x (R .neg s)) sum-filled
 
     -- the negated quotients add what the quotients take off
     pub more-filled : (negated : List ℕ)
-        → ((q : ℕ) → q < n → factor p prime negated (terms q) q ≡ R .neg (factor p prime quotients (terms q) q))
-        → lessAll p prime n (R .zero) (λ q. factor p prime negated (terms q) q) u ≡ sum R n
+        → ((q : ℕ) → q < n → firstQuotient p prime negated (terms q) q ≡ R .neg (firstQuotient p prime quotients (terms q) q))
+        → lessAll p prime n (R .zero) (λ q. firstQuotient p prime negated (terms q) q) u ≡ sum R n
         (λ q. R .mul (Q .span .coefficient q) (z q))
     more-filled negated is =
         ap (λ s. R .add (R .zero) (R .neg s))
-        (sum-ext R n _ _ (λ q h. ap (λ c. R .mul c (u q)) (is q h) ∙ neg-mul R (factor p prime quotients (terms q) q) (u q))
-        ∙ sum-neg R n (λ q. R .mul (factor p prime quotients (terms q) q) (u q)))
-        ∙ twice (sum R n (λ q. R .mul (factor p prime quotients (terms q) q) (u q)))
+        (sum-ext R n _ _ (λ q h. ap (λ c. R .mul c (u q)) (is q h) ∙ neg-mul R (firstQuotient p prime quotients (terms q) q) (u q))
+        ∙ sum-neg R n (λ q. R .mul (firstQuotient p prime quotients (terms q) q) (u q)))
+        ∙ twice (sum R n (λ q. R .mul (firstQuotient p prime quotients (terms q) q) (u q)))
         ∙ sum-filled
       where
         twice : (x : Polynomial (residues p prime)) → R .add (R .zero) (R .neg (R .neg x)) ≡ x

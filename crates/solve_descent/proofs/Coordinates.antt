@@ -22,7 +22,7 @@ use Rattle.solve_lattice.specs.Coefficients.{HoldsCoefficients}
 use Rattle.solve_lattice.specs.Room.{blockWords, slotWords, tailWords, coordinateProducts, lanes, productDegrees}
 use Rattle.solve_descent.specs.Degrees.{FewDegrees}
 use Rattle.solve_descent.specs.Product.{less}
-use Rattle.solve_descent.specs.Combination.{lessAll, factor, TakesCombination}
+use Rattle.solve_descent.specs.Combination.{lessAll, firstQuotient, TakesCombination}
 use Rattle.solve_descent.specs.Kernel.{Lessened, TakesKernel}
 use Rattle.solve_descent.specs.Coordinate.{Coordinate, FindsCoordinate}
 use Rattle.solve_lattice.specs.Reading.{holds-same}
@@ -57,7 +57,7 @@ module _ {p : ℕ} (L : Level) {n : ℕ} {kernel : List ℕ} {size : ℕ} {quoti
     tails = combined (polynomials (residues p prime)) n (Q .span .coefficient) U n
 
     abbrev taken : Polynomial (residues p prime)
-    taken = lessAll p prime n (polynomials (residues p prime) .zero) (factor p prime quotients degrees) tail
+    taken = lessAll p prime n (polynomials (residues p prime) .zero) (firstQuotient p prime quotients degrees) tail
 
     taken-held : Holds (residues p prime) (words p prime y₁ 0 tailWords) taken
     taken-held = holds-same (λ e. ap (words p prime y₁ 0 tailWords) (one-lane e)) (C .holds prime 0 (omega arith) (R .zero) tail

@@ -17,7 +17,7 @@ use Rattle.solve_lattice.specs.Quotients.{HoldsQuotient}
 use Rattle.solve_lattice.specs.Room.{productWords, lanes, lastLane, productDegrees}
 use Rattle.solve_descent.specs.Degrees.{FewDegrees}
 use Rattle.solve_descent.specs.Product.{strided}
-use Rattle.solve_descent.specs.Combination.{factor}
+use Rattle.solve_descent.specs.Combination.{firstQuotient}
 
 module _ (p : ℕ) (prime : Prime p) where
   -- the lane of row q: how much it has room for, and what `strided` reads of it
@@ -26,10 +26,10 @@ module _ (p : ℕ) (prime : Prime p) where
     quotient-size {k} D = holds-size (residues p prime) A k
         (λ e ge. words-zero p prime l 0 productWords (lanes * k) (D .behind) (flat lanes q e) (omega arith))
 
-    pub quotient-read : (k : ℕ) → k ≤ productDegrees → size (residues p prime) x ≤ k → factor p prime l k q ≡ x
+    pub quotient-read : (k : ℕ) → k ≤ productDegrees → size (residues p prime) x ≤ k → firstQuotient p prime l k q ≡ x
     quotient-read k most short = equal-coefficients (residues p prime) _ _ (λ e. go e (decLt e k))
       where
-        go : (e : ℕ) → Dec (e < k) → coefficients (residues p prime) (factor p prime l k q) e ≡ coefficients (residues p prime) x e
+        go : (e : ℕ) → Dec (e < k) → coefficients (residues p prime) (firstQuotient p prime l k q) e ≡ coefficients (residues p prime) x e
         go e (yes h) =
             let place : flat lanes q e ≡ lastLane - q + e * lanes = omega arith in
             read-at (residues p prime) k (strided p prime l (lastLane - q) lanes) e h

@@ -21,7 +21,7 @@ use Rattle.solve_lattice.specs.Range.{words-same}
 use Rattle.solve_lattice.specs.Reading.{holds-same}
 use Rattle.solve_lattice.specs.Quotients.{HoldsQuotient}
 use Rattle.solve_lattice.specs.Room.{productWords, blockWords, lanes, lastLane, mostCoefficients}
-use Rattle.solve_descent.specs.Multiple.{TakesMultiple}
+use Rattle.solve_descent.specs.Multiple.{SubtractsMultiple}
 use Rattle.solve_descent.specs.Lowering.{Lowers}
 
 -- y is the lane of slot q
@@ -88,7 +88,8 @@ pub quotients-lowered : {p : ℕ} → Prime p → (quotients factors output y₀
     → q < lanes → ((i : ℕ) → getD quotients i 0 < p) → length factors ≡ blockWords → place + blockWords ≤ length output
     → ((i : ℕ) → getD output i 0 < p) → length y₀ ≡ blockWords → y ≡ stored (λ e. getD quotients (lanes * e + (lastLane - q)) 0) y₀ 0 blockWords
     → output′ ≡ stored (λ j. getD y (0 + j) 0) output place blockWords
-    → TakesMultiple p quotients y (set factors (lastLane - q) 1) quotients′ → Lowers p q quotients factors output place quotients′ output′
+    → SubtractsMultiple p quotients y (set factors (lastLane - q) 1) quotients′
+    → Lowers p q quotients factors output place quotients′ output′
 quotients-lowered {p} prime₀ quotients factors output y₀ {y} {quotients′} {output′} place q lane below factors-room
     output-room output-below lane-room taken copied T = record {
       quotients-below = T .below;

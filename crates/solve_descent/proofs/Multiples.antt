@@ -24,7 +24,7 @@ use Rattle.solve_lattice.specs.Found.{found-ends}
 use Rattle.solve_lattice.specs.Quotients.{HoldsQuotient}
 use Rattle.solve_lattice.specs.Room.{productWords, blockWords, lanes, mostCoefficients}
 use Rattle.solve_descent.specs.Product.{strided, less, TakesProduct}
-use Rattle.solve_descent.specs.Multiple.{TakesMultiple}
+use Rattle.solve_descent.specs.Multiple.{SubtractsMultiple}
 
 -- what `find_leading` finds is no more than it is given
 pub found-most : (p : ℕ) (l : List ℕ) (n found : ℕ) → found ≡ length (polynomial p l 0 n) → found ≤ n
@@ -69,7 +69,8 @@ module _ (p : ℕ) (prime : Prime p) where
 
 -- y has no terms
 pub nothing-taken : (p : ℕ) (quotients y factors : List ℕ) (found terms : ℕ) → ((i : ℕ) → getD quotients i 0 < p)
-    → found ≡ length (polynomial p y 0 blockWords) → terms ≡ min found mostCoefficients → terms ≡ 0 → TakesMultiple p quotients y factors quotients
+    → found ≡ length (polynomial p y 0 blockWords) → terms ≡ min found mostCoefficients → terms ≡ 0
+    → SubtractsMultiple p quotients y factors quotients
 nothing-taken p quotients y factors found terms below found-is few none = record {
   same-length = refl;
   below = below;
@@ -99,7 +100,7 @@ module _ {p : ℕ} (prime₀ : Prime p) {quotients y factors q₁ q′ : List �
   same-residue = reduced-all (λ i w. getD q₁ i 0 % p ≡ w % p) (λ j. sym (mod-eq-of-lt (mod-lt _ (positive p prime₀))))
       (λ i far. refl)
 
-  pub multiple-taken : TakesMultiple p quotients y factors q′
+  pub multiple-taken : SubtractsMultiple p quotients y factors q′
   multiple-taken = record {
     same-length = ap length reduces ∙ length-stored _ q₁ 0 _ ∙ T .same-length;
     below = reduced-all (λ i w. w < p) (λ j. mod-lt _ (positive p prime₀)) (λ i far. omega (arith, T .behind i far, below i));

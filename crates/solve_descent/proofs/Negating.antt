@@ -20,7 +20,7 @@ use Rattle.solve_lattice.specs.Found.{found-ends}
 use Rattle.solve_lattice.specs.Room.{productWords, lanes, lastLane}
 use Rattle.solve_descent.specs.Read.{read-neg}
 use Rattle.solve_descent.specs.Product.{strided}
-use Rattle.solve_descent.specs.Combination.{factor}
+use Rattle.solve_descent.specs.Combination.{firstQuotient}
 use Rattle.solve_descent.specs.Degrees.{FewDegrees}
 
 module _ {p : ℕ} (positive : 0 < p) (l : List ℕ) (size : ℕ) (found : size ≡ length (polynomial p l 0 productWords)) where
@@ -63,7 +63,7 @@ module _ {p : ℕ} {l : List ℕ} {k : ℕ} (D : FewDegrees p l k) (length-is : 
         (λ j lt. neg-below p (prime .large) (getD l j 0)) (λ i ge. below i)
 
     pub factor-negated : (prime : Prime p) (q n : ℕ) → q < lanes → n ≤ k
-        → factor p prime m n q ≡ polynomials (residues p prime) .neg (factor p prime l n q)
+        → firstQuotient p prime m n q ≡ polynomials (residues p prime) .neg (firstQuotient p prime l n q)
     factor-negated prime q n row few = read-neg (residues p prime) n (strided p prime l (lastLane - q) lanes) (strided p prime m (lastLane - q) lanes)
         (λ j lt.
         ap (residue p prime) (word-negated (lastLane - q + j * lanes) (omega arith)

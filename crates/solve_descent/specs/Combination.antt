@@ -22,8 +22,8 @@ lessAll p prime n x c u = polynomials (residues p prime) .add x (polynomials (re
     (sum (polynomials (residues p prime)) n (λ q. polynomials (residues p prime) .mul (c q) (u q))))
 
 -- the first k coefficients of the quotient by slot q
-abbrev pub factor : (p : ℕ) (prime : Prime p) → List ℕ → ℕ → ℕ → Polynomial (residues p prime)
-factor p prime quotients k q = read (residues p prime) k (strided p prime quotients (lastLane - q) lanes)
+abbrev pub firstQuotient : (p : ℕ) (prime : Prime p) → List ℕ → ℕ → ℕ → Polynomial (residues p prime)
+firstQuotient p prime quotients k q = read (residues p prime) k (strided p prime quotients (lastLane - q) lanes)
 
 -- Lane i of w lanes, in the first N words of y. Of the quotient by slot q so many terms count; the slot has 128 words from `at q`
 -- on.
@@ -35,4 +35,4 @@ pub record TakesCombination (p w N : ℕ) (quotients : List ℕ) (terms : ℕ �
       → ((q : ℕ) → q < n → Holds (residues p prime) (λ e. words p prime slots (at q) blockWords (flat w i e)) (u q))
       → Holds (residues p prime) (λ e. words p prime y 0 N (flat w i e)) x
       → Holds (residues p prime) (λ e. words p prime y′ 0 N (flat w i e))
-      (lessAll p prime n x (λ q. factor p prime quotients (terms q) q) u)
+      (lessAll p prime n x (λ q. firstQuotient p prime quotients (terms q) q) u)

@@ -14,7 +14,7 @@ use Rattle.solve_lattice.specs.Room.{blockWords, lanes, mostCoefficients}
 use Rattle.solve_descent.specs.Product.{less}
 
 -- What it holds is said for a polynomial x in y of at most 121 coefficients.
-pub record TakesMultiple (p : ℕ) (quotients y factors quotients′ : List ℕ) : Type 0 where
+pub record SubtractsMultiple (p : ℕ) (quotients y factors quotients′ : List ℕ) : Type 0 where
   pub same-length : length quotients′ ≡ length quotients
   pub below : (i : ℕ) → getD quotients′ i 0 < p
   pub holds : (prime : Prime p) (x : Polynomial (residues p prime)) → Holds (residues p prime) (words p prime y 0 blockWords) x

@@ -13,7 +13,7 @@ use Rattle.vector.specs.Bound.{AtMost}
 use Rattle.reduction.specs.Total.{rank}
 use Rattle.reduction.specs.Replace.{replace}
 use Rattle.reduction.specs.Slots.{Slots, unweighted}
-use Rattle.reduction.specs.System.{System}
+use Rattle.reduction.specs.System.{LinearSystem}
 use Rattle.reduction.specs.Levels.{Levels}
 use Rattle.reduction.specs.Descent.{Descent, Turn}
 use Rattle.reduction.specs.Holds.{Holds}
@@ -28,7 +28,7 @@ module _ (p : ℕ) (prime : Prime p) where
   -- Memory holds a descent that has come to column j + 1: the level, its kernel (zero where there is none) in a block, the column
   -- and the coefficients of the vector.
   pub record HoldsDescent (L : memory.Level) (block columns : List ℕ) (at : ℕ) (quotients : List ℕ) : Type 0 where
-    pub system : System (sized (residues p prime))
+    pub system : LinearSystem (sized (residues p prime))
     pub level : ℕ → Slots (Polynomial (residues p prime))
     pub kernel : ℕ → Polynomial (residues p prime)
     pub levels : Levels system level kernel (system .columns)

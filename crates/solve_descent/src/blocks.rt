@@ -1,9 +1,9 @@
 // A vector of a level, made anew from its coefficients: the sum of quotient times block.
-use crate::bound::min;
 use crate::negated::negate;
 use crate::product::Terms;
 use crate::product::subtract_product;
 use residue::modulus::Modulus;
+use residue::number::lesser;
 use solve_lattice::LANES;
 use solve_lattice::LAST_LANE;
 use solve_lattice::Level;
@@ -57,7 +57,7 @@ fn subtract_blocks(
         let terms = Terms {
             at: LAST_LANE - q,
             step: LANES,
-            count: min(degrees, most_terms(size)),
+            count: lesser(degrees, most_terms(size)),
         };
         subtract_product(t, LANES, quotients, terms, level, SLOT * q, size, modulus);
         q += 1;

@@ -1,50 +1,41 @@
-// The coordinate of a column: stored, and its multiple of the column taken off.
-use crate::bound::min;
-use crate::negated::store_negated;
-use crate::product::Terms;
-use crate::product::subtract_product;
+// The coordinate of a column, found by the tails of a level.
+use crate::kernel::reduce_by_kernel;
+use crate::tails::subtract_combination;
 use residue::modulus::Modulus;
-use solve_lattice::BLOCK;
-use solve_lattice::COEFFICIENTS;
-use solve_lattice::Input;
-use solve_lattice::LANES;
-use solve_lattice::Output;
+use solve_lattice::Block;
+use solve_lattice::Level;
 use solve_lattice::Product;
 use solve_lattice::Tail;
-use vector::find_leading;
-ghost use Prim.Native.Nat.{ℕ, _+_, _*_, _<_, _≤_};
+ghost use Prim.Native.Nat.{ℕ, _<_, _≤_};
 ghost use lib.ListN.{getD};
 ghost use Rattle.residue.specs.Modulus.{ValidModulus};
 ghost use Rattle.vector.specs.Bound.{AtMost};
-ghost use Rattle.solve_lattice.specs.Room.{blockWords, inputWords, outputWords, combinationProducts, coordinateProducts};
-ghost use Rattle.solve_descent.specs.Column.{TakesColumn};
+ghost use Rattle.solve_lattice.specs.Room.{lanes};
+ghost use Rattle.solve_lattice.specs.Memory.{ValidLevel};
+ghost use Rattle.solve_descent.specs.Degrees.{FewDegrees};
+ghost use Rattle.solve_descent.specs.Kernel.{ValidKernel};
+ghost use Rattle.solve_descent.specs.Coordinate.{FindsCoordinate};
 
-// Stores minus y, the coordinate, in `output` from `place` on, and takes the coordinate times the column, the block of `input` from
-// `at` on, off `t`, in sums that are not reduced.
-pub fn take_column(
-    t: &mut Product,
-    output: &mut Output,
-    place: usize,
-    y: &Tail,
-    input: &Input,
-    at: usize,
+// Stores in y, which is 0, minus the combination of the tails of the first `rows` slots of `level` by `quotients`, which have
+// `degrees` degrees, modulo `kernel`, of which `size` words count, in sums that are not reduced.
+pub fn find_coordinate(
+    y: &mut Tail,
+    quotients: &Product,
+    degrees: usize,
+    level: &Level,
+    rows: usize,
+    kernel: &Block,
+    size: usize,
     modulus: Modulus,
 )
-    requires { ⌜ ValidModulus modulus × (place + blockWords ≤ outputWords) × (at + blockWords ≤ inputWords) ⌝ }
-    requires block { ⌜ AtMost (combinationProducts * (modulus .p * modulus .p)) (now t) ⌝ }
-    requires coordinates { ⌜ ((i : ℕ) → getD (now output) i 0 < modulus .p) ⌝ }
-    requires sums { ⌜ AtMost (coordinateProducts * (modulus .p * modulus .p)) (now y) ⌝ }
-    requires column { ⌜ ((i : ℕ) → getD (now input) i 0 < modulus .p) ⌝ }
-    ensures { λ _. ⌜ TakesColumn (modulus .p) (now (t .entry)) (now (output .entry)) place (now (y .entry)) (now (input .entry)) at
-        (now (t .exit)) (now (output .exit)) ⌝ }
+    requires { ⌜ ValidModulus modulus × (rows ≤ lanes) × ValidLevel (modulus .p) (now level) ⌝ }
+    requires kernel { ⌜ ValidKernel (modulus .p) (now kernel) size ⌝ }
+    requires factors { ⌜ ((i : ℕ) → getD (now quotients) i 0 < modulus .p) ⌝ }
+    requires degrees { ⌜ FewDegrees (modulus .p) (now quotients) degrees ⌝ }
+    requires zero { ⌜ AtMost 0 (now y) ⌝ }
+    ensures { λ _. ⌜ FindsCoordinate (modulus .p) (now (level .entry)) rows (now (kernel .entry)) size (now (quotients .entry))
+        (now (y .exit)) ⌝ }
 {
-    store_negated(output, place, y, BLOCK, modulus);
-    let found = find_leading(y, BLOCK, modulus);
-    // a coordinate has at most 121 coefficients (L6), and t has no room for more
-    let terms = Terms {
-        at: place,
-        step: 1,
-        count: min(found.size, COEFFICIENTS),
-    };
-    subtract_product(t, LANES, output, terms, input, at, BLOCK, modulus);
+    subtract_combination(y, quotients, degrees, level, rows, modulus);
+    reduce_by_kernel(y, kernel, size, modulus);
 }

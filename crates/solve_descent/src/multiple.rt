@@ -1,8 +1,8 @@
 // A multiple of the factors of a column taken off the quotients, in each lane.
-use crate::bound::min;
 use crate::product::Terms;
 use crate::product::subtract_product;
 use residue::modulus::Modulus;
+use residue::number::lesser;
 use solve_lattice::BLOCK;
 use solve_lattice::Block;
 use solve_lattice::COEFFICIENTS;
@@ -17,7 +17,7 @@ ghost use lib.ListN.{length, getD};
 ghost use Rattle.residue.specs.Modulus.{ValidModulus};
 ghost use Rattle.vector.specs.Reduced.{polynomial};
 ghost use Rattle.solve_lattice.specs.Room.{blockWords};
-ghost use Rattle.solve_descent.specs.Multiple.{TakesMultiple};
+ghost use Rattle.solve_descent.specs.Multiple.{SubtractsMultiple};
 
 // Counts the words of `factors` up to the last that is not 0, in whole rows of eight.
 fn count_words(factors: &[u64], modulus: Modulus) -> usize
@@ -32,11 +32,11 @@ pub fn subtract_multiple(quotients: &mut Product, y: &Block, factors: &[u64], mo
     requires { ⌜ ValidModulus modulus × ((i : ℕ) → getD (now quotients) i 0 < modulus .p) ⌝ }
     requires multiple { ⌜ ((i : ℕ) → getD (now y) i 0 < modulus .p) ⌝ }
     requires factors { ⌜ (length (now factors) ≡ blockWords) × ((i : ℕ) → getD (now factors) i 0 < modulus .p) ⌝ }
-    ensures { λ _. ⌜ TakesMultiple (modulus .p) (now (quotients .entry)) (now (y .entry)) (now (factors .entry))
+    ensures { λ _. ⌜ SubtractsMultiple (modulus .p) (now (quotients .entry)) (now (y .entry)) (now (factors .entry))
         (now (quotients .exit)) ⌝ }
 {
     // y has at most 121 coefficients (L6), and the quotients have no room for more
-    let count = min(find_leading(y, BLOCK, modulus).size, COEFFICIENTS);
+    let count = lesser(find_leading(y, BLOCK, modulus).size, COEFFICIENTS);
     if count == 0 {
         return;
     }

@@ -1,8 +1,8 @@
 // One turn of the way down: a column gets its coordinate, and its part is taken off the vector.
 use crate::blocks::combine_blocks;
-use crate::coordinate::take_column;
-use crate::quotients::count_degrees;
-use crate::search::find_coordinate;
+use crate::column::take_column;
+use crate::coordinate::find_coordinate;
+use crate::degrees::count_degrees;
 use solve_lattice::BLOCK;
 use solve_lattice::Block;
 use solve_lattice::Input;

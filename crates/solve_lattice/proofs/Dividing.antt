@@ -19,7 +19,7 @@ use Rattle.reduction.specs.Replace.{replace-elim}
 use Rattle.reduction.specs.Pivot.{Pivot}
 use Rattle.reduction.specs.Span.{InSpan}
 use Rattle.reduction.specs.Moves.{Taken}
-use Rattle.reduction.specs.Division.{start, step, quotient, division-on}
+use Rattle.reduction.specs.Division.{start, step, slotQuotient, division-on}
 use Rattle.reduction.specs.Holds.{monomial}
 use Rattle.reduction.specs.Flat.{flat, flat-step}
 use Rattle.solve_lattice.specs.Room.{productWords, slotPlaces, lanes, lastLane, mostPlaces}
@@ -31,7 +31,7 @@ use Rattle.solve_lattice.specs.Sums.{sums-fewer}
 use Rattle.solve_lattice.specs.Reading.{ends-pivot, holds-filled}
 use Rattle.solve_lattice.specs.Step.{HasStep, TakesMultiple}
 use Rattle.solve_lattice.specs.Monomial.{holds-monomial}
-use Rattle.solve_lattice.specs.Quotients.{HoldsQuotient, Divides, Dividend, Divided}
+use Rattle.solve_lattice.specs.Quotients.{HoldsQuotient, DividedSoFar, Dividend, BlockDivided}
 use Rattle.solve_lattice.proofs.Stepping
 
 pub record Dividing (p : ℕ) (L : Level) (block₀ quotients₀ block quotients : List ℕ) (k value : ℕ) : Type 0 where
@@ -45,14 +45,14 @@ pub record Dividing (p : ℕ) (L : Level) (block₀ quotients₀ block quotients
   pub sums : Sums p (slotPlaces + k) block
   pub below : (i : ℕ) → getD quotients i 0 < p
   pub divides : (prime : Prime p) (n : ℕ) (ω : ℕ → ℕ) (f : Dividend p prime n ω L block₀)
-      → Divides p prime n ω (f .slots) (f .vector) block quotients
+      → DividedSoFar p prime n ω (f .slots) (f .vector) block quotients
 
 module _ {p : ℕ} (prime₀ : Prime p) {L : Level} {block₀ quotients₀ : List ℕ} where
   -- nothing is taken off yet, and the quotients are zero
   pub dividing-start : {k value : ℕ} → height k * lanes ≤ length block₀ → k ≤ length quotients₀ → Ends p block₀ 0 productWords k
       → (0 < k → value ≡ getD block₀ (k - 1) 0 % p) → Sums p mostPlaces block₀
       → AtMost 0 quotients₀ → Dividing p L block₀ quotients₀ block₀ quotients₀ k value
-  unfolding quotient
+  unfolding slotQuotient
   dividing-start {k} room places ends leading sums zeros = record {
     same-block = refl;
     same-quotients = refl;
@@ -119,7 +119,7 @@ module _ {p : ℕ} (prime₀ : Prime p) {L : Level} {block₀ quotients₀ : Lis
         go (no e) = subst (λ x. x < p) (sym (getD-set-other quotients place i sum 0 e)) (so-far .below i)
 
     module _ (prime : Prime p) (n : ℕ) (ω : ℕ → ℕ) (f : Dividend p prime n ω L block₀) where
-      D : Divides p prime n ω (f .slots) (f .vector) block quotients
+      D : DividedSoFar p prime n ω (f .slots) (f .vector) block quotients
       D = so-far .divides prime n ω f
 
       P : Pivot (sized (residues p prime)) n ω (D .rest) (row k) (height k)
@@ -173,10 +173,10 @@ module _ {p : ℕ} (prime₀ : Prime p) {L : Level} {block₀ quotients₀ : Lis
           (λ lt. ap (λ w. w % p) (getD-set-other quotients place (0 + x) sum 0 (λ e. ne (omega (arith, here)))))
 
       lane : (q : ℕ) → q < n
-          → HoldsQuotient p prime quotients′ q (quotient (polynomials (residues p prime)) n (f .slots) (step (D .trace) taken) q)
-      unfolding quotient taken
+          → HoldsQuotient p prime quotients′ q (slotQuotient (polynomials (residues p prime)) n (f .slots) (step (D .trace) taken) q)
+      unfolding slotQuotient taken
       lane q h = replace-elim (λ q x. q < n → HoldsQuotient p prime quotients′ q x)
-          (quotient (polynomials (residues p prime)) n (f .slots) (D .trace)) (row k) _
+          (slotQuotient (polynomials (residues p prime)) n (f .slots) (D .trace)) (row k) _
           (λ l. holds-monomial (residues p prime) a degree (D .holds-quotient (row k) l) words-here
           (λ e ne. words-other (flat lanes (row k) e) (λ same. ne (omega arith))))
           q
@@ -185,7 +185,7 @@ module _ {p : ℕ} (prime₀ : Prime p) {L : Level} {block₀ quotients₀ : Lis
           })
           h
 
-      divides : Divides p prime n ω (f .slots) (f .vector) block′ quotients′
+      divides : DividedSoFar p prime n ω (f .slots) (f .vector) block′ quotients′
       divides = record {
         rest = rest′;
         trace = step (D .trace) taken;
@@ -223,7 +223,7 @@ module _ {p : ℕ} (prime₀ : Prime p) {L : Level} {block₀ quotients₀ : Lis
 
     module _ (prime : Prime p) (n : ℕ) (ω : ℕ → ℕ) (f : Dividend p prime n ω L block₀)
         (span : InSpan (polynomials (residues p prime)) n n (f .slots) (f .vector)) (some : 0 < k) where
-      left : Divides p prime n ω (f .slots) (f .vector) block quotients
+      left : DividedSoFar p prime n ω (f .slots) (f .vector) block quotients
       left = so-far .divides prime n ω f
 
       pivot : Pivot (sized (residues p prime)) n ω (left .rest) (row k) (height k)
@@ -239,7 +239,7 @@ module _ {p : ℕ} (prime₀ : Prime p) {L : Level} {block₀ quotients₀ : Lis
           let same = level .slot (row k) (omega arith) .pivot (omega arith) in
           omega (arith, on .1, f .holds-slots .size (row k) (pivot .inside))
 
-    pub dividing-end : (k ≡ 0) ⊎ ((slotSize L (row k) ≡ 0) ⊎ (k < slotSize L (row k))) → Divided p L block₀ block quotients k
+    pub dividing-end : (k ≡ 0) ⊎ ((slotSize L (row k) ≡ 0) ⊎ (k < slotSize L (row k))) → BlockDivided p L block₀ block quotients k
     dividing-end stops = record {
       ends = so-far .ends;
       sums = so-far .sums;

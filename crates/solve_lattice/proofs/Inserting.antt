@@ -5,7 +5,7 @@ use native.Mathlib.Omega.{arith}
 use lib.ListN.{length}
 use Rattle.modular.specs.Prime.{Prime}
 use Rattle.solve_lattice.specs.Memory.{row, slotSize, Memory, Valid}
-use Rattle.solve_lattice.specs.Moves.{Short, GoesOn, Moved, Stepped}
+use Rattle.solve_lattice.specs.Moves.{ShortTails, GoesOn, Moved, Stepped}
 use Rattle.solve_lattice.specs.Leading.{leads-none, leads-then}
 use Rattle.solve_lattice.specs.Insertion.{Starts, Inserts, starts-room}
 
@@ -13,7 +13,7 @@ pub record Inserting (p : ℕ) (M M′ : Memory) : Type 0 where
   -- the words that are lent stay as many
   pub length-block : length (M′ .block) ≡ length (M .block)
   pub moved : Moved p M M′
-  pub short : Short M′
+  pub short : ShortTails M′
 
 module _ {p : ℕ} where
   pub inserting-start : {M : Memory} → Valid p M → Starts p M → Inserting p M M

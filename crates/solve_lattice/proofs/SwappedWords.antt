@@ -30,13 +30,13 @@ pub record Swap (p : ℕ) (M : Memory) (t e m : ℕ) : Type 0 where
 
 -- the tail's size as `find_leading` finds it
 pub swap-of : {p : ℕ} → 0 < p → {M : Memory} → Valid p M → HasRoom p M
-    → (t : ℕ) → t ≡ length (polynomial p (M .tail) 0 (M .hand .tail))
+    → (t : ℕ) → t ≡ length (polynomial p (M .tail) 0 (M .hand .«tail_size»))
     → (e : ℕ) → e ≡ max (M .hand .size) (slotSize (M .level) (row (M .hand .size)))
     → (m : ℕ) → m ≡ max t (tailSize (M .level) (row (M .hand .size))) → Swap p M t e m
 swap-of {p} positive {M} valid room t found e blocks m tails = record {
   valid = valid;
   room = room;
-  tail = found-ends p positive (M .tail) tailWords (M .hand .tail) (valid .hand .tail-within) (valid .hand .tail) t found;
+  tail = found-ends p positive (M .tail) tailWords (M .hand .«tail_size») (valid .hand .tail-within) (valid .hand .tail) t found;
   blocks = blocks;
   tails = tails;
 }

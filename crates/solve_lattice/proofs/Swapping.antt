@@ -54,7 +54,7 @@ module _ {p : ℕ} (prime₀ : Prime p) {M : Memory} {t e m : ℕ} (E : Swap p M
       (found-value : v ≡ leading (modulo p) (polynomial p (block′ M e) 0 (slotSize (M .level) (row (M .hand .size))))) where
     abbrev M′ : Memory
     M′ = memory (level′ p M t e m) (block′ M e) (tail′ p M e m)
-        (record { size = f; leading = v; tail = tailSize (M .level) (row (M .hand .size)) })
+        (record { size = f; leading = v; «tail_size» = tailSize (M .level) (row (M .hand .size)) })
 
     ends : Ends p (block′ M e) 0 productWords f
     ends = found-ends p positive (block′ M e) productWords (slotSize L q) (known .within) (known .behind) f found
@@ -167,7 +167,7 @@ module _ {p : ℕ} (prime₀ : Prime p) {M : Memory} {t e m : ℕ} (E : Swap p M
       → v ≡ leading (modulo p) (polynomial p b 0 (slotSize (M .level) (row (M .hand .size))))
       → Swapped p M (memory
       (noted s₂ (row (M .hand .size)) (M .hand .size) t i) b τ
-      (record { size = f; leading = v; tail = tailSize (M .level) (row (M .hand .size)) }))
+      (record { size = f; leading = v; «tail_size» = tailSize (M .level) (row (M .hand .size)) }))
   swapping b s₁ τ s₂ i f v eb e₁ et e₂ ei ef ev = rw (eb, tails, slots, ei) (swapped f v (rw eb at ef) (rw eb at ev))
     where
       tails : τ ≡ tail′ p M e m

@@ -115,9 +115,9 @@ module _ {p : ℕ} (prime₀ : Prime p) {M : Memory} (valid : Valid p M) (fits :
 
   module _ (taken : ℕ) (rounded : taken ≡ height size * lanes) (tail′ : List ℕ)
       (stores : tail′ ≡ stored (sumAt (M .tail) shift L (slotWords * q + blockWords) (p - r .factor)) (M .tail) shift taken)
-      (t : ℕ) (larger : t ≡ max (M .hand .tail) (shift + size)) where
+      (t : ℕ) (larger : t ≡ max (M .hand .«tail_size») (shift + size)) where
     abbrev M′ : Memory
-    M′ = memory (M .level) block′ tail′ (record { size = r .size; leading = r .leading; tail = t })
+    M′ = memory (M .level) block′ tail′ (record { size = r .size; leading = r .leading; «tail_size» = t })
 
     tail-there : shift + taken ≤ length (M .tail)
     tail-there = omega (arith, taking-room taken rounded, valid .hand .tail-room)

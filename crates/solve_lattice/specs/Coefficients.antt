@@ -7,10 +7,10 @@ use Rattle.modular.specs.Prime.{Prime}
 use Rattle.modular.specs.Residue.{residues}
 use Rattle.reduction.specs.Slots.{Slots, SameBlocks}
 use Rattle.reduction.specs.Span.{InSpan, span-blocks, span-blocks-coefficient}
-use Rattle.reduction.specs.Division.{quotient, quotient-empty, division-quotients}
+use Rattle.reduction.specs.Division.{slotQuotient, quotient-empty, division-quotients}
 use Rattle.solve_lattice.specs.Memory.{Level}
 use Rattle.solve_lattice.specs.Reading.{ends-zero}
-use Rattle.solve_lattice.specs.Quotients.{HoldsQuotient, Divides, Dividend, Divided}
+use Rattle.solve_lattice.specs.Quotients.{HoldsQuotient, DividedSoFar, Dividend, BlockDivided}
 
 -- v is a combination of the blocks of U, with the coefficient of slot q in lane 7 - q
 pub record HoldsCoefficients (p : ℕ) (prime : Prime p) (n : ℕ) (U : Slots (Polynomial (residues p prime)))
@@ -20,12 +20,12 @@ pub record HoldsCoefficients (p : ℕ) (prime : Prime p) (n : ℕ) (U : Slots (P
 
 -- a division that leaves nothing gives them
 pub divided-coefficients : {p : ℕ} (prime : Prime p) {n : ℕ} {ω : ℕ → ℕ} {L : Level} {block block′ quotients : List ℕ} {left : ℕ}
-    → Divided p L block block′ quotients left → (f : Dividend p prime n ω L block)
+    → BlockDivided p L block block′ quotients left → (f : Dividend p prime n ω L block)
     → InSpan (polynomials (residues p prime)) n n (f .slots) (f .vector)
     → HoldsCoefficients p prime n (f .slots) (f .vector) quotients
 divided-coefficients {p} prime {n} {ω} {block′ = block′} {quotients = quotients} D f s = record {
   span = record {
-    coefficient = quotient (polynomials (residues p prime)) n (f .slots) (Q .trace);
+    coefficient = slotQuotient (polynomials (residues p prime)) n (f .slots) (Q .trace);
     empty = quotient-empty (polynomials (residues p prime)) n (f .slots) (Q .trace);
     equal = division-quotients (polynomials (residues p prime)) n (f .slots) (Q .trace)
         (ends-zero p prime (D .ends) (Q .holds-rest) (D .whole prime n ω f s));
@@ -33,7 +33,7 @@ divided-coefficients {p} prime {n} {ω} {block′ = block′} {quotients = quoti
   holds = Q .holds-quotient;
 }
   where
-    Q : Divides p prime n ω (f .slots) (f .vector) block′ quotients
+    Q : DividedSoFar p prime n ω (f .slots) (f .vector) block′ quotients
     Q = D .divides prime n ω f
 
 -- tails play no part

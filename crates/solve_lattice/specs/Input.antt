@@ -9,7 +9,7 @@ use Rattle.algebra.specs.Size.{size, sized}
 use Rattle.modular.specs.Prime.{Prime}
 use Rattle.modular.specs.Residue.{residues}
 use Rattle.reduction.specs.Slots.{unweighted}
-use Rattle.reduction.specs.System.{System}
+use Rattle.reduction.specs.System.{LinearSystem}
 use Rattle.reduction.specs.Flat.{Flat}
 use Rattle.solve_lattice.specs.Room.{inputWords, blockWords, blockDegrees, lanes}
 use Rattle.solve_lattice.specs.Word.{words}
@@ -23,23 +23,23 @@ module _ (p : ℕ) (prime : Prime p) (n m : ℕ) where
   -- n rows and m columns modulo p, of degree at most 15
   pub record Equations : Type 0 where
     pub matrix : ℕ → ℕ → Polynomial (residues p prime)
-    pub right : ℕ → Polynomial (residues p prime)
+    pub side : ℕ → Polynomial (residues p prime)
     pub matrix-small : (i j : ℕ) → i < n → j < m → size (residues p prime) (matrix i j) ≤ blockDegrees
-    pub right-small : (i : ℕ) → i < n → size (residues p prime) (right i) ≤ blockDegrees
+    pub side-small : (i : ℕ) → i < n → size (residues p prime) (side i) ≤ blockDegrees
 
   -- as `reduction` takes them
-  abbrev pub systemOf : Equations → System (sized (residues p prime))
-  systemOf X = record {
+  abbrev pub inputSystem : Equations → LinearSystem (sized (residues p prime))
+  inputSystem X = record {
     rows = n;
     columns = m;
     degree = 15;
     matrix = X .matrix;
-    right = X .right;
+    side = X .side;
     matrix-small = X .matrix-small;
-    right-small = X .right-small;
+    side-small = X .side-small;
   }
 
   pub record HoldsSystem (X : Equations) (input : List ℕ) : Type 0 where
     pub column : (j : ℕ) → j < m
         → Flat (residues p prime) n lanes unweighted (words p prime input (blockWords * j) blockWords) (λ i. X .matrix i j)
-    pub right : Flat (residues p prime) n lanes unweighted (words p prime input (blockWords * m) blockWords) (X .right)
+    pub side : Flat (residues p prime) n lanes unweighted (words p prime input (blockWords * m) blockWords) (X .side)

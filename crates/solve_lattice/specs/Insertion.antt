@@ -15,7 +15,7 @@ use Rattle.reduction.specs.Total.{degrees, total-le, total-constant}
 use Rattle.reduction.specs.Slots.{unweighted}
 use Rattle.reduction.specs.Tails.{tails-room-hand}
 use Rattle.reduction.specs.Trace.{State}
-use Rattle.reduction.specs.Kept.{Begins, trace-kept}
+use Rattle.reduction.specs.Kept.{InsertionBegins, trace-kept}
 use Rattle.reduction.specs.Insert.{Stop, Inserted}
 use Rattle.reduction.specs.Holds.{holds-size, holds-unique}
 use Rattle.solve_lattice.specs.Room.{blockWords, slotWords, tailWords, lanes, mostCoefficients}
@@ -28,7 +28,7 @@ use Rattle.solve_lattice.specs.Lanes.{stateOf, stateOf-held}
 
 pub record Starts (p : ℕ) (M : Memory) : Type 0 where
   pub tails : (q : ℕ) → q < lanes → tailSize (M .level) q ≡ 0
-  pub tail : M .hand .tail ≡ 1
+  pub tail : M .hand .«tail_size» ≡ 1
   pub one : getD (M .tail) 0 0 % p ≡ 1
 
 pub record Inserts (p : ℕ) (M M′ : Memory) : Type 0 where
@@ -69,10 +69,10 @@ module _ (p : ℕ) (prime : Prime p) where
         where
           at : (k : ℕ) → unit (residues p prime .ring) k ≡ words p prime (M .tail) 0 tailWords k
           at zero = sym (words-first p prime (M .tail) tailWords 0 (omega arith) ∙ residue-one p prime _ (starts .one))
-          at (suc k) = sym (words-zero p prime (M .tail) 0 tailWords (M .hand .tail) (valid .hand .tail) (suc k)
+          at (suc k) = sym (words-zero p prime (M .tail) 0 tailWords (M .hand .«tail_size») (valid .hand .tail) (suc k)
               (omega (arith, starts .tail)))
 
-      pub starts-begins : Begins (sized (residues p prime)) n ω s
+      pub starts-begins : InsertionBegins (sized (residues p prime)) n ω s
       starts-begins = record {
         filled = holds-filled p prime (valid .level) (holds .slots);
         tails = tail-zero;

@@ -9,7 +9,7 @@ use mathlib.Core.List.{List}
 use lib.ListN.{length, getD}
 use Rattle.modular.specs.Modulo.{modulo}
 use Rattle.vector.specs.Bound.{AtMost}
-use Rattle.reduction.specs.Total.{total}
+use Rattle.ring.specs.Total.{total}
 use Rattle.solve_lattice.specs.declared.hand.Hand.{Hand}
 use Rattle.solve_lattice.specs.Room.{lanes, blockWords, tailWords, slotWords, levelWords, productWords, lastLane, mostCoefficients, mostProducts}
 use Rattle.solve_lattice.specs.Room.{sizesFrom, tailSizesFrom, inversesFrom}
@@ -84,8 +84,8 @@ pub record ValidHand (p : ℕ) (M : Memory) : Type 0 where
   pub tail-room : tailWords ≤ length (M .tail)
   pub block : Ends p (M .block) 0 productWords (M .hand .size)
   pub leading : 0 < M .hand .size → M .hand .leading ≡ getD (M .block) (M .hand .size - 1) 0 % p
-  pub tail-within : M .hand .tail ≤ tailWords
-  pub tail : ZeroFrom p (M .tail) 0 tailWords (M .hand .tail)
+  pub tail-within : M .hand .«tail_size» ≤ tailWords
+  pub tail : ZeroFrom p (M .tail) 0 tailWords (M .hand .«tail_size»)
   pub sums : Sums p (places M) (M .block)
   pub tail-sums : Sums p (places M) (M .tail)
 

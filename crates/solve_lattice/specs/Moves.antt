@@ -11,15 +11,15 @@ use Rattle.solve_lattice.specs.Memory.{row, height, ZeroFrom, slotSize, 
 use Rattle.solve_lattice.specs.Holding.{HoldsSlots, HoldsState, Leads}
 
 -- a hand of many degrees meets short tails only, so that the step on the tail has room for all words of the slot's degrees
-abbrev pub Short : Memory → Type 0
-Short M = (q : ℕ) → q < lanes → tailSize (M .level) q + height (M .hand .size) ≤ 137
+abbrev pub ShortTails : Memory → Type 0
+ShortTails M = (q : ℕ) → q < lanes → tailSize (M .level) q + height (M .hand .size) ≤ 137
 
 -- the slot at the pivot of the hand is filled and no longer than the hand
 pub record Fits (M : Memory) : Type 0 where
   pub some : 0 < M .hand .size
   pub filled : 0 < slotSize (M .level) (row (M .hand .size))
   pub shorter : slotSize (M .level) (row (M .hand .size)) ≤ M .hand .size
-  pub short : Short M
+  pub short : ShortTails M
 
 -- the hand has room in a slot
 pub record HasRoom (p : ℕ) (M : Memory) : Type 0 where
@@ -32,7 +32,7 @@ pub record GoesOn (p : ℕ) (M : Memory) : Type 0 where
   pub some : 0 < M .hand .size
   pub filled : 0 < slotSize (M .level) (row (M .hand .size))
   pub tail : ZeroFrom p (M .tail) 0 tailWords mostCoefficients
-  pub short : Short M
+  pub short : ShortTails M
 
 -- memory stays in order and holds a state that an insertion comes to
 pub record Moved (p : ℕ) (M M′ : Memory) : Type 0 where
@@ -43,7 +43,7 @@ pub record Moved (p : ℕ) (M M′ : Memory) : Type 0 where
 pub record Stepped (p : ℕ) (M M′ : Memory) : Type 0 where
   pub moved : Moved p M M′
   pub falls : places M′ < places M
-  pub short : Short M′
+  pub short : ShortTails M′
 
 -- The hand and the slot at its pivot changed places. Where the slot was filled, that is a move; where it was empty, the hand is
 -- now among the slots.

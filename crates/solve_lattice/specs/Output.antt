@@ -9,10 +9,10 @@ use Rattle.algebra.specs.Size.{sized}
 use Rattle.algebra.specs.Monic.{Monic}
 use Rattle.modular.specs.Prime.{Prime}
 use Rattle.modular.specs.Residue.{residues}
-use Rattle.reduction.specs.System.{System}
+use Rattle.reduction.specs.System.{LinearSystem}
 use Rattle.reduction.specs.Holds.{Holds}
 use Rattle.reduction.specs.Polynomials.{euclidean}
-use Rattle.reduction.specs.Certificate.{RightSolution, SmallSolution, RightAbsence, SmallAbsence}
+use Rattle.reduction.specs.Certificate.{RightSolutionIn, SmallSolution, RightAbsenceIn, SmallAbsence}
 use Rattle.reduction.specs.Numerators.{ReducedNumerators}
 use Rattle.reduction.specs.Killing.{Killing}
 use Rattle.solve_lattice.specs.Room.{outputWords, blockWords, mostCoefficients}
@@ -32,14 +32,14 @@ module _ (p : ℕ) (prime : Prime p) where
   abbrev pub HoldsAt : List ℕ → ℕ → Polynomial (residues p prime) → Type 0
   HoldsAt output k = Holds (residues p prime) (words p prime output (placeOf k) blockWords)
 
-  module _ (T : System (sized (residues p prime))) (output : List ℕ) where
+  module _ (T : LinearSystem (sized (residues p prime))) (output : List ℕ) where
     -- "d, N, w, Z", right for T and of degree at most 120
     pub record HoldsSolution : Type 0 where
       pub d : Polynomial (residues p prime)
       pub N : ℕ → Polynomial (residues p prime)
       pub w : Polynomial (residues p prime)
       pub Z : ℕ → Polynomial (residues p prime)
-      pub right : RightSolution (euclidean (residues p prime)) T d N w Z
+      pub right : RightSolutionIn (euclidean (residues p prime)) T d N w Z
       pub small : SmallSolution (euclidean (residues p prime)) T mostCoefficients d N w Z
       pub reduced : ReducedNumerators (sized (residues p prime)) (T .rows) (T .columns) (T .matrix) N
       pub holds-d : HoldsAt output 0 d
@@ -50,9 +50,9 @@ module _ (p : ℕ) (prime : Prime p) where
     -- "q", right for T and of degree at most 120
     pub record HoldsAbsence : Type 0 where
       pub q : ℕ → Polynomial (residues p prime)
-      pub right : RightAbsence (euclidean (residues p prime)) T q
+      pub right : RightAbsenceIn (euclidean (residues p prime)) T q
       pub small : SmallAbsence (euclidean (residues p prime)) T mostCoefficients q
-      pub killing : Killing (sized (residues p prime)) (T .rows) (T .columns) (T .matrix) (T .right) q
+      pub killing : Killing (sized (residues p prime)) (T .rows) (T .columns) (T .matrix) (T .side) q
       pub monic : Monic (residues p prime) (q (killing .at))
       pub holds-q : (i : ℕ) → i < T .rows → HoldsAt output i (q i)
 

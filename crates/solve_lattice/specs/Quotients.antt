@@ -8,7 +8,7 @@ use Rattle.modular.specs.Residue.{residues}
 use Rattle.algebra.specs.Polynomial.{Polynomial, polynomials}
 use Rattle.reduction.specs.Slots.{Slots}
 use Rattle.reduction.specs.Span.{InSpan}
-use Rattle.reduction.specs.Division.{Division, quotient}
+use Rattle.reduction.specs.Division.{DivisionTrace, slotQuotient}
 use Rattle.reduction.specs.Holds.{Holds}
 use Rattle.reduction.specs.Flat.{Flat, flat}
 use Rattle.solve_lattice.specs.Room.{productWords, slotPlaces, lanes}
@@ -22,12 +22,12 @@ HoldsQuotient p prime l q = Holds (residues p prime) (λ e. words p prime l 0 pr
 
 module _ (p : ℕ) (prime : Prime p) (n : ℕ) (ω : ℕ → ℕ) where
   -- f divided by the slots U as far as it has come
-  pub record Divides (U : Slots (Polynomial (residues p prime))) (f : ℕ → Polynomial (residues p prime))
+  pub record DividedSoFar (U : Slots (Polynomial (residues p prime))) (f : ℕ → Polynomial (residues p prime))
       (block quotients : List ℕ) : Type 0 where
     pub rest : ℕ → Polynomial (residues p prime)
-    pub trace : Division (polynomials (residues p prime)) n U f rest
+    pub trace : DivisionTrace (polynomials (residues p prime)) n U f rest
     pub holds-rest : Flat (residues p prime) n lanes ω (words p prime block 0 productWords) rest
-    pub holds-quotient : (q : ℕ) → q < n → HoldsQuotient p prime quotients q (quotient (polynomials (residues p prime)) n U trace q)
+    pub holds-quotient : (q : ℕ) → q < n → HoldsQuotient p prime quotients q (slotQuotient (polynomials (residues p prime)) n U trace q)
 
   -- memory holds slots and a vector to divide
   pub record Dividend (L : Level) (block : List ℕ) : Type 0 where
@@ -38,11 +38,11 @@ module _ (p : ℕ) (prime : Prime p) (n : ℕ) (ω : ℕ → ℕ) where
 
 -- What is left of the block has so many words, none where the vector is in the span of the slots. It may be inserted into them as
 -- it is: its sums have room for all places of the slots and its own.
-pub record Divided (p : ℕ) (L : Level) (block block′ quotients : List ℕ) (left : ℕ) : Type 0 where
+pub record BlockDivided (p : ℕ) (L : Level) (block block′ quotients : List ℕ) (left : ℕ) : Type 0 where
   pub ends : Ends p block′ 0 productWords left
   pub sums : Sums p (slotPlaces + left) block′
   pub below : (i : ℕ) → getD quotients i 0 < p
   pub divides : (prime : Prime p) (n : ℕ) (ω : ℕ → ℕ) (f : Dividend p prime n ω L block)
-      → Divides p prime n ω (f .slots) (f .vector) block′ quotients
+      → DividedSoFar p prime n ω (f .slots) (f .vector) block′ quotients
   pub whole : (prime : Prime p) (n : ℕ) (ω : ℕ → ℕ) (f : Dividend p prime n ω L block)
       → InSpan (polynomials (residues p prime)) n n (f .slots) (f .vector) → left ≡ 0

@@ -13,7 +13,7 @@ ghost use Rattle.residue.specs.Modulus.{ValidModulus};
 ghost use Rattle.vector.specs.Bound.{AtMost};
 ghost use Rattle.solve_lattice.specs.Room.{lanes, productWords, mostPlaces};
 ghost use Rattle.solve_lattice.specs.Memory.{height, ValidLevel, ZeroFrom, Sums};
-ghost use Rattle.solve_lattice.specs.Quotients.{Divided};
+ghost use Rattle.solve_lattice.specs.Quotients.{BlockDivided};
 
 // Takes multiples of the slots of `level` off `block`, of at most n words, until nothing is left or the slot at the pivot is empty
 // or longer. Adds the factors to `quotients`, at the place of their degree in the lane of the slot's row. Returns how many words
@@ -29,7 +29,7 @@ pub fn divide(
     requires block { ⌜ (height n * lanes ≤ length (now block)) × (n ≤ productWords)
         × ZeroFrom (modulus .p) (now block) 0 productWords n × Sums (modulus .p) mostPlaces (now block) ⌝ }
     requires quotients { ⌜ (n ≤ length (now quotients)) × AtMost 0 (now quotients) ⌝ }
-    ensures { λ r. ⌜ Divided (modulus .p) (now (level .entry)) (now (block .entry)) (now (block .exit))
+    ensures { λ r. ⌜ BlockDivided (modulus .p) (now (level .entry)) (now (block .entry)) (now (block .exit))
         (now (quotients .exit)) r ⌝ }
 {
     let mut found = find_leading(block, n, modulus);

@@ -5,5 +5,5 @@
 pub struct Hand {
     pub size: usize,
     pub leading: u64,
-    pub tail: usize,
+    pub tail_size: usize,
 }

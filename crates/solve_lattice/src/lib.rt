@@ -13,6 +13,7 @@ pub use insertion::insert;
 pub use room::BLOCK;
 pub use room::Block;
 pub use room::COEFFICIENTS;
+pub use room::DEGREES;
 pub use room::INPUT;
 pub use room::INVERSES;
 pub use room::Input;

@@ -12,6 +12,7 @@ use crate::room::Tail;
 use crate::step::find_rest;
 use crate::step::take_multiple;
 use residue::modulus::Modulus;
+use residue::number::larger;
 use vector::Leading;
 use vector::add_scaled;
 use vector::exchange;
@@ -24,13 +25,6 @@ ghost use Rattle.vector.specs.Multiple.{sumAt};
 ghost use Rattle.vector.specs.Stored.{stored};
 ghost use Rattle.solve_lattice.specs.Memory.{memory, Valid};
 ghost use Rattle.solve_lattice.specs.Moves.{Fits, HasRoom, Stepped, Swapped};
-
-// Returns the larger of two numbers.
-pub fn larger(a: usize, b: usize) -> usize
-    ensures { λ r. ⌜ r ≡ max a b ⌝ }
-{
-    if a < b { b } else { a }
-}
 
 // Adds c times n words of s from a on to h from d on, by a call only where there are words: many slots have no tail.
 pub fn add_tail(h: &mut [u64], d: usize, s: &[u64], a: usize, n: usize, c: u64)
@@ -77,7 +71,7 @@ pub fn take_from_hand(
     Hand {
         size: rest.size,
         leading: rest.value,
-        tail: larger(hand.tail, shift + size),
+        tail_size: larger(hand.tail_size, shift + size),
     }
 }
 
@@ -101,7 +95,7 @@ pub fn swap_with_slot(
     let q = LAST_LANE - (k - 1) % LANES;
     let size = level[SIZES + q] as usize;
     let slot_tail = level[TAIL_SIZES + q] as usize;
-    let hand_tail = find_leading(tail, hand.tail, modulus).size;
+    let hand_tail = find_leading(tail, hand.tail_size, modulus).size;
     let words = larger(k, size);
     exchange(block, level, SLOT * q, words, modulus);
     let tail_words = larger(hand_tail, slot_tail);
@@ -113,6 +107,6 @@ pub fn swap_with_slot(
     Hand {
         size: found.size,
         leading: found.value,
-        tail: slot_tail,
+        tail_size: slot_tail,
     }
 }

@@ -8,32 +8,34 @@ use native.Mathlib.Omega.{arith}
 use native.Mathlib.Decide.{ℕ-discrete, decLt}
 use lib.ListN.{length, getD, length-append, List·getD-append}
 use lib.Seq.{getD-append-add}
+use Rattle.limits.specs.Counts.{systemPolynomials}
 use Rattle.words.specs.Limits.{office}
 use Rattle.words.specs.LimitsLaws.{office-fits}
-use Rattle.words.specs.System.{System, entry, rightSide, systemEntries}
-use Rattle.words.specs.SystemLaws.{entry-within, rightSide-within}
+use Rattle.words.specs.System.{System, entry, sideEntry, systemEntries}
+use Rattle.words.specs.SystemLaws.{entry-within, sideEntry-within}
 use Rattle.vector.specs.Bound.{AtMost}
-use Rattle.loader.specs.Slot.{Holds, Stands}
+use Rattle.loader.specs.Slot.{FramedForSlots, InSlots}
 use Rattle.loader.specs.SlotLaws.{slot-before, canonical-word}
 use Rattle.loader.specs.HoldLaws.{system-holds, system-count}
-use Rattle.solve_meaning.specs.Laid.{Laid}
-use Rattle.solve_lattice.specs.Room.{inputWords, blockWords}
+use Rattle.loader.specs.Widths.{systemWidth}
+use Rattle.solve_meaning.specs.Laid.{SystemLaid}
+use Rattle.solve_lattice.specs.Room.{inputWords, blockWords, lanes, blockDegrees, lastLane}
 use Rattle.solve_layout.specs.HasWords.{HasWords}
-use Rattle.solve_layout.specs.Column.{FitsSlot, place}
+use Rattle.solve_layout.specs.Column.{FitsSlot, columnPlace}
 use Rattle.solve_layout.specs.Matrix.{LaidOut, matrix-slot}
 
 module _ {s : System} {ws : List ℕ} {rows columns : ℕ} (H : HasWords s ws rows columns) where
-  pub few-rows : rows ≤ 8
-  few-rows = subst (λ n. n ≤ 8) (H .same-rows) (H .within .shape .rows .1)
+  pub few-rows : rows ≤ lanes
+  few-rows = subst (λ n. n ≤ lanes) (H .same-rows) (H .within .shape .rows .1)
 
-  pub few-columns : columns ≤ 8
-  few-columns = subst (λ n. n ≤ 8) (H .same-columns) (H .within .shape .columns .1)
+  pub few-columns : columns ≤ lanes
+  few-columns = subst (λ n. n ≤ lanes) (H .same-columns) (H .within .shape .columns .1)
 
   -- there are at most 72 polynomials
   pub few-entries : rows * columns ≤ 64
   few-entries = mul-le-mul few-rows few-columns
 
-  pub words-hold : Holds 17 ws (systemEntries s)
+  pub words-hold : FramedForSlots systemWidth ws (systemEntries s)
   words-hold = system-holds office office-fits ws s (H .words) (H .within)
 
   pub words-count : length (systemEntries s) ≡ rows * columns + rows
@@ -41,10 +43,11 @@ module _ {s : System} {ws : List ℕ} {rows columns : ℕ} (H : HasWords s ws ro
       system-count office office-fits ws s (H .words) (H .within)
       ∙ ap₂ (λ n m. n * m + n) (H .same-rows) (H .same-columns)
 
-  module _ (area : List ℕ) (room : length area ≡ 1224) (stands : Stands 17 area (systemEntries s)) where
+  module _ (area : List ℕ) (room : length area ≡ systemPolynomials * systemWidth)
+      (stands : InSlots systemWidth area (systemEntries s)) where
     pub loaded-fits : (k : ℕ) → k < rows * columns + rows → FitsSlot area k
     loaded-fits k lt = record {
-      room = omega (arith, slot-before 17 lt, few-entries, few-rows);
+      room = omega (arith, slot-before systemWidth lt, few-entries, few-rows);
       size = omega (arith, stands .sizes k (omega (arith, words-count)), words-hold .sizes k);
     }
 
@@ -56,41 +59,41 @@ module _ {s : System} {ws : List ℕ} {rows columns : ℕ} (H : HasWords s ws ro
       count : length (s .matrix) ≡ s .rows * s .columns
       count = H .within .matrix .count
 
-      matrix-is : (i j e : ℕ) → i < s .rows → j < s .columns → e < 16 → getD input′ (place j i e) 0 ≡ getD (entry s i j) e 0
+      matrix-is : (i j e : ℕ) → i < s .rows → j < s .columns → e < blockDegrees → getD input′ (columnPlace j i e) 0 ≡ getD (entry s i j) e 0
       matrix-is i j e row column small =
           let k : j + s .columns * i ≡ i * s .columns + j = omega arith in
           let inside : j + s .columns * i < length (s .matrix) =
           omega (arith, count, matrix-slot (s .rows) (s .columns) i j row column) in
           laid-out .matrix i j e row column small
           ∙ ap (λ f. getD f e 0)
-          (stands .slots (j + s .columns * i) (omega (arith, length-append (s .matrix) (s .right)))
-          ∙ List·getD-append (s .matrix) (s .right) [] (j + s .columns * i) inside
+          (stands .slots (j + s .columns * i) (omega (arith, length-append (s .matrix) (s .side)))
+          ∙ List·getD-append (s .matrix) (s .side) [] (j + s .columns * i) inside
           ∙ ap (λ n. getD (s .matrix) n []) k)
 
-      right-is : (i e : ℕ) → i < s .rows → e < 16 → getD input′ (place (s .columns) i e) 0 ≡ getD (rightSide s i) e 0
-      right-is i e row small =
+      side-is : (i e : ℕ) → i < s .rows → e < blockDegrees → getD input′ (columnPlace (s .columns) i e) 0 ≡ getD (sideEntry s i) e 0
+      side-is i e row small =
           let k : s .rows * s .columns + 1 * i ≡ length (s .matrix) + i = omega (arith, count) in
           let inside : s .rows * s .columns + 1 * i < length (systemEntries s) =
-          omega (arith, count, length-append (s .matrix) (s .right), H .within .right .count) in
-          laid-out .right i e row small
+          omega (arith, count, length-append (s .matrix) (s .side), H .within .side .count) in
+          laid-out .side i e row small
           ∙ ap (λ f. getD f e 0)
           (stands .slots (s .rows * s .columns + 1 * i) inside
           ∙ ap (λ n. getD (systemEntries s) n []) k
-          ∙ getD-append-add (s .matrix) (s .right) i [])
+          ∙ getD-append-add (s .matrix) (s .side) i [])
 
-      other-is : (j i e : ℕ) → getD input′ (place j i e) 0 ≡ getD input (place j i e) 0 → getD input′ (place j i e) 0 ≡ 0
-      other-is j i e same = omega (arith, clear (place j i e))
+      other-is : (j i e : ℕ) → getD input′ (columnPlace j i e) 0 ≡ getD input (columnPlace j i e) 0 → getD input′ (columnPlace j i e) 0 ≡ 0
+      other-is j i e same = omega (arith, clear (columnPlace j i e))
 
       positive : 0 < s .modulus
       positive = omega (arith, H .within .shape .prime .large)
 
-      below-at : (j i e : ℕ) → i < 8 → e < 16 → Dec (i < s .rows) → Dec (j < s .columns) → Dec (j ≡ s .columns)
-          → getD input′ (place j i e) 0 < s .modulus
+      below-at : (j i e : ℕ) → i < lanes → e < blockDegrees → Dec (i < s .rows) → Dec (j < s .columns) → Dec (j ≡ s .columns)
+          → getD input′ (columnPlace j i e) 0 < s .modulus
       below-at j i e row small (yes r) (yes c) d = subst (λ w. w < s .modulus) (sym (matrix-is i j e r c small))
           (canonical-word (s .modulus) positive (entry s i j) (entry-within office s (H .within) i j .canonical) e)
       below-at j i e row small (yes r) (no c) (yes d) = subst (λ w. w < s .modulus)
-          (sym (ap (λ k. getD input′ (place k i e) 0) d ∙ right-is i e r small))
-          (canonical-word (s .modulus) positive (rightSide s i) (rightSide-within office s (H .within) i .canonical) e)
+          (sym (ap (λ k. getD input′ (columnPlace k i e) 0) d ∙ side-is i e r small))
+          (canonical-word (s .modulus) positive (sideEntry s i) (sideEntry-within office s (H .within) i .canonical) e)
       below-at j i e row small (yes r) (no c) (no d) = subst (λ w. w < s .modulus)
           (sym (other-is j i e (laid-out .others j i e row small (inl (omega arith))))) positive
       below-at j i e row small (no r) c d = subst (λ w. w < s .modulus)
@@ -100,13 +103,13 @@ module _ {s : System} {ws : List ℕ} {rows columns : ℕ} (H : HasWords s ws ro
       below : (x : ℕ) → getD input′ x 0 < s .modulus
       below x =
           let j : ℕ = x / blockWords in
-          let i : ℕ = 7 - x % 8 in
-          let e : ℕ = x % blockWords / 8 in
-          let is : place (x / blockWords) (7 - x % 8) (x % blockWords / 8) ≡ x = omega arith in
+          let i : ℕ = lastLane - x % lanes in
+          let e : ℕ = x % blockWords / lanes in
+          let is : columnPlace (x / blockWords) (lastLane - x % lanes) (x % blockWords / lanes) ≡ x = omega arith in
           subst (λ y. getD input′ y 0 < s .modulus) is
           (below-at j i e (omega arith) (omega arith) (decLt i (s .rows)) (decLt j (s .columns)) (ℕ-discrete j (s .columns)))
 
-      pub system-laid : Laid s input′
+      pub system-laid : SystemLaid s input′
       system-laid = record {
         area = record {
           room = laid-out .same-length ∙ length-is;
@@ -114,5 +117,5 @@ module _ {s : System} {ws : List ℕ} {rows columns : ℕ} (H : HasWords s ws ro
           beside = λ i j e ge row column small. other-is j i e (laid-out .others j i e row small (inr ge));
         };
         matrix = matrix-is;
-        right = right-is;
+        side = side-is;
       }

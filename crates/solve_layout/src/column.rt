@@ -1,6 +1,7 @@
 // One column: a polynomial for each row, row i in lane 7 - i.
 use crate::lane::store_lane;
 use loader::coefficients_in;
+use loader::width::SYSTEM_WIDTH;
 use solve_lattice::BLOCK;
 use solve_lattice::Input;
 use solve_lattice::LANES;
@@ -9,9 +10,6 @@ ghost use Prim.Native.Nat.{ℕ, _+_, _*_, _<_, _≤_};
 ghost use lib.ListN.{length};
 ghost use Rattle.solve_lattice.specs.Room.{lanes, inputWords};
 ghost use Rattle.solve_layout.specs.Column.{FitsSlot, ColumnStored};
-
-// The width of a slot: a number of coefficients, and 16 of these.
-pub const WIDTH: usize = 17;
 
 // Stores column j: the polynomial of row i is in slot first + step i of `area`.
 pub fn store_column(
@@ -28,7 +26,7 @@ pub fn store_column(
 {
     let mut i = 0;
     while i < rows {
-        let f = coefficients_in(area, WIDTH, first + step * i);
+        let f = coefficients_in(area, SYSTEM_WIDTH, first + step * i);
         store_lane(input, BLOCK * j + (LANES - 1 - i), f);
         i += 1;
     }

@@ -1,7 +1,10 @@
 // One polynomial in one lane of a block of 16 degrees.
+use solve_lattice::DEGREES;
+use solve_lattice::LANES;
 ghost use mathlib.Core.Path.{_≡_};
 ghost use Prim.Native.Nat.{_+_, _<_};
 ghost use lib.ListN.{length, getD};
+ghost use Rattle.solve_lattice.specs.Room.{blockDegrees};
 ghost use Rattle.solve_lattice.specs.LaneStored.{lane};
 
 // Returns coefficient e of f, 0 behind its last.
@@ -14,11 +17,11 @@ pub fn coefficient(f: &[u64], e: usize) -> u64
 // Stores coefficient e of f at h[d + LANES * e] for each degree e of a block.
 pub fn store_lane(h: &mut [u64], d: usize, f: &[u64])
     requires { ⌜ d + 120 < length (now h) ⌝ }
-    ensures { λ _. ⌜ now (h .exit) ≡ lane (λ e. getD (now (f .entry)) e 0) (now (h .entry)) d 16 ⌝ }
+    ensures { λ _. ⌜ now (h .exit) ≡ lane (λ e. getD (now (f .entry)) e 0) (now (h .entry)) d blockDegrees ⌝ }
 {
     let mut e = 0;
-    while e < 16 {
-        h[d + 8 * e] = coefficient(f, e);
+    while e < DEGREES {
+        h[d + LANES * e] = coefficient(f, e);
         e += 1;
     }
 }

@@ -2,9 +2,10 @@
 pub mod column;
 pub mod lane;
 
-use column::WIDTH;
 use column::store_column;
+use limits::Office;
 use loader::load;
+use loader::width::SYSTEM_WIDTH;
 use solve_lattice::Input;
 ghost use mathlib.Core.Path.{_≡_};
 ghost use Prim.Native.Nat.{ℕ, _+_, _*_, _<_, _≤_};
@@ -12,7 +13,7 @@ ghost use lib.ListN.{length};
 ghost use Rattle.words.specs.System.{System};
 ghost use Rattle.vector.specs.Bound.{AtMost};
 ghost use Rattle.solve_lattice.specs.Room.{lanes, inputWords};
-ghost use Rattle.solve_meaning.specs.Laid.{Laid};
+ghost use Rattle.solve_meaning.specs.Laid.{SystemLaid};
 ghost use Rattle.solve_layout.specs.Column.{FitsSlot};
 ghost use Rattle.solve_layout.specs.Matrix.{LaidOut};
 ghost use Rattle.solve_layout.specs.HasWords.{HasWords};
@@ -36,9 +37,9 @@ fn lay_area(input: &mut Input, area: &[u64], rows: usize, columns: usize)
 pub fn lay_system(input: &mut Input, words: &[u32], rows: usize, columns: usize)
     requires { ⌜ ((s : System) × HasWords s (now words) rows columns) ⌝ }
     requires area { ⌜ (length (now input) ≡ inputWords) × AtMost 0 (now input) ⌝ }
-    ensures { λ _. ⌜ ((s : System) → HasWords s (now (words .entry)) rows columns → Laid s (now (input .exit))) ⌝ }
+    ensures { λ _. ⌜ ((s : System) → HasWords s (now (words .entry)) rows columns → SystemLaid s (now (input .exit))) ⌝ }
 {
-    let mut area = [0u64; 72 * WIDTH];
-    load(&mut area, WIDTH, words, rows * columns + rows);
+    let mut area = [0u64; Office::SYSTEM_POLYNOMIALS * SYSTEM_WIDTH];
+    load(&mut area, SYSTEM_WIDTH, words, rows * columns + rows);
     lay_area(input, &area, rows, columns);
 }

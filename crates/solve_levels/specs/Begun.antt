@@ -36,7 +36,7 @@ pub record ValidColumn (p : ℕ) (column : List ℕ) (size : ℕ) : Type 0 where
   pub sums : Sums p (slotPlaces + size) column
 
 abbrev pub begun : ℕ → List ℕ → ℕ → Hand
-begun p column size = record { size = size; leading = getD column (size - 1) 0 % p; tail = 1 }
+begun p column size = record { size = size; leading = getD column (size - 1) 0 % p; «tail_size» = 1 }
 
 module _ {p : ℕ} (prime₀ : Prime p) {column : List ℕ} {size : ℕ} (valid : ValidColumn p column size) (tail : List ℕ)
     (tail-length : length tail ≡ tailWords) (none : AtMost 0 tail) where

@@ -17,14 +17,14 @@ use Rattle.vector.specs.Stored.{stored, stored-inside, stored-outside, below-or
 use Rattle.vector.specs.Bound.{AtMost, at-most-stored}
 use Rattle.reduction.specs.Slots.{Slots, unweighted}
 use Rattle.reduction.specs.Span.{combined, InSpan}
-use Rattle.reduction.specs.Division.{quotient, quotient-empty, division-equal}
+use Rattle.reduction.specs.Division.{slotQuotient, quotient-empty, division-equal}
 use Rattle.reduction.specs.Flat.{Flat}
 use Rattle.solve_lattice.specs.Word.{residue, words, words-inside, words-behind}
 use Rattle.solve_lattice.specs.Memory.{Level, ZeroFrom, Ends, Sums}
 use Rattle.solve_lattice.specs.Holding.{HoldsSlots}
 use Rattle.solve_lattice.specs.Range.{words-zero, words-shorter, ends-most, ends-same}
 use Rattle.solve_lattice.specs.Reading.{flat-same}
-use Rattle.solve_lattice.specs.Quotients.{Divides, Dividend, Divided}
+use Rattle.solve_lattice.specs.Quotients.{DividedSoFar, Dividend, BlockDivided}
 use Rattle.solve_lattice.specs.Coefficients.{HoldsCoefficients}
 
 -- a vector is left of the column, which is in the span but for that
@@ -35,7 +35,7 @@ pub record HoldsLeft (p : ℕ) (prime : Prime p) (n : ℕ) (U : Slots (Polynomia
   pub coefficients : HoldsCoefficients p prime n U
       (λ k. polynomials (residues p prime) .add (column k) (polynomials (residues p prime) .neg (vector k))) factors
 
-pub record ColumnDivided (p : ℕ) (L : Level) (input : List ℕ) (at : ℕ) (rest factors : List ℕ) (left : ℕ) : Type 0 where
+pub record DividedByLevel (p : ℕ) (L : Level) (input : List ℕ) (at : ℕ) (rest factors : List ℕ) (left : ℕ) : Type 0 where
   pub room : length rest ≡ blockWords
   pub sums : Sums p (slotPlaces + left) rest
   pub factors-below : (i : ℕ) → getD factors i 0 < p
@@ -76,7 +76,7 @@ module _ (p : ℕ) (input : List ℕ) (at : ℕ) (zeros : List ℕ) (long : leng
 
   -- divided
   module _ (prime₀ : Prime p) {L : Level} {block₀ rest factors : List ℕ} {left : ℕ}
-      (copied : block₀ ≡ stored (λ i. getD input (at + i) 0) zeros 0 blockWords) (done : Divided p L block₀ rest factors left)
+      (copied : block₀ ≡ stored (λ i. getD input (at + i) 0) zeros 0 blockWords) (done : BlockDivided p L block₀ rest factors left)
       (room : length rest ≡ blockWords) where
     nothing : ZeroFrom p rest 0 productWords blockWords
     nothing j ge lt = ap (λ w. w % p) (List·getD-eq-default rest 0 (omega (arith, room))) ∙ zero-mod p
@@ -106,11 +106,11 @@ module _ (p : ℕ) (input : List ℕ) (at : ℕ) (zeros : List ℕ) (long : leng
       holds = flat-same (rest-words prime) (Q .holds-rest);
       coefficients = record {
         span = record {
-          coefficient = quotient R n U (Q .trace);
+          coefficient = slotQuotient R n U (Q .trace);
           empty = quotient-empty R n U (Q .trace);
-          equal = λ k h. combination R (R .add (column k) (R .neg (Q .rest k))) (combined R n (quotient R n U (Q .trace)) U k)
+          equal = λ k h. combination R (R .add (column k) (R .neg (Q .rest k))) (combined R n (slotQuotient R n U (Q .trace)) U k)
               (given (R .one) (division-equal R n U (Q .trace) k (omega arith)) ∷ [])
-              (identity R (column k ∷ Q .rest k ∷ combined R n (quotient R n U (Q .trace)) U k ∷ [])
+              (identity R (column k ∷ Q .rest k ∷ combined R n (slotQuotient R n U (Q .trace)) U k ∷ [])
               (λ ρ qc qr qs. search quotes depth 16) refl);
         };
         holds = Q .holds-quotient;
@@ -120,10 +120,10 @@ module _ (p : ℕ) (input : List ℕ) (at : ℕ) (zeros : List ℕ) (long : leng
         R : Ring (Polynomial (residues p prime))
         R = polynomials (residues p prime)
 
-        Q : Divides p prime n unweighted U column rest factors
+        Q : DividedSoFar p prime n unweighted U column rest factors
         Q = done .divides prime n unweighted (dividend prime n U column slots flat)
 
-    pub column-divided : ColumnDivided p L input at rest factors left
+    pub column-divided : DividedByLevel p L input at rest factors left
     unfolding dividend
     column-divided = record {
       room = room;

@@ -25,7 +25,7 @@ use Rattle.solve_lattice.specs.Reading.{holds-zero, holds-pivot}
 use Rattle.solve_lattice.specs.Lanes.{stateOf, stateOf-held}
 use Rattle.solve_lattice.specs.Insertion.{Inserts}
 use Rattle.solve_lattice.specs.Room.{blockWords, blockDegrees, lanes}
-use Rattle.solve_levels.specs.Settled.{Stopped, Settled}
+use Rattle.solve_levels.specs.Settled.{InsertionStopped, Settled}
 
 -- after a column a, memory holds slots and a kernel that are linked to U
 pub record Linked (p : ℕ) (prime : Prime p) (n δ : ℕ) (a : ℕ → Polynomial (residues p prime))
@@ -47,7 +47,8 @@ pub record AfterColumn (p : ℕ) (M : Memory) (L : Level) (kernel : List ℕ) (s
       → HoldsState p prime n unweighted M (begin (polynomials (residues p prime)) n U a d) → Linked p prime n δ a U L kernel
 
 -- L1: blocks stay within 16 degrees, so what an insertion leaves has room in a slot
-pub inserts-stopped : {p : ℕ} (prime : Prime p) {M M′ : Memory} → Valid p M → M .hand .size ≤ blockWords → Inserts p M M′ → Stopped p M′
+pub inserts-stopped : {p : ℕ} (prime : Prime p) {M M′ : Memory} → Valid p M → M .hand .size ≤ blockWords → Inserts p M M′
+    → InsertionStopped p M′
 inserts-stopped {p} prime {M} {M′} valid small done = record {
   stops = done .stops;
   block = omega (arith, under .hand, R .holds .size);

@@ -22,12 +22,12 @@ use Rattle.solve_lattice.specs.Moves.{HasRoom, Swapped}
 use Rattle.solve_lattice.specs.Range.{words-slot, ends-same}
 
 -- an insertion has stopped, and what it left has room
-pub record Stopped (p : ℕ) (M : Memory) : Type 0 where
+pub record InsertionStopped (p : ℕ) (M : Memory) : Type 0 where
   pub stops : 0 < M .hand .size → slotSize (M .level) (row (M .hand .size)) ≡ 0
   pub block : M .hand .size ≤ blockWords
   pub tail : ZeroFrom p (M .tail) 0 tailWords mostCoefficients
 
-pub stopped-room : {p : ℕ} {M : Memory} → Stopped p M → 0 < M .hand .size → HasRoom p M
+pub stopped-room : {p : ℕ} {M : Memory} → InsertionStopped p M → 0 < M .hand .size → HasRoom p M
 stopped-room stopped some = record { some = some; block = stopped .block; tail = stopped .tail }
 
 pub record Settled (p : ℕ) (M : Memory) (L : Level) (kernel : List ℕ) (size : ℕ) : Type 0 where
@@ -40,7 +40,7 @@ pub record Settled (p : ℕ) (M : Memory) (L : Level) (kernel : List ℕ) (size 
   pub vanished : M .hand .size ≡ 0
       → (L ≡ M .level) × ((prime : Prime p) (x : ℕ) → words p prime kernel 0 blockWords x ≡ words p prime (M .tail) 0 tailWords x)
 
-module _ {p : ℕ} (prime₀ : Prime p) {M : Memory} (valid : Valid p M) (stopped : Stopped p M) (kernel : List ℕ)
+module _ {p : ℕ} (prime₀ : Prime p) {M : Memory} (valid : Valid p M) (stopped : InsertionStopped p M) (kernel : List ℕ)
     (room : length kernel ≡ blockWords) where
   positive : 0 < p
   positive = let large = prime₀ .large in omega arith

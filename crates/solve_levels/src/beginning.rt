@@ -1,5 +1,6 @@
 // The hand at the beginning of an insertion: a column with tail 1.
 use residue::modulus::Modulus;
+use residue::number::minus;
 use solve_lattice::Block;
 use solve_lattice::Hand;
 use solve_lattice::Tail;
@@ -10,13 +11,6 @@ ghost use Rattle.residue.specs.Modulus.{ValidModulus};
 ghost use Rattle.vector.specs.Bound.{Reducible};
 ghost use Rattle.solve_lattice.specs.Room.{blockWords};
 ghost use Rattle.solve_levels.specs.Begun.{begun};
-
-// Returns the place of the last of `size` words; 0 where there is none.
-fn last_place(size: usize) -> usize
-    ensures { λ r. ⌜ r ≡ size - 1 ⌝ }
-{
-    if size == 0 { 0 } else { size - 1 }
-}
 
 // Makes the hand (column | 1): stores 1 in `tail`, which is 0. The first `size` words of `column` are those that count; it is the
 // hand's block as it stands. Returns what the hand is.
@@ -29,7 +23,7 @@ pub fn lay_hand(tail: &mut Tail, column: &Block, size: usize, modulus: Modulus) 
     tail[0] = 1;
     Hand {
         size,
-        leading: modulus.reduce(column[last_place(size)]),
-        tail: 1,
+        leading: modulus.reduce(column[minus(size, 1)]),
+        tail_size: 1,
     }
 }

@@ -12,7 +12,7 @@ ghost use Rattle.residue.specs.Modulus.{ValidModulus};
 ghost use Rattle.vector.specs.Bound.{AtMost};
 ghost use Rattle.solve_lattice.specs.Room.{blockWords, inputWords};
 ghost use Rattle.solve_lattice.specs.Memory.{ValidLevel};
-ghost use Rattle.solve_levels.specs.Column.{ColumnDivided};
+ghost use Rattle.solve_levels.specs.Column.{DividedByLevel};
 
 // Divides the block of `input` from `at` on by the slots of `level`. Stores what is left in `rest`, in sums that are not reduced,
 // and the quotients in `factors`, which are 0. Returns how many words are left.
@@ -27,7 +27,7 @@ pub fn divide_column(
     requires { ⌜ ValidModulus modulus × ValidLevel (modulus .p) (now level) ⌝ }
     requires column { ⌜ (at + blockWords ≤ inputWords) × ((i : ℕ) → getD (now input) i 0 < modulus .p) ⌝ }
     requires areas { ⌜ AtMost 0 (now rest) × AtMost 0 (now factors) ⌝ }
-    ensures { λ r. ⌜ ColumnDivided (modulus .p) (now (level .entry)) (now (input .entry)) at (now (rest .exit))
+    ensures { λ r. ⌜ DividedByLevel (modulus .p) (now (level .entry)) (now (input .entry)) at (now (rest .exit))
         (now (factors .exit)) r ⌝ }
 {
     copy(rest, 0, input, at, BLOCK);

@@ -11,7 +11,7 @@ use vector::exchange;
 use vector::find_leading;
 ghost use Rattle.residue.specs.Modulus.{ValidModulus};
 ghost use Rattle.solve_lattice.specs.Memory.{memory, Valid};
-ghost use Rattle.solve_levels.specs.Settled.{Stopped, Settled};
+ghost use Rattle.solve_levels.specs.Settled.{InsertionStopped, Settled};
 
 // Settles the hand: where it is stuck, it fills the slot at its pivot and the kernel is 0; where its block is zero, the kernel is
 // its tail. Returns the size of the kernel.
@@ -25,7 +25,7 @@ pub fn settle(
 ) -> usize
     requires { ⌜ ValidModulus modulus ⌝ }
     requires memory { ⌜ Valid (modulus .p) (memory (now level) (now block) (now tail) hand) ⌝ }
-    requires stopped { ⌜ Stopped (modulus .p) (memory (now level) (now block) (now tail) hand) ⌝ }
+    requires stopped { ⌜ InsertionStopped (modulus .p) (memory (now level) (now block) (now tail) hand) ⌝ }
     ensures { λ r. ⌜ Settled (modulus .p)
         (memory (now (level .entry)) (now (block .entry)) (now (tail .entry)) hand)
         (now (level .exit)) (now (kernel .exit)) r ⌝ }

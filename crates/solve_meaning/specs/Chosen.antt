@@ -13,9 +13,9 @@ use Rattle.algebra.specs.Monic.{Monic, monic-associates}
 use Rattle.modular.specs.Prime.{Prime}
 use Rattle.modular.specs.Residue.{Residue, residues}
 use Rattle.modular.specs.Values.{toNumbers, toResidues-is, toResidues-toNumbers}
-use Rattle.reduction.specs.System.{System as Equated}
+use Rattle.reduction.specs.System.{LinearSystem}
 use Rattle.reduction.specs.Polynomials.{euclidean}
-use Rattle.reduction.specs.Certificate.{RightSolution as RightSolutionIn}
+use Rattle.reduction.specs.Certificate.{RightSolutionIn}
 use Rattle.reduction.specs.Numerators.{ReducedNumerators, numerators-unique}
 use Rattle.reduction.specs.Certifying.{Certifying, certifying-unique}
 use Rattle.reduction.specs.Killing.{Killing, killing-at, killing-unique}
@@ -56,7 +56,7 @@ module _ (limits : Limits) (s : System) (h : SystemWithin limits s) where
   abbrev Q : Type 0
   Q = Polynomial (residues (s .modulus) (h .shape .prime))
 
-  abbrev T : Equated (sized (residues (s .modulus) (h .shape .prime)))
+  abbrev T : LinearSystem (sized (residues (s .modulus) (h .shape .prime)))
   T = equated limits s h
 
   abbrev list : Q → List ℕ
@@ -75,14 +75,14 @@ module _ (limits : Limits) (s : System) (h : SystemWithin limits s) where
     pub right : RightSolutionIn (euclidean (residues (s .modulus) (h .shape .prime))) (equated limits s h) D ν W ζ
     pub reduced : ReducedNumerators (sized (residues (s .modulus) (h .shape .prime))) (s .rows) (s .columns) (equated limits s h .matrix) ν
     pub certifying : Certifying (sized (residues (s .modulus) (h .shape .prime))) (s .rows) (s .columns) (equated limits s h .matrix)
-        (equated limits s h .right) D W ζ
+        (equated limits s h .side) D W ζ
 
   -- q is supported on the pivots of the span of A and on the one that b adds, where it is monic, and in lowest terms
   pub record ChosenAbsence (q : List (List ℕ)) : Type 0 where
     pub κ : ℕ → Polynomial (residues (s .modulus) (h .shape .prime))
     pub list-q : (i : ℕ) → i < s .rows → getD q i [] ≡ list (κ i)
     pub killing : Killing (sized (residues (s .modulus) (h .shape .prime))) (s .rows) (s .columns) (equated limits s h .matrix)
-        (equated limits s h .right) κ
+        (equated limits s h .side) κ
     pub monic : Monic (residues (s .modulus) (h .shape .prime)) (κ (killing .at))
 
   unfoldable pub Chosen : Certificate → Type 0
@@ -106,12 +106,12 @@ module _ (limits : Limits) (s : System) (h : SystemWithin limits s) where
 
     numerators-same : (j : ℕ) → j < s .columns → C .ν j ≡ C₁ .ν j
     numerators-same = numerators-unique (sized F) (s .rows) (s .columns) (T .matrix) (C .ν) (C₁ .ν)
-        (λ i k. C .right .solves i k ∙ ap (λ x. polynomials F .mul x (T .right i)) D-same ∙ sym (C₁ .right .solves i k))
+        (λ i k. C .right .solves i k ∙ ap (λ x. polynomials F .mul x (T .side i)) D-same ∙ sym (C₁ .right .solves i k))
         (C .reduced) (C₁ .reduced)
 
     certifying-same : (C .W ≡ C₁ .W) × ((i : ℕ) → i < s .rows → C .ζ i ≡ C₁ .ζ i)
-    certifying-same = certifying-unique (sized F) (s .rows) (s .columns) (T .matrix) (T .right) (C .certifying)
-        (subst (λ x. Certifying (sized F) (s .rows) (s .columns) (T .matrix) (T .right) x (C₁ .W) (C₁ .ζ)) (sym D-same) (C₁ .certifying))
+    certifying-same = certifying-unique (sized F) (s .rows) (s .columns) (T .matrix) (T .side) (C .certifying)
+        (subst (λ x. Certifying (sized F) (s .rows) (s .columns) (T .matrix) (T .side) x (C₁ .W) (C₁ .ζ)) (sym D-same) (C₁ .certifying))
         (monic-associates F (C .W) (C₁ .W) (C .right .certifying-monic) (C₁ .right .certifying-monic))
 
   pub solution-unique : {d d₁ w w₁ : List ℕ} {N N₁ Z Z₁ : List (List ℕ)} → ChosenSolution d N w Z → ChosenSolution d₁ N₁ w₁ Z₁ → d ≡ d₁
@@ -126,13 +126,13 @@ module _ (limits : Limits) (s : System) (h : SystemWithin limits s) where
   pub absence-unique : {q q₁ : List (List ℕ)} → ChosenAbsence q → ChosenAbsence q₁ → length q ≡ s .rows → length q₁ ≡ s .rows
       → absence q ≡ absence q₁
   absence-unique {q} {q₁} C C₁ a a₁ = ap absence (same-lists (s .rows) q q₁ (C .κ) (C₁ .κ) a a₁ (C .list-q) (C₁ .list-q)
-      (killing-unique (sized F) (s .rows) (s .columns) (T .matrix) (T .right) (C .killing) (C₁ .killing) (λ x y.
+      (killing-unique (sized F) (s .rows) (s .columns) (T .matrix) (T .side) (C .killing) (C₁ .killing) (λ x y.
       monic-associates F (C .κ (C .killing .at)) (C₁ .κ (C .killing .at)) (C .monic)
       (subst (λ i. Monic F (C₁ .κ i)) (sym at) (C₁ .monic)) x
       (subst (λ i. Divides (polynomials F) (C₁ .κ i) (C .κ i)) (sym at) y))))
     where
       at : C .killing .at ≡ C₁ .killing .at
-      at = killing-at (sized F) (s .rows) (s .columns) (T .matrix) (T .right) (C .killing) (C₁ .killing)
+      at = killing-at (sized F) (s .rows) (s .columns) (T .matrix) (T .side) (C .killing) (C₁ .killing)
 
   -- of two certificates, whatever their kinds
   pub chosen-unique : (c c₁ : Certificate) → CertificateWithin limits (shape s) c → CertificateWithin limits (shape s) c₁

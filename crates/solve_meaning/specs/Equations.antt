@@ -9,10 +9,10 @@ use Rattle.algebra.specs.Size.{size, sized}
 use Rattle.modular.specs.Prime.{Prime}
 use Rattle.modular.specs.Residue.{residues}
 use Rattle.modular.specs.Values.{toResidues, toResidues-list}
-use Rattle.reduction.specs.System.{System as Equated}
+use Rattle.reduction.specs.System.{LinearSystem}
 use Rattle.words.specs.Limits.{Limits, office}
-use Rattle.words.specs.System.{System, SystemWithin, entry, rightSide}
-use Rattle.words.specs.SystemLaws.{entry-within, rightSide-within}
+use Rattle.words.specs.System.{System, SystemWithin, entry, sideEntry}
+use Rattle.words.specs.SystemLaws.{entry-within, sideEntry-within}
 use Rattle.solve_lattice.specs.Input.{Equations}
 use Rattle.solve_meaning.specs.Lists.{listOf, list-length}
 
@@ -30,45 +30,45 @@ module _ (limits : Limits) (s : System) (h : SystemWithin limits s) where
   pub matrix : ℕ → ℕ → Polynomial (residues (s .modulus) (h .shape .prime))
   matrix i j = toResidues p prime (entry s i j, entry-within limits s h i j .canonical)
 
-  pub right : ℕ → Polynomial (residues (s .modulus) (h .shape .prime))
-  right i = toResidues p prime (rightSide s i, rightSide-within limits s h i .canonical)
+  pub side : ℕ → Polynomial (residues (s .modulus) (h .shape .prime))
+  side i = toResidues p prime (sideEntry s i, sideEntry-within limits s h i .canonical)
 
   -- their lists are the system's
   pub matrix-list : (i j : ℕ) → listOf (s .modulus) (h .shape .prime) (matrix i j) ≡ entry s i j
   unfolding matrix
   matrix-list i j = toResidues-list p prime (entry s i j, entry-within limits s h i j .canonical)
 
-  pub right-list : (i : ℕ) → listOf (s .modulus) (h .shape .prime) (right i) ≡ rightSide s i
-  unfolding right
-  right-list i = toResidues-list p prime (rightSide s i, rightSide-within limits s h i .canonical)
+  pub side-list : (i : ℕ) → listOf (s .modulus) (h .shape .prime) (side i) ≡ sideEntry s i
+  unfolding side
+  side-list i = toResidues-list p prime (sideEntry s i, sideEntry-within limits s h i .canonical)
 
   pub matrix-small : (i j : ℕ) → i < s .rows → j < s .columns
       → size (residues (s .modulus) (h .shape .prime)) (matrix i j) ≤ suc (systemDegree limits)
   matrix-small i j k l =
       omega (arith, list-length p prime (matrix i j), ap length (matrix-list i j), entry-within limits s h i j .size)
 
-  pub right-small : (i : ℕ) → i < s .rows
-      → size (residues (s .modulus) (h .shape .prime)) (right i) ≤ suc (systemDegree limits)
-  right-small i k = omega (arith, list-length p prime (right i), ap length (right-list i), rightSide-within limits s h i .size)
+  pub side-small : (i : ℕ) → i < s .rows
+      → size (residues (s .modulus) (h .shape .prime)) (side i) ≤ suc (systemDegree limits)
+  side-small i k = omega (arith, list-length p prime (side i), ap length (side-list i), sideEntry-within limits s h i .size)
 
   -- as `reduction` takes them
-  abbrev pub equated : Equated (sized (residues (s .modulus) (h .shape .prime)))
+  abbrev pub equated : LinearSystem (sized (residues (s .modulus) (h .shape .prime)))
   equated = record {
     rows = s .rows;
     columns = s .columns;
     degree = systemDegree limits;
     matrix = matrix;
-    right = right;
+    side = side;
     matrix-small = matrix-small;
-    right-small = right-small;
+    side-small = side-small;
   }
 
--- as the solver's contracts take them: there `equated` is `systemOf` by definition
+-- as the solver's contracts take them: there `equated` is `inputSystem` by definition
 module _ (s : System) (h : SystemWithin office s) where
-  abbrev pub equations : Equations (s .modulus) (h .shape .prime) (s .rows) (s .columns)
-  equations = record {
+  abbrev pub officeEquations : Equations (s .modulus) (h .shape .prime) (s .rows) (s .columns)
+  officeEquations = record {
     matrix = matrix office s h;
-    right = right office s h;
+    side = side office s h;
     matrix-small = matrix-small office s h;
-    right-small = right-small office s h;
+    side-small = side-small office s h;
   }

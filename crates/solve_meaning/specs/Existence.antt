@@ -10,7 +10,7 @@ use Rattle.algebra.specs.Polynomial.{Polynomial}
 use Rattle.algebra.specs.Size.{size, sized}
 use Rattle.modular.specs.Prime.{Prime}
 use Rattle.modular.specs.Residue.{residues}
-use Rattle.reduction.specs.System.{System as Equated}
+use Rattle.reduction.specs.System.{LinearSystem}
 use Rattle.reduction.specs.Euclidean.{Euclidean}
 use Rattle.reduction.specs.Polynomials.{euclidean}
 use Rattle.reduction.specs.Certificate.{small-solution-le, small-absence-le}
@@ -59,7 +59,7 @@ module _ (limits : Limits) (s : System) (h : SystemWithin limits s) where
   abbrev prime : Prime (s .modulus)
   prime = h .shape .prime
 
-  abbrev T : Equated (sized (residues (s .modulus) (h .shape .prime)))
+  abbrev T : LinearSystem (sized (residues (s .modulus) (h .shape .prime)))
   T = equated limits s h
 
   abbrev E : Euclidean (sized (residues (s .modulus) (h .shape .prime)))

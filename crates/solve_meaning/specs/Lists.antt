@@ -20,7 +20,7 @@ use Rattle.modular.specs.Modulo.{modulo}
 use Rattle.modular.specs.Canonical.{Canonical}
 use Rattle.modular.specs.Residue.{Residue, value, residues, value-homomorphism}
 use Rattle.modular.specs.Values.{canonical-values}
-use Rattle.truth.specs.Solution.{total, Divides, Monic}
+use Rattle.truth.specs.Solution.{totalModulo, DividesModulo, Monic}
 use Rattle.truth.specs.Listed.{total-ext}
 
 module _ (p : ℕ) (prime : Prime p) where
@@ -57,8 +57,8 @@ module _ (p : ℕ) (prime : Prime p) where
   unfolding polynomials
   list-mul x y = Transfer.map-mul h (x .0) (y .0)
 
-  pub list-sum : (n : ℕ) (f : ℕ → Polynomial F) → listOf (sum R n f) ≡ total p n (λ i. listOf (f i))
-  unfolding polynomials sum total
+  pub list-sum : (n : ℕ) (f : ℕ → Polynomial F) → listOf (sum R n f) ≡ totalModulo p n (λ i. listOf (f i))
+  unfolding polynomials sum totalModulo
   list-sum zero f = refl
   list-sum (suc n) f =
       Transfer.map-add h (sum R n f .0) (f n .0) ∙ ap (λ t. Coefficients.add (modulo p) t (listOf (f n))) (list-sum n f)
@@ -66,13 +66,13 @@ module _ (p : ℕ) (prime : Prime p) where
   -- a sum of products whose factors are given as lists
   pub list-products : (n : ℕ) (x y : ℕ → Polynomial F) (f g : ℕ → List ℕ)
       → ((i : ℕ) → i < n → f i ≡ listOf (x i)) → ((i : ℕ) → i < n → g i ≡ listOf (y i))
-      → total p n (λ i. Coefficients.mul (modulo p) (f i) (g i)) ≡ listOf (sum R n (λ i. R .mul (x i) (y i)))
+      → totalModulo p n (λ i. Coefficients.mul (modulo p) (f i) (g i)) ≡ listOf (sum R n (λ i. R .mul (x i) (y i)))
   list-products n x y f g ef eg =
       total-ext p n (λ i. Coefficients.mul (modulo p) (f i) (g i)) (λ i. listOf (R .mul (x i) (y i)))
       (λ i l. ap₂ (Coefficients.mul (modulo p)) (ef i l) (eg i l) ∙ sym (list-mul (x i) (y i)))
       ∙ sym (list-sum n (λ i. R .mul (x i) (y i)))
 
-  pub list-divides : {d x : Polynomial F} → DividesIn R d x → Divides p (listOf d) (listOf x)
+  pub list-divides : {d x : Polynomial F} → DividesIn R d x → DividesModulo p (listOf d) (listOf x)
   list-divides {d} {x} w = record {
     quotient = listOf (w .cofactor);
     canonical = list-canonical (w .cofactor);

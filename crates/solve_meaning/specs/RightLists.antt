@@ -18,16 +18,16 @@ use Rattle.algebra.specs.Gcd.{gcd, gcd-unique}
 use Rattle.modular.specs.Prime.{Prime}
 use Rattle.modular.specs.Modulo.{modulo}
 use Rattle.modular.specs.Residue.{Residue, residues}
-use Rattle.reduction.specs.System.{System as Equated}
+use Rattle.reduction.specs.System.{LinearSystem}
 use Rattle.reduction.specs.Polynomials.{euclidean}
-use Rattle.reduction.specs.Certificate.{RightSolution as RightSolutionIn, RightAbsence as RightAbsenceIn}
+use Rattle.reduction.specs.Certificate.{RightSolutionIn, RightAbsenceIn}
 use Rattle.words.specs.Limits.{Limits}
-use Rattle.words.specs.System.{System, SystemWithin, entry, rightSide}
-use Rattle.truth.specs.Solution.{Divides, Monic, rowOf, columnOf, sideOf}
+use Rattle.words.specs.System.{System, SystemWithin, entry, sideEntry}
+use Rattle.truth.specs.Solution.{DividesModulo, Monic, rowOf, columnOf, sideOf}
 use Rattle.truth.specs.Right.{RightSolution, RightAbsence, certified}
 use Rattle.solve_meaning.specs.Lists
 use Rattle.solve_meaning.specs.Lists.{listOf}
-use Rattle.solve_meaning.specs.Equations.{equated, matrix-list, right-list}
+use Rattle.solve_meaning.specs.Equations.{equated, matrix-list, side-list}
 
 -- w = d·g with g the monic greatest common divisor of w and b: document 01's way to d, on lists
 module _ (p : ℕ) (prime : Prime p) (d w b g : Polynomial (residues p prime)) where
@@ -57,7 +57,7 @@ module _ (limits : Limits) (s : System) (h : SystemWithin limits s) where
   abbrev R : Ring (Polynomial (residues (s .modulus) (h .shape .prime)))
   R = polynomials (residues (s .modulus) (h .shape .prime))
 
-  abbrev T : Equated (sized (residues (s .modulus) (h .shape .prime)))
+  abbrev T : LinearSystem (sized (residues (s .modulus) (h .shape .prime)))
   T = equated limits s h
 
   abbrev list : Polynomial (residues (s .modulus) (h .shape .prime)) → List ℕ
@@ -77,10 +77,10 @@ module _ (limits : Limits) (s : System) (h : SystemWithin limits s) where
       column-is j = Lists.list-products p prime (s .rows) x (λ i. T .matrix i j) (λ i. getD fs i []) (λ i. entry s i j)
           e (λ i l. sym (matrix-list limits s h i j))
 
-      side-is : sideOf s fs ≡ list (sum R (s .rows) (λ i. R .mul (x i) (T .right i)))
+      side-is : sideOf s fs ≡ list (sum R (s .rows) (λ i. R .mul (x i) (T .side i)))
       unfolding sideOf
-      side-is = Lists.list-products p prime (s .rows) x (T .right) (λ i. getD fs i []) (rightSide s)
-          e (λ i l. sym (right-list limits s h i))
+      side-is = Lists.list-products p prime (s .rows) x (T .side) (λ i. getD fs i []) (sideEntry s)
+          e (λ i l. sym (side-list limits s h i))
 
   -- the lists of a right solution are a right solution
   module _
@@ -89,23 +89,23 @@ module _ (limits : Limits) (s : System) (h : SystemWithin limits s) where
       (C : RightSolutionIn (euclidean (residues (s .modulus) (h .shape .prime))) T D ν W ζ)
       (d w : List ℕ) (N Z : List (List ℕ)) (ed : d ≡ list D) (ew : w ≡ list W)
       (eN : (j : ℕ) → j < s .columns → getD N j [] ≡ list (ν j)) (eZ : (i : ℕ) → i < s .rows → getD Z i [] ≡ list (ζ i)) where
-    row-solved : (i : ℕ) → i < s .rows → rowOf s N i ≡ Coefficients.mul (modulo p) d (rightSide s i)
+    row-solved : (i : ℕ) → i < s .rows → rowOf s N i ≡ Coefficients.mul (modulo p) d (sideEntry s i)
     row-solved i k =
         row-is ν N eN i
         ∙ ap list (C .solves i k)
-        ∙ Lists.list-mul p prime D (T .right i)
-        ∙ ap₂ (Coefficients.mul (modulo p)) (sym ed) (right-list limits s h i)
+        ∙ Lists.list-mul p prime D (T .side i)
+        ∙ ap₂ (Coefficients.mul (modulo p)) (sym ed) (side-list limits s h i)
 
-    column-divided : (j : ℕ) → j < s .columns → Divides p w (columnOf s Z j)
-    column-divided j k = subst (λ f. Divides p f (columnOf s Z j)) (sym ew)
-        (subst (Divides p (list W)) (sym (column-is ζ Z eZ j)) (Lists.list-divides p prime (C .divides j k)))
+    column-divided : (j : ℕ) → j < s .columns → DividesModulo p w (columnOf s Z j)
+    column-divided j k = subst (λ f. DividesModulo p f (columnOf s Z j)) (sym ew)
+        (subst (DividesModulo p (list W)) (sym (column-is ζ Z eZ j)) (Lists.list-divides p prime (C .divides j k)))
 
     denominator-is : certified s w Z ≡ d
     unfolding certified
     denominator-is =
         ap₂ (λ f b. Coefficients.monic (modulo p) (Coefficients.quotient (modulo p) f (Coefficients.gcd (modulo p) f b)))
         ew (side-is ζ Z eZ)
-        ∙ certified-is p prime D W (sum R (s .rows) (λ i. R .mul (ζ i) (T .right i))) (C .divisor)
+        ∙ certified-is p prime D W (sum R (s .rows) (λ i. R .mul (ζ i) (T .side i))) (C .divisor)
         (C .monic) (C .divisor-monic) (C .divisor-greatest) (C .quotient)
         ∙ sym ed
 

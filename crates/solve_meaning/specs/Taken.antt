@@ -2,7 +2,7 @@
 -- from the word 128·k on.
 use Prim.Native.Nat.{ℕ, zero, suc, _+_, _*_}
 use mathlib.Core.List.{List, [], _∷_}
-use Rattle.solve_lattice.specs.Room.{blockWords}
+use Rattle.solve_lattice.specs.Room.{blockWords, mostCoefficients}
 use Rattle.vector.specs.Reduced.{polynomial}
 use Rattle.words.specs.System.{Shape}
 use Rattle.words.specs.Certificate.{Certificate, Form}
@@ -11,7 +11,7 @@ use Rattle.words.specs.Certificate.Form.{solving, absent}
 
 -- polynomial k
 abbrev pub takenPolynomial : ℕ → List ℕ → ℕ → List ℕ
-takenPolynomial p output k = polynomial p output (blockWords * k) 121
+takenPolynomial p output k = polynomial p output (blockWords * k) mostCoefficients
 
 -- so many polynomials from number k on
 unfoldable pub takenPolynomials : ℕ → List ℕ → ℕ → ℕ → List (List ℕ)

@@ -6,7 +6,7 @@ use native.Mathlib.Nat.{zero-add}
 use Rattle.algebra.specs.Size.{sized}
 use Rattle.modular.specs.Prime.{Prime}
 use Rattle.modular.specs.Residue.{residues}
-use Rattle.reduction.specs.System.{System as Equated}
+use Rattle.reduction.specs.System.{LinearSystem}
 use Rattle.reduction.specs.Certifying.{Certifying}
 use Rattle.words.specs.Limits.{Limits}
 use Rattle.words.specs.System.{System, SystemWithin}
@@ -23,12 +23,12 @@ module _ (limits : Limits) (s : System) (h : SystemWithin limits s) (output : Li
   abbrev prime : Prime (s .modulus)
   prime = h .shape .prime
 
-  abbrev T : Equated (sized (residues (s .modulus) (h .shape .prime)))
+  abbrev T : LinearSystem (sized (residues (s .modulus) (h .shape .prime)))
   T = equated limits s h
 
   -- with what route A2 adds to the area
   pub solution-chosen : (H : HoldsSolution (s .modulus) (h .shape .prime) T output)
-      → Certifying (sized (residues (s .modulus) (h .shape .prime))) (s .rows) (s .columns) (T .matrix) (T .right) (H .d) (H .w) (H .Z)
+      → Certifying (sized (residues (s .modulus) (h .shape .prime))) (s .rows) (s .columns) (T .matrix) (T .side) (H .d) (H .w) (H .Z)
       → ChosenSolution limits s h (takenPolynomial (s .modulus) output 0) (takenPolynomials (s .modulus) output 1 (s .columns))
       (takenPolynomial (s .modulus) output (1 + s .columns)) (takenPolynomials (s .modulus) output (2 + s .columns) (s .rows))
   solution-chosen H certifying = record {

@@ -24,7 +24,7 @@ use Rattle.words.specs.System.{Shape}
 use Rattle.words.specs.Certificate.{CertificateWithin, Form}
 use Rattle.words.specs.Certificate.Form.{solving, absent}
 use Rattle.solve_lattice.specs.Output.{HoldsAt}
-use Rattle.solve_lattice.specs.Room.{blockWords}
+use Rattle.solve_lattice.specs.Room.{blockWords, mostCoefficients}
 use Rattle.solve_meaning.specs.Lists.{listOf, list-canonical, list-length, list-coefficient}
 use Rattle.solve_meaning.specs.Taken.{takenPolynomial, takenPolynomials, takenCertificate}
 
@@ -39,14 +39,14 @@ taken-at p output k (suc count) (suc j) h =
     taken-at p output (k + 1) count j (omega arith) ∙ ap (takenPolynomial p output) place
 
 module _ (p : ℕ) (positive : 0 < p) (output : List ℕ) where
-  pub polynomial-within : (k : ℕ) → Within p 121 (takenPolynomial p output k)
+  pub polynomial-within : (k : ℕ) → Within p mostCoefficients (takenPolynomial p output k)
   polynomial-within k = record {
     canonical = canonical-reduced p positive _;
-    size = length-bound p _ 121 (canonical-reduced p positive _) (λ i h.
-        coefficient-reduced p positive _ i ∙ residue-same p (word-behind output (blockWords * k) 121 i h) ∙ zero-mod p);
+    size = length-bound p _ mostCoefficients (canonical-reduced p positive _) (λ i h.
+        coefficient-reduced p positive _ i ∙ residue-same p (word-behind output (blockWords * k) mostCoefficients i h) ∙ zero-mod p);
   }
 
-  all-taken : (k count : ℕ) → AllWithin p 121 (takenPolynomials p output k count)
+  all-taken : (k count : ℕ) → AllWithin p mostCoefficients (takenPolynomials p output k count)
   unfolding takenPolynomials AllWithin
   all-taken k zero = tt
   all-taken k (suc count) = (polynomial-within k, all-taken (k + 1) count)
@@ -56,7 +56,7 @@ module _ (p : ℕ) (positive : 0 < p) (output : List ℕ) where
   taken-count k zero = refl
   taken-count k (suc count) = ap suc (taken-count (k + 1) count)
 
-  vector-taken : (k count : ℕ) → VectorWithin p 121 count (takenPolynomials p output k count)
+  vector-taken : (k count : ℕ) → VectorWithin p mostCoefficients count (takenPolynomials p output k count)
   vector-taken k count = record { entries = all-taken k count; count = taken-count k count }
 
 -- degrees are at most 120, since no more words are looked at
@@ -76,25 +76,25 @@ module _ (p : ℕ) (prime : Prime p) (output : List ℕ) where
   F = residues p prime
 
   -- a polynomial that the area holds is the one taken from there
-  module _ (k : ℕ) (x : Polynomial (residues p prime)) (holds : HoldsAt p prime output k x) (small : size F x ≤ 121) where
-    word-at : (n : ℕ) → Dec (n < 121)
-        → getD (take 121 (drop (blockWords * k) output)) n 0 % p ≡ coefficient (modulo p) (listOf p prime x) n
+  module _ (k : ℕ) (x : Polynomial (residues p prime)) (holds : HoldsAt p prime output k x) (small : size F x ≤ mostCoefficients) where
+    word-at : (n : ℕ) → Dec (n < mostCoefficients)
+        → getD (take mostCoefficients (drop (blockWords * k) output)) n 0 % p ≡ coefficient (modulo p) (listOf p prime x) n
     unfolding reduce
     word-at n (yes h) =
-        residue-same p (word-inside output (blockWords * k) 121 n h)
+        residue-same p (word-inside output (blockWords * k) mostCoefficients n h)
         ∙ sym (list-coefficient p prime x n
         ∙ ap (λ r. r .value) (holds .at n ∙ words-inside p prime output (blockWords * k) blockWords n (omega arith)))
     word-at n (no h) =
-        residue-same p (word-behind output (blockWords * k) 121 n (omega arith))
+        residue-same p (word-behind output (blockWords * k) mostCoefficients n (omega arith))
         ∙ zero-mod p
         ∙ sym (coefficient-beyond p (listOf p prime x) n (omega (arith, list-length p prime x)))
 
     pub taken-list : takenPolynomial p output k ≡ listOf p prime x
     taken-list =
-        reduced-is p (prime-positive p prime) _ (listOf p prime x) (list-canonical p prime x) (λ n. word-at n (decLt n 121))
+        reduced-is p (prime-positive p prime) _ (listOf p prime x) (list-canonical p prime x) (λ n. word-at n (decLt n mostCoefficients))
 
   -- several of them, polynomial k and those behind it
   pub taken-lists : (k count : ℕ) (x : ℕ → Polynomial F)
-      → ((j : ℕ) → j < count → HoldsAt p prime output (k + j) (x j)) → ((j : ℕ) → j < count → size F (x j) ≤ 121)
+      → ((j : ℕ) → j < count → HoldsAt p prime output (k + j) (x j)) → ((j : ℕ) → j < count → size F (x j) ≤ mostCoefficients)
       → (j : ℕ) → j < count → getD (takenPolynomials p output k count) j [] ≡ listOf p prime (x j)
   taken-lists k count x holds small j h = taken-at p output k count j h ∙ taken-list (k + j) (x j) (holds j h) (small j h)

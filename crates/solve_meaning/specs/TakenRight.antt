@@ -8,10 +8,10 @@ use Rattle.algebra.specs.Size.{sized}
 use Rattle.modular.specs.Prime.{Prime}
 use Rattle.modular.specs.Primality.{prime-positive}
 use Rattle.modular.specs.Residue.{residues}
-use Rattle.reduction.specs.System.{System as Equated}
+use Rattle.reduction.specs.System.{LinearSystem}
 use Rattle.words.specs.Limits.{Limits, office}
 use Rattle.words.specs.System.{System, SystemWithin, shape}
-use Rattle.words.specs.Certificate.{CertificateWithin, Form, formOf}
+use Rattle.words.specs.Certificate.{CertificateWithin, Form, formWhen}
 use Rattle.truth.specs.Right.{Right}
 use Rattle.solve_lattice.specs.Output.{HoldsAt, HoldsCertificate}
 use Rattle.solve_meaning.specs.Equations.{equated}
@@ -26,12 +26,12 @@ module _ (limits : Limits) (s : System) (h : SystemWithin limits s) (output : Li
   abbrev prime : Prime (s .modulus)
   prime = h .shape .prime
 
-  abbrev T : Equated (sized (residues (s .modulus) (h .shape .prime)))
+  abbrev T : LinearSystem (sized (residues (s .modulus) (h .shape .prime)))
   T = equated limits s h
 
   pub taken-right : (solved : Bool) → HoldsCertificate (s .modulus) (h .shape .prime) T output solved
-      → Right s (takenCertificate (shape s) (formOf solved) output)
-  unfolding HoldsCertificate takenCertificate formOf Right
+      → Right s (takenCertificate (shape s) (formWhen solved) output)
+  unfolding HoldsCertificate takenCertificate formWhen Right
   taken-right true H = solution-right limits s h (H .right) _ _ _ _
       (taken-list p prime output 0 (H .d) (H .holds-d) (H .small .denominator))
       (taken-list p prime output (1 + s .columns) (H .w) (H .holds-w) (H .small .certifying-denominator))

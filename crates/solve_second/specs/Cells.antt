@@ -13,8 +13,8 @@ use Rattle.solve_second.specs.Greatest.{greatest}
 use Rattle.solve_second.specs.Words.{reversed, lift, transposedSize, blockWord, tailWord}
 use Rattle.solve_second.specs.Words.{transposedWord, transposed-beyond, transposed-beside}
 use Rattle.solve_second.specs.Words.{transposed-tail, transposed-low, transposed-value}
-use Rattle.solve_second.specs.Laid.{SlotsLaid, Laid}
-use Rattle.solve_second.specs.Words.{rightWord, right-beside, right-empty, right-low, right-far, right-value}
+use Rattle.solve_second.specs.Laid.{SlotsLaid, SecondLaid}
+use Rattle.solve_second.specs.Words.{sideWord, side-beside, side-empty, side-low, side-far, side-value}
 
 -- the weight of coordinate i, by the size of the slot that it comes from
 abbrev pub weight : (L : Level) (n i : ℕ) → ℕ
@@ -110,64 +110,64 @@ module _ (L : Level) (n : ℕ) where
       ∙ cell-behind laid k (blockWords + j) h (omega arith) (omega arith)
 
   -- coordinate i, degree e of the right side
-  module _ {T : Level} {b : List ℕ} (laid : Laid n L T b) (i e : ℕ) (lane : i < lanes) (degree : e < productDegrees) where
+  module _ {T : Level} {b : List ℕ} (laid : SecondLaid n L T b) (i e : ℕ) (lane : i < lanes) (degree : e < productDegrees) where
     abbrev y : ℕ
     y = flat lanes i e
 
-    right-lane : lastLane - y % lanes ≡ i
-    right-lane = omega arith
+    side-lane : lastLane - y % lanes ≡ i
+    side-lane = omega arith
 
-    right-degree : y / lanes ≡ e
-    right-degree = omega arith
+    side-degree : y / lanes ≡ e
+    side-degree = omega arith
 
-    right-stored : getD b (flat lanes i e) 0 ≡ rightWord L n y
-    right-stored = laid .right y (omega arith)
+    side-stored : getD b (flat lanes i e) 0 ≡ sideWord L n y
+    side-stored = laid .side y (omega arith)
 
     slot-at : slotSize L (reversed n (lastLane - y % lanes)) ≡ slotSize L (back n i)
-    slot-at = ap (λ j. slotSize L (reversed n j)) right-lane ∙ ap (λ q. slotSize L q) (same i)
+    slot-at = ap (λ j. slotSize L (reversed n j)) side-lane ∙ ap (λ q. slotSize L q) (same i)
 
     weight-at : lift L n (lastLane - y % lanes) ≡ weight L n i
-    weight-at = ap (lift L n) right-lane ∙ lift-weight i
+    weight-at = ap (lift L n) side-lane ∙ lift-weight i
 
-    pub right-cell-beside : n ≤ i → getD b (flat lanes i e) 0 ≡ 0
-    right-cell-beside out = right-stored ∙ right-beside L n y (λ (g : lastLane - y % lanes < n). omega (arith, right-lane))
+    pub side-cell-beside : n ≤ i → getD b (flat lanes i e) 0 ≡ 0
+    side-cell-beside out = side-stored ∙ side-beside L n y (λ (g : lastLane - y % lanes < n). omega (arith, side-lane))
 
     module _ (l : i < n) where
       inside : lastLane - y % lanes < n
-      inside = omega (arith, right-lane)
+      inside = omega (arith, side-lane)
 
-      pub right-cell-empty : slotSize L (back n i) ≡ 0 → getD b (flat lanes i e) 0 ≡ 0
-      right-cell-empty none = right-stored
-          ∙ right-empty L n y inside (λ (g : 0 < slotSize L (reversed n (lastLane - y % lanes))). omega (arith, slot-at))
+      pub side-cell-empty : slotSize L (back n i) ≡ 0 → getD b (flat lanes i e) 0 ≡ 0
+      side-cell-empty none = side-stored
+          ∙ side-empty L n y inside (λ (g : 0 < slotSize L (reversed n (lastLane - y % lanes))). omega (arith, slot-at))
 
       module _ (some : 0 < slotSize L (back n i)) where
         filled : 0 < slotSize L (reversed n (lastLane - y % lanes))
         filled = omega (arith, slot-at)
 
-        pub right-cell-low : e < weight L n i → getD b (flat lanes i e) 0 ≡ 0
-        right-cell-low low = right-stored
-            ∙ right-low L n y inside filled
+        pub side-cell-low : e < weight L n i → getD b (flat lanes i e) 0 ≡ 0
+        side-cell-low low = side-stored
+            ∙ side-low L n y inside filled
             (λ (g : lift L n (lastLane - y % lanes) ≤ y / lanes).
-            let g′ : weight L n i ≤ e = subst₂ (λ a b. a ≤ b) weight-at right-degree g in
+            let g′ : weight L n i ≤ e = subst₂ (λ a b. a ≤ b) weight-at side-degree g in
             omega arith)
 
         module _ (here : weight L n i ≤ e) where
           from : lift L n (lastLane - y % lanes) ≤ y / lanes
-          from = subst₂ (λ a b. a ≤ b) (sym weight-at) (sym right-degree) here
+          from = subst₂ (λ a b. a ≤ b) (sym weight-at) (sym side-degree) here
 
-          pub right-cell-far : blockWords ≤ e - weight L n i → getD b (flat lanes i e) 0 ≡ 0
-          right-cell-far far = right-stored
-              ∙ right-far L n y inside filled from
+          pub side-cell-far : blockWords ≤ e - weight L n i → getD b (flat lanes i e) 0 ≡ 0
+          side-cell-far far = side-stored
+              ∙ side-far L n y inside filled from
               (λ (g : y / lanes - lift L n (lastLane - y % lanes) < blockWords).
-              let g′ : e - weight L n i < blockWords = subst₂ (λ a b. b - a < blockWords) weight-at right-degree g in
+              let g′ : e - weight L n i < blockWords = subst₂ (λ a b. b - a < blockWords) weight-at side-degree g in
               omega arith)
 
-          pub right-cell-value : e - weight L n i < blockWords → getD b (flat lanes i e) 0
+          pub side-cell-value : e - weight L n i < blockWords → getD b (flat lanes i e) 0
               ≡ getD L (slotWords * back n i + blockWords + (e - weight L n i)) 0
-          right-cell-value near =
-              right-stored
-              ∙ right-value L n y inside filled from
-              (subst₂ (λ a b. b - a < blockWords) (sym weight-at) (sym right-degree) near)
-              ∙ ap (λ q. tailWord L q (y / lanes - lift L n (lastLane - y % lanes))) (ap (reversed n) right-lane ∙ same i)
+          side-cell-value near =
+              side-stored
+              ∙ side-value L n y inside filled from
+              (subst₂ (λ a b. b - a < blockWords) (sym weight-at) (sym side-degree) near)
+              ∙ ap (λ q. tailWord L q (y / lanes - lift L n (lastLane - y % lanes))) (ap (reversed n) side-lane ∙ same i)
               ∙ ap (λ a. tailWord L (back n i) (y / lanes - a)) weight-at
-              ∙ ap (λ b. tailWord L (back n i) (b - weight L n i)) right-degree
+              ∙ ap (λ b. tailWord L (back n i) (b - weight L n i)) side-degree

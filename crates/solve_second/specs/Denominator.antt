@@ -25,8 +25,8 @@ use Rattle.solve_lattice.specs.Insertion.{Inserts}
 use Rattle.solve_lattice.specs.Room.{productWords, blockWords, lanes}
 use Rattle.solve_second.specs.Monic.{MadeMonic}
 use Rattle.solve_second.specs.Greatest.{greatest}
-use Rattle.solve_second.specs.RightInserted.{InsertedRight, RightInserted, right-inserted}
-use Rattle.solve_second.specs.Laid.{Laid, startingMemory}
+use Rattle.solve_second.specs.SideInserted.{InsertedSide, SideInserted, second-side-inserted}
+use Rattle.solve_second.specs.Laid.{SecondLaid, startingMemory}
 
 -- w, of so many coefficients, is the tail with which an insertion that begins with memory M ends, made monic
 pub record TailFound (p : ℕ) (M : Memory) (w : List ℕ) (count : ℕ) : Type 0 where
@@ -38,7 +38,7 @@ pub record TailFound (p : ℕ) (M : Memory) (w : List ℕ) (count : ℕ) : Type 
 pub record FoundDenominator (p : ℕ) (prime : Prime p) (n D : ℕ) (U : Slots (Polynomial (residues p prime))) (w : List ℕ) : Type 0
   where
     pub memory : Memory
-    pub inserted : InsertedRight p prime n D U memory
+    pub inserted : InsertedSide p prime n D U memory
     pub some : 0 < size (residues p prime) (inserted .run .now .hand n)
     pub holds : Holds (residues p prime) (words p prime w 0 blockWords)
         (polynomials (residues p prime) .mul (associate (residues p prime) (inserted .run .now .hand n) some .unit)
@@ -56,7 +56,7 @@ pub record DenominatorFound (p n : ℕ) (L : Level) (w : List ℕ) (count : ℕ)
 pub tail-reducible : {p : ℕ} {M : Memory} → Valid p M → Sums p 0 (M .tail)
 tail-reducible {p} {M} valid = sums-fewer p (M .tail) (places M) 0 (omega arith) (valid .hand .tail-sums)
 
-denominator-found : {p n : ℕ} {L : Level} {M : Memory} {w : List ℕ} {count : ℕ} → RightInserted p n L M
+denominator-found : {p n : ℕ} {L : Level} {M : Memory} {w : List ℕ} {count : ℕ} → SideInserted p n L M
     → MadeMonic p (M .tail) w count → DenominatorFound p n L w count
 denominator-found {p} {n} {L} {M} {w} {count} done made = record {
   room = made .room;
@@ -69,8 +69,9 @@ denominator-found {p} {n} {L} {M} {w} {count} done made = record {
 }
 
 -- w, where the second system is laid out and its right side inserted
-pub laid-denominator : (p : ℕ) → Prime p → {n : ℕ} → n ≤ lanes → {L : Level} → ValidLevel p L → {T : Level} {b : List ℕ} → Laid n L T b
+pub laid-denominator : (p : ℕ) → Prime p → {n : ℕ} → n ≤ lanes → {L : Level} → ValidLevel p L → {T : Level} {b : List ℕ}
+    → SecondLaid n L T b
     → (found : Leading) → found .size ≡ length (polynomial p b 0 productWords) → found .value ≡ leading (modulo p) (polynomial p b 0 productWords)
     → {w : List ℕ} {count : ℕ} → TailFound p (startingMemory T b found) w count → DenominatorFound p n L w count
 laid-denominator p prime small valid laid found size last tail =
-    denominator-found (right-inserted p prime small valid laid found size last (tail .inserts)) (tail .monic)
+    denominator-found (second-side-inserted p prime small valid laid found size last (tail .inserts)) (tail .monic)

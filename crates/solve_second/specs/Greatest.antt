@@ -11,8 +11,8 @@ greatest L zero = 0
 greatest L (suc n) = max (greatest L n) (height (slotSize L n))
 
 -- no block has more than 128 words
-abbrev pub Low : Level → Type 0
-Low L = (q : ℕ) → q < lanes → slotSize L q ≤ blockWords
+abbrev pub LowBlocks : Level → Type 0
+LowBlocks L = (q : ℕ) → q < lanes → slotSize L q ≤ blockWords
 
 module _ (L : Level) where
   pub greatest-none : greatest L 0 ≡ 0
@@ -38,7 +38,7 @@ module _ (L : Level) where
   greatest-low zero b low = omega (arith, greatest-none)
   greatest-low (suc n) b low = omega (arith, greatest-next n, greatest-low n b (λ q h. low q (omega arith)), low n (omega arith))
 
-  pub greatest-small : (n : ℕ) → n ≤ lanes → Low L → greatest L n ≤ blockDegrees
+  pub greatest-small : (n : ℕ) → n ≤ lanes → LowBlocks L → greatest L n ≤ blockDegrees
   greatest-small n small low = greatest-low n blockDegrees (λ q h. omega (arith, low q (omega arith)))
 
   pub greatest-positive : (n q : ℕ) → q < n → 0 < slotSize L q → 0 < greatest L n

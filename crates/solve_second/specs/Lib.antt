@@ -1,7 +1,7 @@
 -- interface, what contracts, other crates and PROVED.md cite: Monic, Product, ProductLaws, Greatest, Words, Laid,
---   TransposeFilling, RightFilling, WithRow, Side, Solved, Denominator, QuotientRows
+--   TransposeFilling, SideFilling, WithRow, Side, Solved, Denominator, QuotientRows
 -- inside: Negated, Reduced, MonicLaws, Cells, Transposed, ValidTransposed, Spread, Filling, Same, RowLaid,
---   RightInserted, SecondDual, Scaled, DividedSecond, SecondEnds
+--   SideInserted, SecondDual, Scaled, DividedSecond, SecondEnds
 -- what the products ensure
 pub mod Monic
 pub mod Product
@@ -22,14 +22,14 @@ pub mod ValidTransposed
 pub mod Spread
 pub mod Filling
 pub mod TransposeFilling
-pub mod RightFilling
+pub mod SideFilling
 -- the level with a row of its blocks for tails
 pub mod Same
 pub mod WithRow
 pub mod RowLaid
 pub mod Side
 -- The second system of a level solved (section 2, step 4, of docs/mathematics.md): its denominator and its rows.
-pub mod RightInserted
+pub mod SideInserted
 pub mod SecondDual
 pub mod Solved
 pub mod Denominator

@@ -6,16 +6,16 @@ use native.Mathlib.Decide.{decLt, decLe}
 use lib.ListN.{getD}
 use Rattle.solve_lattice.specs.Memory.{height, Level, slotSize, slotInverse}
 use Rattle.solve_lattice.specs.Room.{blockWords, slotWords, blockDegrees, lanes, lastLane}
-use Rattle.solve_second.specs.Greatest.{Low, greatest, greatest-small, greatest-same}
+use Rattle.solve_second.specs.Greatest.{LowBlocks, greatest, greatest-small, greatest-same}
 use Rattle.solve_second.specs.Words.{when, when-same, reversed, lift, blockWord, transposedSize, transposedWord}
 use Rattle.solve_second.specs.Laid.{SlotsLaid}
 
-pub record SameBlocks (L L′ : Level) : Type 0 where
+pub record SameLevelBlocks (L L′ : Level) : Type 0 where
   pub words : (q j : ℕ) → q < lanes → j < blockWords → getD L′ (slotWords * q + j) 0 ≡ getD L (slotWords * q + j) 0
   pub sizes : (q : ℕ) → q < lanes → slotSize L′ q ≡ slotSize L q
   pub inverses : (q : ℕ) → q < lanes → slotInverse L′ q ≡ slotInverse L q
 
-module _ {L L′ : Level} (same : SameBlocks L L′) (low : Low L) {n : ℕ} (small : n ≤ lanes) where
+module _ {L L′ : Level} (same : SameLevelBlocks L L′) (low : LowBlocks L) {n : ℕ} (small : n ≤ lanes) where
   pub same-greatest : greatest L′ n ≡ greatest L n
   same-greatest = greatest-same L L′ n (λ q l. same .sizes q (omega arith))
 

@@ -11,7 +11,7 @@ use Rattle.modular.specs.Prime.{Prime}
 use Rattle.modular.specs.Residue.{residues}
 use Rattle.reduction.specs.Pivot.{Pivot}
 use Rattle.reduction.specs.Slots.{Slots, unweighted}
-use Rattle.reduction.specs.Transpose.{Tops, rightSide, weights}
+use Rattle.reduction.specs.Transpose.{Tops, secondSide, weights}
 use Rattle.reduction.specs.Second.{second-room}
 use Rattle.reduction.specs.Polynomials.{associate}
 use Rattle.reduction.specs.Holds.{Holds, holds-size-exact}
@@ -26,17 +26,17 @@ use Rattle.solve_lattice.specs.Found.{found-ends}
 use Rattle.solve_lattice.specs.Room.{productWords, lanes}
 use Rattle.solve_second.specs.Product.{BlockMultiplied}
 use Rattle.solve_second.specs.Greatest.{greatest, greatest-small}
-use Rattle.solve_second.specs.Transposed.{right-held}
-use Rattle.solve_second.specs.RightInserted.{tops-lower}
-use Rattle.solve_second.specs.Laid.{Laid}
+use Rattle.solve_second.specs.Transposed.{side-held}
+use Rattle.solve_second.specs.SideInserted.{tops-lower}
+use Rattle.solve_second.specs.Laid.{SecondLaid}
 use Rattle.solve_second.specs.Solved.{HasTops}
 use Rattle.solve_second.specs.Denominator.{FoundDenominator, DenominatorFound}
 
-pub record RightScaled (p n : ℕ) (L : Level) (w : List ℕ) (count : ℕ) (out : List ℕ) : Type 0 where
+pub record SideScaled (p n : ℕ) (L : Level) (w : List ℕ) (count : ℕ) (out : List ℕ) : Type 0 where
   pub holds : (prime : Prime p) (U : Slots (Polynomial (residues p prime))) (x : Polynomial (residues p prime))
       → ValidLevel p L → HoldsSlots p prime n unweighted L U → Holds (residues p prime) (words p prime w 0 count) x
       → Flat (residues p prime) n lanes (weights (polynomials (residues p prime)) n (greatest L n) U) (words p prime out 0 productWords)
-      (λ i. polynomials (residues p prime) .mul x (rightSide (polynomials (residues p prime)) n (greatest L n) U i))
+      (λ i. polynomials (residues p prime) .mul x (secondSide (polynomials (residues p prime)) n (greatest L n) U i))
 
 -- an array of so many words up to the last that is not 0 holds a polynomial of that size
 ends-size : (p : ℕ) (prime : Prime p) {l : List ℕ} {N k : ℕ} {x : Polynomial (residues p prime)} → Ends p l 0 N k → 0 < k
@@ -49,24 +49,24 @@ ends-size p prime {l} {N} {k} {x} ends some holds =
     nonzero e = omega (arith, ends .last some, zero-word p prime l 0 N (k - 1) (omega (arith, ends .within)) e)
 
 -- the right side as it is laid out, of m words
-module _ {p n : ℕ} (small : n ≤ lanes) {L T : Level} {b : List ℕ} (laid : Laid n L T b) (valid : ValidLevel p L) {w : List ℕ}
+module _ {p n : ℕ} (small : n ≤ lanes) {L T : Level} {b : List ℕ} (laid : SecondLaid n L T b) (valid : ValidLevel p L) {w : List ℕ}
     {count : ℕ}
     (found : DenominatorFound p n L w count) (m : ℕ) (m-is : m ≡ length (polynomial p b 0 productWords)) where
   positive : 0 < p
   positive = omega (arith, valid .below 0 (omega arith))
 
-  right-ends : Ends p b 0 productWords m
-  right-ends = found-ends p positive b productWords productWords (omega arith) (λ j h lt. absurd (omega arith)) m m-is
+  side-ends : Ends p b 0 productWords m
+  side-ends = found-ends p positive b productWords productWords (omega arith) (λ j h lt. absurd (omega arith)) m m-is
 
-  pub right-within : m ≤ productWords
-  right-within = right-ends .within
+  pub side-within : m ≤ productWords
+  side-within = side-ends .within
 
-  pub right-scaled : {out : List ℕ} → BlockMultiplied p w count b m out → RightScaled p n L w count out
-  right-scaled {out} done = record {
+  pub side-scaled : {out : List ℕ} → BlockMultiplied p w count b m out → SideScaled p n L w count out
+  side-scaled {out} done = record {
     holds = λ prime U x valid holds factor. done .holds prime n (weights (polynomials (residues p prime)) n (greatest L n) U) x
-        (rightSide (polynomials (residues p prime)) n (greatest L n) U) factor
-        (flat-same (words-shorter p prime b 0 productWords m (right-ends .within) (right-ends .behind))
-        (right-held p prime small valid holds laid));
+        (secondSide (polynomials (residues p prime)) n (greatest L n) U) factor
+        (flat-same (words-shorter p prime b 0 productWords m (side-ends .within) (side-ends .behind))
+        (side-held p prime small valid holds laid));
   }
 
   -- L8: where the slots have a second system, its right side has room
@@ -83,11 +83,11 @@ module _ {p n : ℕ} (small : n ≤ lanes) {L T : Level} {b : List ℕ} (laid : 
           (associate (residues p (has .prime)) (F .inserted .run .now .hand n) (F .some) .unit) (F .inserted .run .now .hand n)
 
       abbrev g : ℕ → Polynomial (residues p (has .prime))
-      g = rightSide (polynomials (residues p (has .prime))) n (greatest L n) (has .slots)
+      g = secondSide (polynomials (residues p (has .prime))) n (greatest L n) (has .slots)
 
       P : Pivot (sized (residues p (has .prime))) n (weights (polynomials (residues p (has .prime))) n (greatest L n) (has .slots))
           g (row m) (height m)
-      P = ends-pivot p (has .prime) right-ends (right-held p (has .prime) small valid (has .holds) laid) some
+      P = ends-pivot p (has .prime) side-ends (side-held p (has .prime) small valid (has .holds) laid) some
 
       long : size (residues p (has .prime)) x ≡ count
       long = ends-size p (has .prime) (found .ends) nonzero (F .holds)
@@ -111,5 +111,5 @@ module _ {p n : ℕ} (small : n ≤ lanes) {L T : Level} {b : List ℕ} (laid : 
       where
         go : Dec (m ≡ 0) → Dec (count ≡ 0) → count * lanes + m ≤ 1096
         go (yes none) d = omega (arith, found .ends .within)
-        go (no some) (yes none) = omega (arith, right-within)
+        go (no some) (yes none) = omega (arith, side-within)
         go (no some) (no many) = filled-room (omega arith) (omega arith)

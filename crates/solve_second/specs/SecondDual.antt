@@ -14,9 +14,9 @@ use Rattle.reduction.specs.Replace.{extend-below}
 use Rattle.reduction.specs.Slots.{Slots}
 use Rattle.reduction.specs.Span.{combined, InSpan}
 use Rattle.reduction.specs.Euclidean.{Associate}
-use Rattle.reduction.specs.Division.{quotient, quotient-empty, division-quotients}
+use Rattle.reduction.specs.Division.{slotQuotient, quotient-empty, division-quotients}
 use Rattle.reduction.specs.Inserting.{cleared}
-use Rattle.reduction.specs.Transpose.{Tops, back, transposed, rightSide, weights}
+use Rattle.reduction.specs.Transpose.{Tops, back, transposed, secondSide, weights}
 use Rattle.reduction.specs.Second.{second-span, second-dual}
 use Rattle.reduction.specs.Dual.{Dual}
 use Rattle.reduction.specs.Flat.{Flat}
@@ -24,9 +24,9 @@ use Rattle.solve_lattice.specs.Word.{words}
 use Rattle.solve_lattice.specs.Memory.{Level, Memory}
 use Rattle.solve_lattice.specs.Holding.{HoldsSlots}
 use Rattle.solve_lattice.specs.Reading.{ends-zero}
-use Rattle.solve_lattice.specs.Quotients.{HoldsQuotient, Dividend, Divides, Divided}
+use Rattle.solve_lattice.specs.Quotients.{HoldsQuotient, Dividend, DividedSoFar, BlockDivided}
 use Rattle.solve_lattice.specs.Room.{productWords, lanes}
-use Rattle.solve_second.specs.RightInserted.{InsertedRight}
+use Rattle.solve_second.specs.SideInserted.{InsertedSide}
 
 -- tails do not matter for the span of blocks
 module _ {A : Type 0} (R : Ring A) (n : ℕ) (U : Slots A) where
@@ -57,7 +57,7 @@ pub record HoldsDual (p : ℕ) (prime : Prime p) (n B D : ℕ) (U : Slots (Polyn
 
 module _ (p : ℕ) (prime : Prime p) {n B D : ℕ} {U : Slots (Polynomial (residues p prime))}
     (O : Tops (sized (residues p prime)) n B D U)
-    {M : Memory} (I : InsertedRight p prime n D U M) {Monic : Polynomial (residues p prime) → Type 0}
+    {M : Memory} (I : InsertedSide p prime n D U M) {Monic : Polynomial (residues p prime) → Type 0}
     (m : Associate (sized (residues p prime)) Monic (I .run .now .hand n)) where
   abbrev R : Ring (Polynomial (residues p prime))
   R = polynomials (residues p prime)
@@ -68,31 +68,31 @@ module _ (p : ℕ) (prime : Prime p) {n B D : ℕ} {U : Slots (Polynomial (resid
   abbrev w : Polynomial (residues p prime)
   w = polynomials (residues p prime) .mul (m .unit) (I .run .now .hand n)
 
-  abbrev pub product : ℕ → Polynomial (residues p prime)
-  product i = polynomials (residues p prime) .mul (polynomials (residues p prime) .mul (m .unit) (I .run .now .hand n))
-      (rightSide (polynomials (residues p prime)) n D U i)
+  abbrev pub scaledSide : ℕ → Polynomial (residues p prime)
+  scaledSide i = polynomials (residues p prime) .mul (polynomials (residues p prime) .mul (m .unit) (I .run .now .hand n))
+      (secondSide (polynomials (residues p prime)) n D U i)
 
   pub divided-dual : {L : Level} {block block′ quotients : List ℕ} {left : ℕ}
       → HoldsSlots p prime n (weights (polynomials (residues p prime)) n D U) L (cleared (polynomials (residues p prime)) n
       (transposed (polynomials (residues p prime)) n D U))
-      → Flat (residues p prime) n lanes (weights (polynomials (residues p prime)) n D U) (words p prime block 0 productWords) product
-      → Divided p L block block′ quotients left
+      → Flat (residues p prime) n lanes (weights (polynomials (residues p prime)) n D U) (words p prime block 0 productWords) scaledSide
+      → BlockDivided p L block block′ quotients left
       → HoldsDual p prime n B D U (polynomials (residues p prime) .mul (m .unit) (I .run .now .hand n)) quotients
   divided-dual {L} {block} {block′} {quotients} {left} slots flat done = record {
-    Y = λ k. quotient R n (cleared R n C) (Q .trace) (back n k);
+    Y = λ k. slotQuotient R n (cleared R n C) (Q .trace) (back n k);
     holds = λ k h. Q .holds-quotient (back n k) (omega arith);
     dual = second-dual O (I .run) (I .ends) m
         (span-uncleared R n C (record {
-          coefficient = quotient R n (cleared R n C) (Q .trace);
+          coefficient = slotQuotient R n (cleared R n C) (Q .trace);
           empty = quotient-empty R n (cleared R n C) (Q .trace);
           equal = division-quotients R n (cleared R n C) (Q .trace) (ends-zero p prime (done .ends) (Q .holds-rest) none);
-        })) (λ k. quotient R n (cleared R n C) (Q .trace) (back n k)) (λ k h. refl);
+        })) (λ k. slotQuotient R n (cleared R n C) (Q .trace) (back n k)) (λ k h. refl);
   }
     where
       f : Dividend p prime n (weights (polynomials (residues p prime)) n D U) L block
-      f = record { slots = cleared R n C; vector = product; holds-slots = slots; holds = flat }
+      f = record { slots = cleared R n C; vector = scaledSide; holds-slots = slots; holds = flat }
 
-      Q : Divides p prime n (weights (polynomials (residues p prime)) n D U) (cleared R n C) product block′ quotients
+      Q : DividedSoFar p prime n (weights (polynomials (residues p prime)) n D U) (cleared R n C) scaledSide block′ quotients
       Q = done .divides prime n (weights (polynomials (residues p prime)) n D U) f
 
       none : left ≡ 0

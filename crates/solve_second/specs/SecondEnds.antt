@@ -24,16 +24,16 @@ use Rattle.solve_lattice.specs.Range.{words-shorter}
 use Rattle.solve_lattice.specs.Quotients.{HoldsQuotient}
 use Rattle.solve_lattice.specs.Room.{productWords, rowsWords, blockWords, blockDegrees, lanes, mostCoefficients}
 use Rattle.solve_second.specs.Greatest.{greatest}
-use Rattle.solve_second.specs.RightInserted.{tops-lower}
+use Rattle.solve_second.specs.SideInserted.{tops-lower}
 use Rattle.solve_second.specs.SecondDual.{HoldsDual, divided-dual}
 use Rattle.solve_second.specs.Solved.{HoldsSecond, SecondSolved}
 use Rattle.solve_second.specs.Denominator.{FoundDenominator, DenominatorFound}
-use Rattle.solve_second.specs.Scaled.{RightScaled}
+use Rattle.solve_second.specs.Scaled.{SideScaled}
 use Rattle.solve_second.specs.DividedSecond.{DividedSecond}
 use Rattle.solve_second.specs.QuotientRows.{quotientWord, row-cell, rows-below}
 
 module _ {p n : ℕ} (small : n ≤ lanes) {L : Level} (valid : ValidLevel p L) {w : List ℕ} {count : ℕ}
-    (found : DenominatorFound p n L w count) {block : List ℕ} (scaled : RightScaled p n L w count block)
+    (found : DenominatorFound p n L w count) {block : List ℕ} (scaled : SideScaled p n L w count block)
     {quotients : List ℕ} (divided : DividedSecond p n L block quotients) (o : List ℕ) (room : rowsWords ≤ length o)
     (behind : (i : ℕ) → rowsWords ≤ i → getD o i 0 < p) (rows : List ℕ) (er : rows ≡ stored (quotientWord quotients n) o 0 rowsWords) where
   -- a quotient of at most 121 coefficients is in the 128 words of its row

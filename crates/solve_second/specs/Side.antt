@@ -2,10 +2,10 @@
 use Prim.Native.Nat.{ℕ, _<_}
 use mathlib.Core.Path.{refl}
 use Rattle.solve_lattice.specs.Memory.{Level, ValidLevel}
-use Rattle.solve_second.specs.Same.{SameBlocks}
+use Rattle.solve_second.specs.Same.{SameLevelBlocks}
 use Rattle.solve_second.specs.WithRow.{withRow, row-blocks, row-valid}
-use Rattle.solve_second.specs.declared.right.Side.{Side}
-use Rattle.solve_second.specs.declared.right.Side.the-variants.{Tails, Row}
+use Rattle.solve_second.specs.declared.second_side.Side.{Side}
+use Rattle.solve_second.specs.declared.second_side.Side.the-variants.{Tails, Row}
 use Rattle.solve_lattice.specs.Room.{lanes}
 
 abbrev pub sided : Side → Level → Level
@@ -17,7 +17,7 @@ abbrev pub sideRow : Side → ℕ
 sideRow Tails = 0
 sideRow (Row h) = h
 
-pub side-blocks : (side : Side) (L : Level) → SameBlocks L (sided side L)
+pub side-blocks : (side : Side) (L : Level) → SameLevelBlocks L (sided side L)
 side-blocks Tails L = record { words = λ q j l lt. refl; sizes = λ q l. refl; inverses = λ q l. refl }
 side-blocks (Row h) L = row-blocks h L
 

@@ -18,7 +18,7 @@ use Rattle.reduction.specs.Holds.{Holds, holds-shift}
 use Rattle.reduction.specs.Flat.{Flat, flat}
 use Rattle.reduction.specs.Held.{Held}
 use Rattle.reduction.specs.Inserting.{cleared}
-use Rattle.reduction.specs.Transpose.{back, masked-filled, masked-empty, transposed, rightSide, weights}
+use Rattle.reduction.specs.Transpose.{back, masked-filled, masked-empty, transposed, secondSide, weights}
 use Rattle.solve_lattice.specs.Word.{residue, residue-zero, words, words-inside, words-behind, words-first}
 use Rattle.solve_lattice.specs.Memory.{height, Level, slotSize, tailSize, ValidLevel}
 use Rattle.solve_lattice.specs.Holding.{HoldsSlots}
@@ -27,9 +27,9 @@ use Rattle.solve_lattice.specs.Room.{productWords, blockWords, slotWords, block
 use Rattle.solve_descent.specs.Held.{none-held}
 use Rattle.solve_second.specs.Greatest.{greatest, greatest-high, greatest-small, greatest-positive}
 use Rattle.solve_second.specs.Words.{reversed, transposedSize, size-empty, size-filled}
-use Rattle.solve_second.specs.Laid.{SlotsLaid, Laid}
+use Rattle.solve_second.specs.Laid.{SlotsLaid, SecondLaid}
 use Rattle.solve_second.specs.Cells.{weight, cell-beside, cell-low, cell-value, cell-behind, cell-tail}
-use Rattle.solve_second.specs.Cells.{right-cell-beside, right-cell-empty, right-cell-low, right-cell-far, right-cell-value}
+use Rattle.solve_second.specs.Cells.{side-cell-beside, side-cell-empty, side-cell-low, side-cell-far, side-cell-value}
 
 module _ (p : ℕ) (prime : Prime p) where
   abbrev F : Field (Residue p)
@@ -168,10 +168,11 @@ module _ (p : ℕ) (prime : Prime p) where
               omega (arith, laid .sizes k (omega arith))
 
     -- the right side
-    module _ {T : Level} {b : List ℕ} (laid : Laid n L T b) where
-      right-zero : (i e : ℕ) → i < lanes → (e < productDegrees → getD b (flat lanes i e) 0 ≡ 0) → words p prime b 0 productWords (flat lanes i e) ≡ residues p
+    module _ {T : Level} {b : List ℕ} (laid : SecondLaid n L T b) where
+      side-zero : (i e : ℕ) → i < lanes → (e < productDegrees → getD b (flat lanes i e) 0 ≡ 0)
+          → words p prime b 0 productWords (flat lanes i e) ≡ residues p
           prime .ring .zero
-      right-zero i e l g = zero-inside b 0 productWords (flat lanes i e)
+      side-zero i e l g = zero-inside b 0 productWords (flat lanes i e)
           (λ lt. ap (λ x. getD b x 0) (zero-add (flat lanes i e)) ∙ g (omega arith))
 
       module _ (i : ℕ) (l : i < n) where
@@ -190,12 +191,12 @@ module _ (p : ℕ) (prime : Prime p) where
             go (yes lt) (yes near) =
                 words-inside p prime L (slotWords * back n i + blockWords) blockWords j near
                 ∙ ap (λ m. residue p prime (getD L (slotWords * back n i + blockWords + m) 0)) (sym same)
-                ∙ ap (residue p prime) (sym (right-cell-value L n laid i (ω i + j) (omega arith) lt l (filled f)
+                ∙ ap (residue p prime) (sym (side-cell-value L n laid i (ω i + j) (omega arith) lt l (filled f)
                 (omega (arith, weight-is i l)) (omega (arith, same))))
                 ∙ sym (words-first p prime b productWords (flat lanes i (ω i + j)) (omega arith))
             go (yes lt) (no far) =
                 words-behind p prime L (slotWords * back n i + blockWords) blockWords j (omega arith)
-                ∙ sym (right-zero i (ω i + j) (omega arith) (λ g. right-cell-far L n laid i (ω i + j) (omega arith) lt l (filled f)
+                ∙ sym (side-zero i (ω i + j) (omega arith) (λ g. side-cell-far L n laid i (ω i + j) (omega arith) lt l (filled f)
                 (omega (arith, weight-is i l)) (omega (arith, same))))
             go (no ge) near =
                 words-zero p prime L (slotWords * back n i + blockWords) blockWords (tailSize L (back n i))
@@ -203,27 +204,27 @@ module _ (p : ℕ) (prime : Prime p) where
                 (omega (arith, top-low, valid .slot (back n i) (omega arith) .tail-within))
                 ∙ sym (words-behind p prime b 0 productWords (flat lanes i (ω i + j)) (omega arith))
 
-        right-coordinate : Dec (U .size (back n i) ≡ 0) → Holds (residues p prime)
+        side-coordinate : Dec (U .size (back n i) ≡ 0) → Holds (residues p prime)
             (λ j. words p prime b 0 productWords (flat lanes i (ω i + j)))
-            (rightSide (polynomials (residues p prime)) n (greatest L n) U i)
-        right-coordinate (yes none) = subst (Holds F _) (sym (masked-empty (U .size (back n i)) _ (U .at (back n i) n) none))
-            (none-held p prime (λ j. right-zero i (ω i + j) (omega arith)
-            (λ lt. right-cell-empty L n laid i (ω i + j) (omega arith) lt l (omega (arith, size-of i l)))))
-        right-coordinate (no some) =
+            (secondSide (polynomials (residues p prime)) n (greatest L n) U i)
+        side-coordinate (yes none) = subst (Holds F _) (sym (masked-empty (U .size (back n i)) _ (U .at (back n i) n) none))
+            (none-held p prime (λ j. side-zero i (ω i + j) (omega arith)
+            (λ lt. side-cell-empty L n laid i (ω i + j) (omega arith) lt l (omega (arith, size-of i l)))))
+        side-coordinate (no some) =
             subst (Holds F _) (sym (masked-filled (U .size (back n i)) _ (U .at (back n i) n) (omega arith)))
             (record { at = λ j. holds .vector (back n i) (omega arith) (omega arith) .tail .at j ∙ lifted-tail (omega arith) j })
 
-        right-below : (e : ℕ) → e < ω i → words p prime b 0 productWords (flat lanes i e) ≡ residues p prime .ring .zero
-        right-below e low = right-zero i e (omega arith) (λ lt. go (ℕ-discrete (slotSize L (back n i)) 0) lt)
+        second-side-below : (e : ℕ) → e < ω i → words p prime b 0 productWords (flat lanes i e) ≡ residues p prime .ring .zero
+        second-side-below e low = side-zero i e (omega arith) (λ lt. go (ℕ-discrete (slotSize L (back n i)) 0) lt)
           where
             go : Dec (slotSize L (back n i) ≡ 0) → e < productDegrees → getD b (flat lanes i e) 0 ≡ 0
-            go (yes none) lt = right-cell-empty L n laid i e (omega arith) lt l none
-            go (no some) lt = right-cell-low L n laid i e (omega arith) lt l (omega arith) (omega (arith, weight-is i l))
+            go (yes none) lt = side-cell-empty L n laid i e (omega arith) lt l none
+            go (no some) lt = side-cell-low L n laid i e (omega arith) lt l (omega arith) (omega (arith, weight-is i l))
 
-      pub right-held : Flat (residues p prime) n lanes (weights (polynomials (residues p prime)) n (greatest L n) U)
-          (words p prime b 0 productWords) (rightSide (polynomials (residues p prime)) n (greatest L n) U)
-      right-held = record {
+      pub side-held : Flat (residues p prime) n lanes (weights (polynomials (residues p prime)) n (greatest L n) U)
+          (words p prime b 0 productWords) (secondSide (polynomials (residues p prime)) n (greatest L n) U)
+      side-held = record {
         lanes = small;
-        lane = λ i l. holds-shift F (ω i) (right-coordinate i l (ℕ-discrete (U .size (back n i)) 0)) (right-below i l);
-        beside = λ i e out l. right-zero i e l (λ lt. right-cell-beside L n laid i e l lt out);
+        lane = λ i l. holds-shift F (ω i) (side-coordinate i l (ℕ-discrete (U .size (back n i)) 0)) (second-side-below i l);
+        beside = λ i e out l. side-zero i e l (λ lt. side-cell-beside L n laid i e l lt out);
       }

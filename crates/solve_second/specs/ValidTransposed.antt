@@ -14,9 +14,9 @@ use Rattle.vector.specs.Stored.{below-or-not}
 use Rattle.solve_lattice.specs.Memory.{row, height, ZeroFrom, Level, slotSize, tailSize, slotInverse, ValidSlot, ValidLevel}
 use Rattle.solve_lattice.specs.Room.{sizesFrom, productWords, blockWords, slotWords, blockDegrees, lanes, lastLane}
 use Rattle.solve_second.specs.Greatest.{greatest, greatest-high, greatest-small, greatest-positive}
-use Rattle.solve_second.specs.Words.{when, when-yes, when-no, reversed, transposedWord, transposedSize, rightWord}
+use Rattle.solve_second.specs.Words.{when, when-yes, when-no, reversed, transposedWord, transposedSize, sideWord}
 use Rattle.solve_second.specs.Words.{size-beyond, size-empty, size-filled}
-use Rattle.solve_second.specs.Laid.{SlotsLaid, Laid}
+use Rattle.solve_second.specs.Laid.{SlotsLaid, SecondLaid}
 use Rattle.solve_second.specs.Cells.{weight, cell-empty, cell-low, cell-value, cell-behind, cell-tail}
 
 -- the last word of a block, and the words of its highest degree in the lanes of coordinates before its pivot
@@ -183,16 +183,16 @@ module _ (p : ℕ) (positive : 0 < p) {n : ℕ} (small : n ≤ lanes) {L : Level
   }
 
 -- and the words of the right side are residues
-module _ (p : ℕ) {n : ℕ} (small : n ≤ lanes) {L : Level} (valid : ValidLevel p L) {T : Level} {b : List ℕ} (laid : Laid n L T b) where
+module _ (p : ℕ) {n : ℕ} (small : n ≤ lanes) {L : Level} (valid : ValidLevel p L) {T : Level} {b : List ℕ} (laid : SecondLaid n L T b) where
   positive : 0 < p
   positive = omega (arith, valid .below 0 (omega arith))
 
-  right-word : (x : ℕ) → rightWord L n x < p
-  right-word x = when-below p positive _ _ (λ _. when-below p positive _ _ (λ _. when-below p positive _ _
+  side-word : (x : ℕ) → sideWord L n x < p
+  side-word x = when-below p positive _ _ (λ _. when-below p positive _ _ (λ _. when-below p positive _ _
       (λ _. when-below p positive _ _ (λ near. valid .below _ (omega arith)))))
 
-  pub right-below : (i : ℕ) → getD b i 0 < p
-  right-below i = ⊎-elim
-      (λ lt. subst (λ w. w < p) (sym (laid .right i lt)) (right-word i))
+  pub second-side-below : (i : ℕ) → getD b i 0 < p
+  second-side-below i = ⊎-elim
+      (λ lt. subst (λ w. w < p) (sym (laid .side i lt)) (side-word i))
       (λ ge. subst (λ w. w < p) (sym (List·getD-eq-default b 0 (omega (arith, laid .room)))) positive)
       (below-or-not i productWords)

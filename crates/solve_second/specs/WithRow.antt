@@ -26,7 +26,7 @@ use Rattle.solve_lattice.specs.Reading.{flat-same}
 use Rattle.solve_lattice.specs.Room.{levelWords, inversesFrom, tailSizesFrom, sizesFrom, blockWords, slotWords, blockDegrees, lanes, lastLane}
 use Rattle.solve_second.specs.Words.{either, either-yes, either-no, when, when-yes, when-no, blockWord}
 use Rattle.solve_second.specs.ValidTransposed.{when-below}
-use Rattle.solve_second.specs.Same.{SameBlocks}
+use Rattle.solve_second.specs.Same.{SameLevelBlocks}
 
 -- coefficient e of row h in the block of slot q, which has 16
 abbrev pub rowWord : Level → (h q e : ℕ) → ℕ
@@ -70,7 +70,7 @@ module _ (h : ℕ) (L : Level) where
       ∙ either-yes (decLt (tailSizesFrom + q) inversesFrom) _ _ (omega arith)
       ∙ ap (λ k. height (slotSize L k)) (omega arith)
 
-  pub row-blocks : SameBlocks L (withRow h L)
+  pub row-blocks : SameLevelBlocks L (withRow h L)
   row-blocks = record {
     words = λ q j l lt. rowed-word (slotWords * q + j) (omega arith) ∙ either-yes (decLt ((slotWords * q + j) % slotWords) blockWords) _ _ (omega arith);
     sizes = λ q l. rowed-number (sizesFrom + q) (omega arith) (omega arith) ∙ either-yes (decLt (sizesFrom + q) tailSizesFrom) _ _ (omega arith);

@@ -110,8 +110,8 @@ abbrev pub tailWord : Level → (q e : ℕ) → ℕ
 tailWord L q e = getD L (slotWords * q + blockWords + e) 0
 
 -- the right side: at coordinate i the tail of slot n - 1 - i of the level, where that is filled
-abbrev pub rightWord : (L : Level) (n x : ℕ) → ℕ
-rightWord L n x =
+abbrev pub sideWord : (L : Level) (n x : ℕ) → ℕ
+sideWord L n x =
     when (decLt (lastLane - x % lanes) n)
     (when (decLt 0 (slotSize L (reversed n (lastLane - x % lanes))))
     (when (decLe (lift L n (lastLane - x % lanes)) (x / lanes))
@@ -131,24 +131,24 @@ module _ (L : Level) (n x : ℕ) where
   abbrev filled : Dec (0 < slotSize L (reversed n (lastLane - x % lanes)))
   filled = decLt 0 (slotSize L (reversed n (lastLane - x % lanes)))
 
-  pub right-beside : ¬ (lastLane - x % lanes < n) → rightWord L n x ≡ 0
-  right-beside out = when-no (decLt (lastLane - x % lanes) n) _ out
+  pub side-beside : ¬ (lastLane - x % lanes < n) → sideWord L n x ≡ 0
+  side-beside out = when-no (decLt (lastLane - x % lanes) n) _ out
 
   module _ (lane : lastLane - x % lanes < n) where
-    pub right-empty : ¬ (0 < slotSize L (reversed n (lastLane - x % lanes))) → rightWord L n x ≡ 0
-    right-empty out = when-yes (decLt (lastLane - x % lanes) n) _ lane ∙ when-no filled (when high (when near tail)) out
+    pub side-empty : ¬ (0 < slotSize L (reversed n (lastLane - x % lanes))) → sideWord L n x ≡ 0
+    side-empty out = when-yes (decLt (lastLane - x % lanes) n) _ lane ∙ when-no filled (when high (when near tail)) out
 
     module _ (some : 0 < slotSize L (reversed n (lastLane - x % lanes))) where
       of-slot : (v : ℕ) → when (decLt (lastLane - x % lanes) n) (when filled v) ≡ v
       of-slot v = when-yes (decLt (lastLane - x % lanes) n) _ lane ∙ when-yes filled v some
 
-      pub right-low : ¬ (lift L n (lastLane - x % lanes) ≤ x / lanes) → rightWord L n x ≡ 0
-      right-low out = of-slot _ ∙ when-no high (when near tail) out
+      pub side-low : ¬ (lift L n (lastLane - x % lanes) ≤ x / lanes) → sideWord L n x ≡ 0
+      side-low out = of-slot _ ∙ when-no high (when near tail) out
 
       module _ (here : lift L n (lastLane - x % lanes) ≤ x / lanes) where
-        pub right-far : ¬ (x / lanes - lift L n (lastLane - x % lanes) < blockWords) → rightWord L n x ≡ 0
-        right-far out = of-slot _ ∙ when-yes high (when near tail) here ∙ when-no near tail out
+        pub side-far : ¬ (x / lanes - lift L n (lastLane - x % lanes) < blockWords) → sideWord L n x ≡ 0
+        side-far out = of-slot _ ∙ when-yes high (when near tail) here ∙ when-no near tail out
 
-        pub right-value : x / lanes - lift L n (lastLane - x % lanes) < blockWords
-            → rightWord L n x ≡ tailWord L (reversed n (lastLane - x % lanes)) (x / lanes - lift L n (lastLane - x % lanes))
-        right-value within = of-slot _ ∙ when-yes high (when near tail) here ∙ when-yes near tail within
+        pub side-value : x / lanes - lift L n (lastLane - x % lanes) < blockWords
+            → sideWord L n x ≡ tailWord L (reversed n (lastLane - x % lanes)) (x / lanes - lift L n (lastLane - x % lanes))
+        side-value within = of-slot _ ∙ when-yes high (when near tail) here ∙ when-yes near tail within

@@ -33,7 +33,7 @@ pub fn second_denominator(
     let hand = Hand {
         size: found.size,
         leading: found.value,
-        tail: 1,
+        tail_size: 1,
     };
     insert(level, block, &mut tail, hand, modulus);
     make_monic(w, &tail, modulus)

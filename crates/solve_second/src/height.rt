@@ -6,12 +6,12 @@ use solve_lattice::SIZES;
 ghost use mathlib.Core.Path.{_≡_};
 ghost use Prim.Native.Nat.{_<_, _≤_};
 ghost use Rattle.solve_lattice.specs.Memory.{height, slotSize};
-ghost use Rattle.solve_second.specs.Greatest.{Low, greatest};
+ghost use Rattle.solve_second.specs.Greatest.{LowBlocks, greatest};
 ghost use Rattle.solve_lattice.specs.Room.{lanes};
 
 // Counts the degrees of the block of slot q.
 pub fn slot_height(level: &Level, q: usize) -> usize
-    requires { ⌜ (q < lanes) × Low (now level) ⌝ }
+    requires { ⌜ (q < lanes) × LowBlocks (now level) ⌝ }
     ensures { λ r. ⌜ r ≡ height (slotSize (now (level .entry)) q) ⌝ }
 {
     (level[SIZES + q] as usize + LAST_LANE) / LANES
@@ -19,7 +19,7 @@ pub fn slot_height(level: &Level, q: usize) -> usize
 
 // Returns the greatest height of the first n slots.
 pub fn greatest_height(level: &Level, n: usize) -> usize
-    requires { ⌜ (n ≤ lanes) × Low (now level) ⌝ }
+    requires { ⌜ (n ≤ lanes) × LowBlocks (now level) ⌝ }
     ensures { λ r. ⌜ r ≡ greatest (now (level .entry)) n ⌝ }
 {
     let mut top = 0;

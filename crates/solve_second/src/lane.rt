@@ -10,7 +10,7 @@ ghost use lib.ListN.{length, getD};
 ghost use Rattle.solve_lattice.specs.LaneStored.{lane};
 ghost use Rattle.solve_lattice.specs.Memory.{height, slotSize};
 ghost use Rattle.solve_lattice.specs.Room.{sizesFrom, lanes};
-ghost use Rattle.solve_second.specs.Greatest.{Low};
+ghost use Rattle.solve_second.specs.Greatest.{LowBlocks};
 ghost use Rattle.solve_second.specs.Words.{blockWord};
 
 // Stores level[from + step e] at block[to + LANES e] for e below `count`.
@@ -36,7 +36,7 @@ pub fn copy_lane(
 
 // Stores row r of the block of slot q into the lane that begins at `to`, lifted to end where `top` degrees do.
 pub fn transpose_lane(block: &mut [u64], to: usize, level: &Level, q: usize, r: usize, top: usize)
-    requires { ⌜ Low (now level) × (q < lanes) × (r < lanes) × (height (slotSize (now level) q) ≤ top) ⌝ }
+    requires { ⌜ LowBlocks (now level) × (q < lanes) × (r < lanes) × (height (slotSize (now level) q) ≤ top) ⌝ }
     requires room { ⌜ to + lanes * top < length (now block) + lanes ⌝ }
     ensures { λ _. ⌜ now (block .exit) ≡ lane (λ e. blockWord (now (level .entry)) q r e) (now (block .entry))
         (to + lanes * (top - height (slotSize (now (level .entry)) q))) (height (slotSize (now (level .entry)) q)) ⌝ }

@@ -1,6 +1,6 @@
 // The second system of a level laid out: its slots and its right side.
-use crate::right::Side;
-use crate::right::lay_side;
+use crate::second_side::Side;
+use crate::second_side::lay_side;
 use crate::transpose::lay_slots;
 use solve_lattice::Level;
 use solve_lattice::Product;
@@ -9,18 +9,18 @@ ghost use Prim.Native.Nat.{_<_, _≤_};
 ghost use lib.ListN.{length};
 ghost use Rattle.vector.specs.Bound.{AtMost};
 ghost use Rattle.solve_lattice.specs.Room.{levelWords, productWords, lanes};
-ghost use Rattle.solve_second.specs.Greatest.{Low};
-ghost use Rattle.solve_second.specs.Laid.{Laid};
-ghost use Rattle.solve_second.specs.RightFilling.{TailsEnd};
+ghost use Rattle.solve_second.specs.Greatest.{LowBlocks};
+ghost use Rattle.solve_second.specs.Laid.{SecondLaid};
+ghost use Rattle.solve_second.specs.SideFilling.{TailsEnd};
 ghost use Rattle.solve_second.specs.Side.{sided, sideRow};
 
-// Lays out the second system of a level of n rows, with `side` for its right side, in `transposed` and `right`, which are 0.
-pub fn lay_second(transposed: &mut Level, right: &mut Product, level: &Level, n: usize, side: Side)
-    requires { ⌜ Low (now level) × TailsEnd (sided side (now level)) × (sideRow side < lanes) × (n ≤ lanes) ⌝ }
-    requires room { ⌜ (length (now transposed) ≡ levelWords) × (length (now right) ≡ productWords) ⌝ }
-    requires zeros { ⌜ AtMost 0 (now transposed) × AtMost 0 (now right) ⌝ }
-    ensures { λ _. ⌜ Laid n (sided side (now (level .entry))) (now (transposed .exit)) (now (right .exit)) ⌝ }
+// Lays out the second system of a level of n rows, with `side` for its right side, in `transposed` and `block`, which are 0.
+pub fn lay_second(transposed: &mut Level, block: &mut Product, level: &Level, n: usize, side: Side)
+    requires { ⌜ LowBlocks (now level) × TailsEnd (sided side (now level)) × (sideRow side < lanes) × (n ≤ lanes) ⌝ }
+    requires room { ⌜ (length (now transposed) ≡ levelWords) × (length (now block) ≡ productWords) ⌝ }
+    requires zeros { ⌜ AtMost 0 (now transposed) × AtMost 0 (now block) ⌝ }
+    ensures { λ _. ⌜ SecondLaid n (sided side (now (level .entry))) (now (transposed .exit)) (now (block .exit)) ⌝ }
 {
     let top = lay_slots(transposed, level, n);
-    lay_side(right, level, n, side, top);
+    lay_side(block, level, n, side, top);
 }

@@ -6,8 +6,8 @@ pub mod lane;
 pub mod layout;
 pub mod monic;
 pub mod product;
-pub mod right;
 pub mod rows;
+pub mod second_side;
 pub mod solve;
 pub mod transpose;
 
@@ -15,5 +15,5 @@ pub use layout::lay_second;
 pub use monic::make_monic;
 pub use product::multiply;
 pub use product::multiply_block;
-pub use right::Side;
+pub use second_side::Side;
 pub use solve::solve_second;

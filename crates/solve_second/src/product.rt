@@ -1,5 +1,6 @@
 // A polynomial times a flat block, and times a polynomial.
 use residue::modulus::Modulus;
+use residue::number::minus;
 use solve_descent::Terms;
 use solve_descent::store_negated;
 use solve_descent::subtract_product;
@@ -17,13 +18,6 @@ ghost use Rattle.vector.specs.Bound.{AtMost};
 ghost use Rattle.solve_lattice.specs.Room.{lanes, blockWords, productWords};
 ghost use Rattle.solve_second.specs.Product.{BlockMultiplied, Multiplied};
 
-// Returns n - m, and 0 where m is the greater.
-fn less(n: usize, m: usize) -> usize
-    ensures { λ r. ⌜ r ≡ n - m ⌝ }
-{
-    if m < n { n - m } else { 0 }
-}
-
 // Multiplies the first m words of `block`, of 8 lanes, by f, its first n words, into `out`, which is 0, in sums that are not
 // reduced: the product is divided next, and a division takes such sums.
 pub fn multiply_block(
@@ -39,14 +33,14 @@ pub fn multiply_block(
     requires zeros { ⌜ AtMost 0 (now out) ⌝ }
     ensures { λ _. ⌜ BlockMultiplied (modulus .p) (now (f .entry)) n (now (block .entry)) m (now (out .exit)) ⌝ }
 {
-    let mut minus = [0u64; BLOCK];
-    store_negated(&mut minus, 0, f, n, modulus);
+    let mut negated = [0u64; BLOCK];
+    store_negated(&mut negated, 0, f, n, modulus);
     let terms = Terms {
         at: 0,
         step: 1,
         count: n,
     };
-    subtract_product(out, LANES, &minus, terms, block, 0, m, modulus);
+    subtract_product(out, LANES, &negated, terms, block, 0, m, modulus);
 }
 
 // Multiplies f, its first n words, by g, its first m, into `out`. What stood there is lost.
@@ -55,15 +49,15 @@ pub fn multiply(out: &mut Block, f: &Block, n: usize, g: &Block, m: usize, modul
     requires small { ⌜ ((i : ℕ) → getD (now f) i 0 < modulus .p) × ((i : ℕ) → getD (now g) i 0 < modulus .p) ⌝ }
     ensures { λ _. ⌜ Multiplied (modulus .p) (now (f .entry)) n (now (g .entry)) m (now (out .exit)) ⌝ }
 {
-    let mut minus = [0u64; BLOCK];
-    store_negated(&mut minus, 0, f, n, modulus);
+    let mut negated = [0u64; BLOCK];
+    store_negated(&mut negated, 0, f, n, modulus);
     clear(out, 0, BLOCK);
     let terms = Terms {
         at: 0,
         step: 1,
         count: n,
     };
-    subtract_product(out, 1, &minus, terms, g, 0, m, modulus);
+    subtract_product(out, 1, &negated, terms, g, 0, m, modulus);
     // the words behind the product are 0 still
-    reduce_range(out, less(n + m, 1), modulus);
+    reduce_range(out, minus(n + m, 1), modulus);
 }

@@ -2,8 +2,8 @@
 use crate::denominator::second_denominator;
 use crate::layout::lay_second;
 use crate::product::multiply_block;
-use crate::right::Side;
 use crate::rows::store_rows;
+use crate::second_side::Side;
 use residue::modulus::Modulus;
 use solve_lattice::Block;
 use solve_lattice::LEVEL;
@@ -36,15 +36,15 @@ pub fn solve_second(
     ensures { λ _. ⌜ SecondSolved (modulus .p) n (sided side (now (level .entry))) (now (w .exit)) (now (rows .exit)) ⌝ }
 {
     let mut transposed = [0u64; LEVEL];
-    let mut right = [0u64; PRODUCT];
-    lay_second(&mut transposed, &mut right, level, n, side);
-    let found = find_leading(&right, PRODUCT, modulus);
+    let mut laid = [0u64; PRODUCT];
+    lay_second(&mut transposed, &mut laid, level, n, side);
+    let found = find_leading(&laid, PRODUCT, modulus);
     let size = found.size;
     let mut next = transposed;
-    let mut block = right;
+    let mut block = laid;
     let count = second_denominator(w, &mut next, &mut block, found, modulus);
     let mut product = [0u64; PRODUCT];
-    multiply_block(&mut product, w, count, &right, size, modulus);
+    multiply_block(&mut product, w, count, &laid, size, modulus);
     let mut quotients = [0u64; PRODUCT];
     divide(&mut quotients, &mut product, PRODUCT, &transposed, modulus);
     store_rows(rows, &quotients, n);

@@ -13,14 +13,14 @@ ghost use Prim.Native.Nat.{_+_, _<_, _≤_};
 ghost use lib.ListN.{length};
 ghost use Rattle.vector.specs.Bound.{AtMost};
 ghost use Rattle.solve_lattice.specs.Room.{levelWords, lanes};
-ghost use Rattle.solve_second.specs.Greatest.{Low, greatest};
+ghost use Rattle.solve_second.specs.Greatest.{LowBlocks, greatest};
 ghost use Rattle.solve_second.specs.Laid.{SlotsLaid};
 ghost use Rattle.solve_second.specs.TransposeFilling.{SlotsSoFar};
 
 // Stores slot k, where it is filled: lane by lane, then its size and its inverse. Its leading word is that of slot n - 1 - k of
 // `level`.
 fn transpose_slot(transposed: &mut Level, level: &Level, n: usize, top: usize, k: usize)
-    requires { ⌜ Low (now level) × (n ≤ lanes) × (k < n) ⌝ }
+    requires { ⌜ LowBlocks (now level) × (n ≤ lanes) × (k < n) ⌝ }
     requires height { ⌜ top ≡ greatest (now level) n ⌝ }
     requires before { ⌜ SlotsSoFar (now level) n (now transposed) k ⌝ }
     ensures { λ _. ⌜ SlotsSoFar (now (level .entry)) n (now (transposed .exit)) (k + 1) ⌝ }
@@ -48,7 +48,7 @@ fn transpose_slot(transposed: &mut Level, level: &Level, n: usize, top: usize, k
 
 // Stores the slots of the second system of a level of n rows, their tails 0, in `transposed`, which is 0. Returns their height.
 pub fn lay_slots(transposed: &mut Level, level: &Level, n: usize) -> usize
-    requires { ⌜ Low (now level) × (n ≤ lanes) ⌝ }
+    requires { ⌜ LowBlocks (now level) × (n ≤ lanes) ⌝ }
     requires zeros { ⌜ (length (now transposed) ≡ levelWords) × AtMost 0 (now transposed) ⌝ }
     ensures { λ r. ⌜ (r ≡ greatest (now (level .entry)) n) × SlotsLaid n (now (level .entry)) (now (transposed .exit)) ⌝ }
 {

@@ -13,21 +13,21 @@ use Rattle.words.specs.Outcome.Outcome.{accepted}
 use Rattle.words.specs.OutcomeLaws.{mapped-accepted}
 use Rattle.words.specs.System.{System, Shape, SystemWithin, ShapeWithin, shape, readSystem}
 use Rattle.words.specs.SystemLaws.{system-written-of-read}
-use Rattle.words.specs.Certificate.{formOf}
+use Rattle.words.specs.Certificate.{formWhen}
 use Rattle.solve_lattice.specs.Input.{ValidInput}
 use Rattle.solve_lattice.specs.Output.{ValidOutput}
 use Rattle.solve_certify.specs.Certifies.{HasSystem, Certifies}
 use Rattle.solve_layout.specs.HasWords.{HasWords, read-has-words}
-use Rattle.solve_meaning.specs.Laid.{Laid}
-use Rattle.solve_meaning.specs.SystemIn.{systemIn, SystemArea}
+use Rattle.solve_meaning.specs.Laid.{SystemLaid}
+use Rattle.solve_meaning.specs.SystemIn.{systemInLanes, SystemArea}
 use Rattle.solve_meaning.specs.SystemInLaws.{laid-read, read-within, read-laid}
 use Rattle.solve_meaning.specs.Taken.{takenCertificate}
-use Rattle.solve_meaning.specs.Equations.{equations}
+use Rattle.solve_meaning.specs.Equations.{officeEquations}
 use Rattle.solve_meaning.specs.LaidLaws.{laid-valid, laid-holds}
 use Rattle.solve_meaning.specs.TakenRight.{taken-right, taken-within}
 use Rattle.solve_meaning.specs.Answers.{right-answers}
 use Rattle.solver.specs.SolvingLaws.{accepted-same}
-use Rattle.solver.specs.Certified.{HasShape, Read, Certified, CertifiedRead, certified-of}
+use Rattle.solver.specs.Certified.{HasShape, Read, CertifiedOutput, CertifiedRead, certified-of}
 
 -- the system in the input area
 module _ {h : Shape} (within : ShapeWithin office h) {input : List ℕ} (area : SystemArea h input) where
@@ -39,27 +39,27 @@ module _ {h : Shape} (within : ShapeWithin office h) {input : List ℕ} (area : 
     pub area-system : HasSystem p (h .rows) (h .columns) input
     area-system = subst (λ q. HasSystem q (h .rows) (h .columns) input) (sym is) (record {
       prime = read-within h within input .shape .prime;
-      equations = equations (systemIn h input) (read-within h within input);
-      holds = laid-holds (systemIn h input) (read-within h within input) (read-laid h within input area);
+      equations = officeEquations (systemInLanes h input) (read-within h within input);
+      holds = laid-holds (systemInLanes h input) (read-within h within input) (read-laid h within input area);
     })
 
     pub output-cleared : (output : List ℕ) → length output ≡ outputWords → AtMost 0 output → ValidOutput p output
     output-cleared output room none = record { room = room; below = λ i. omega (arith, none i, within .prime .large) }
 
     pub area-certified : {output : List ℕ} {solved : Bool} → Certifies p (h .rows) (h .columns) input output solved
-        → Certified (systemIn h input) output solved
+        → CertifiedOutput (systemInLanes h input) output solved
     area-certified {output} {solved} done =
-        let s = systemIn h input in
+        let s = systemInLanes h input in
         let w = read-within h within input in
         let done′ = subst (λ q. Certifies q (h .rows) (h .columns) input output solved) is done in
-        let kept = taken-within office s w output (formOf solved) in
+        let kept = taken-within office s w output (formWhen solved) in
         let right = taken-right office s w output solved
-        (done′ .holds (w .shape .prime) (equations s w) (laid-holds s w (read-laid h within input area))) in
+        (done′ .holds (w .shape .prime) (officeEquations s w) (laid-holds s w (read-laid h within input area))) in
         record {
           valid = done′ .valid;
           within = kept;
           right = right;
-          answers = right-answers office s w (takenCertificate (shape s) (formOf solved) output) kept right;
+          answers = right-answers office s w (takenCertificate (shape s) (formWhen solved) output) kept right;
         }
 
 module _ {h : Shape} {ws : List ℕ} (R : Read h ws) where
@@ -81,18 +81,18 @@ module _ {h : Shape} {ws : List ℕ} (R : Read h ws) where
   read-words = (R .system, has-words)
 
   -- what `lay_system` says of every system with these words
-  module _ (input : List ℕ) (lays : (s : System) → HasWords s ws (h .rows) (h .columns) → Laid s input) where
-    laid : Laid (R .system) input
+  module _ (input : List ℕ) (lays : (s : System) → HasWords s ws (h .rows) (h .columns) → SystemLaid s input) where
+    laid : SystemLaid (R .system) input
     laid = lays (R .system) has-words
 
     pub lays-area : SystemArea h input
     lays-area = subst (λ g. SystemArea g input) (sym (R .same-shape)) (laid .area)
 
     -- it is the system in the input area
-    pub lays-certified : {output : List ℕ} {solved : Bool} → Certified (systemIn h input) output solved
+    pub lays-certified : {output : List ℕ} {solved : Bool} → CertifiedOutput (systemInLanes h input) output solved
         → CertifiedRead (readSystem office ws) output solved
-    lays-certified {output} {solved} C = certified-of (R .read) (subst (λ s. Certified s output solved)
-        (ap (λ g. systemIn g input) (R .same-shape) ∙ laid-read (R .system) written laid) C)
+    lays-certified {output} {solved} C = certified-of (R .read) (subst (λ s. CertifiedOutput s output solved)
+        (ap (λ g. systemInLanes g input) (R .same-shape) ∙ laid-read (R .system) written laid) C)
 
 -- the words by what reading gives
 pub told-read : {h : Shape} {ws : List ℕ} → HasShape h ws → Read h ws

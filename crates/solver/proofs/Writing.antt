@@ -6,7 +6,7 @@ use Prim.Native.Nat.{ℕ}
 use Rattle.words.specs.Limits.{office}
 use Rattle.words.specs.Outcome.Outcome.{accepted}
 use Rattle.words.specs.System.{System, Shape, shape, readSystem}
-use Rattle.words.specs.Certificate.{Form, formOf, certificateWords}
+use Rattle.words.specs.Certificate.{Form, formWhen, certificateWords}
 use Rattle.write_frame.specs.Framing.{Wrote}
 use Rattle.solve_lattice.specs.Output.{ValidOutput}
 use Rattle.solve_meaning.specs.Taken.{takenCertificate}
@@ -19,7 +19,7 @@ module _ {h : Shape} {ws : List ℕ} (R : Read h ws) (output : List ℕ) (solved
   pub output-valid : ValidOutput (h .modulus) output
   output-valid = subst (λ (g : Shape). ValidOutput (g .modulus) output) (sym (R .same-shape)) (certified-at (R .read) certified .valid)
 
-  pub gives : {form : Form} → form ≡ formOf solved → (entry exit : List ℕ) (count : ℕ)
+  pub gives : {form : Form} → form ≡ formWhen solved → (entry exit : List ℕ) (count : ℕ)
       → Wrote (certificateWords (takenCertificate h form output)) entry exit count
       → (s : System) → readSystem office ws ≡ accepted s → Gives office certificateWords s entry exit count
   gives {form} is entry exit count wrote s e =
@@ -27,7 +27,7 @@ module _ {h : Shape} {ws : List ℕ} (R : Read h ws) (output : List ℕ) (solved
       let W = subst (λ c. Wrote (certificateWords c) entry exit count)
       (ap₂ (λ g f. takenCertificate g f output) (same-shape R e) is) wrote in
       record {
-        certificate = takenCertificate (shape s) (formOf solved) output;
+        certificate = takenCertificate (shape s) (formWhen solved) output;
         within = C .within;
         right = C .right;
         answers = C .answers;

@@ -7,7 +7,7 @@ use Rattle.words.specs.Limits.{office}
 use Rattle.words.specs.Outcome.{Outcome, mapped}
 use Rattle.words.specs.Outcome.Outcome.{accepted, refused}
 use Rattle.words.specs.System.{System, Shape, shape, readSystem}
-use Rattle.words.specs.Certificate.{CertificateWithin, formOf}
+use Rattle.words.specs.Certificate.{CertificateWithin, formWhen}
 use Rattle.truth.specs.Solution.{Answers}
 use Rattle.truth.specs.Right.{Right}
 use Rattle.solve_lattice.specs.Output.{ValidOutput}
@@ -18,15 +18,15 @@ use Rattle.solve_meaning.specs.Answers.{answerOf}
 abbrev pub HasShape : Shape → List ℕ → Type 0
 HasShape h ws = mapped shape (readSystem office ws) ≡ accepted h
 
-pub record Certified (s : System) (output : List ℕ) (solved : Bool) : Type 0 where
+pub record CertifiedOutput (s : System) (output : List ℕ) (solved : Bool) : Type 0 where
   pub valid : ValidOutput (s .modulus) output
-  pub within : CertificateWithin office (shape s) (takenCertificate (shape s) (formOf solved) output)
-  pub right : Right s (takenCertificate (shape s) (formOf solved) output)
-  pub answers : Answers s (answerOf (takenCertificate (shape s) (formOf solved) output))
+  pub within : CertificateWithin office (shape s) (takenCertificate (shape s) (formWhen solved) output)
+  pub right : Right s (takenCertificate (shape s) (formWhen solved) output)
+  pub answers : Answers s (answerOf (takenCertificate (shape s) (formWhen solved) output))
 
 -- what was read is certified; a refusal is not
 unfoldable pub CertifiedRead : Outcome System → (output : List ℕ) (solved : Bool) → Type 0
-CertifiedRead (accepted s) output solved = Certified s output solved
+CertifiedRead (accepted s) output solved = CertifiedOutput s output solved
 CertifiedRead (refused number place) output solved = ⊥
 
 -- the system that was read, and this is what its head says
@@ -39,10 +39,10 @@ pub read-told : {h : Shape} {ws : List ℕ} → Read h ws → HasShape h ws
 read-told R = ap (mapped shape) (R .read) ∙ ap accepted (sym (R .same-shape))
 
 module _ {o : Outcome System} {s : System} (is : o ≡ accepted s) {output : List ℕ} {solved : Bool} where
-  pub certified-of : Certified s output solved → CertifiedRead o output solved
+  pub certified-of : CertifiedOutput s output solved → CertifiedRead o output solved
   unfolding CertifiedRead
   certified-of C = subst (λ o. CertifiedRead o output solved) (sym is) C
 
-  pub certified-at : CertifiedRead o output solved → Certified s output solved
+  pub certified-at : CertifiedRead o output solved → CertifiedOutput s output solved
   unfolding CertifiedRead
   certified-at C = subst (λ o. CertifiedRead o output solved) is C

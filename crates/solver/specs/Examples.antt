@@ -23,7 +23,7 @@ abbrev S : List ℕ
 S = 0x10110002 ∷ 0x20000002 ∷ 0x30000000 ∷ 0x30000001 ∷ 0x20000001 ∷ 0x30000001 ∷ 0x40000007 ∷ []
 
 abbrev case-1 : System
-case-1 = record { modulus = 2; rows = 1; columns = 1; matrix = (0 ∷ 1 ∷ []) ∷ []; right = (1 ∷ []) ∷ [] }
+case-1 = record { modulus = 2; rows = 1; columns = 1; matrix = (0 ∷ 1 ∷ []) ∷ []; side = (1 ∷ []) ∷ [] }
 
 abbrev examples : List Example
 examples =

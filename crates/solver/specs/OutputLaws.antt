@@ -7,7 +7,7 @@ use mathlib.Core.Logic.{⊎-elim}
 use mathlib.Core.List.{List, _∷_, _++_}
 use lib.ListN.{length, getD, take, drop}
 use Rattle.solve_lattice.specs.Room.{blockWords}
-use Rattle.modular.specs.Canonical.{Canonical, Ends}
+use Rattle.modular.specs.Canonical.{Canonical, LastNonzero}
 use Rattle.modular.specs.Coefficientwise.{coefficient-getD}
 use Rattle.vector.specs.Reduced.{reduced-is, word-inside, word-behind}
 use Rattle.vector.specs.Stored.{below-or-not}
@@ -27,7 +27,7 @@ use Rattle.solve_meaning.specs.Taken.{takenPolynomial, takenPolynomials, takenC
 -- numbers below p, the last not 0
 numbers-canonical : (p : ℕ) (xs : List ℕ) (a n : ℕ) → AllBelow p xs → (0 < n → 0 < getD xs (a + (n - 1)) 0)
     → Canonical p (numbersFrom xs a n)
-unfolding numbersFrom Canonical Ends
+unfolding numbersFrom Canonical LastNonzero
 numbers-canonical p xs a zero below last = tt
 numbers-canonical p xs a (suc zero) below last =
     let e : a + (1 - 1) ≡ a = omega arith in

@@ -12,16 +12,16 @@ ghost use Rattle.vector.specs.Bound.{AtMost};
 ghost use Rattle.words.specs.Limits.{office};
 ghost use Rattle.words.specs.System.{ShapeWithin, readSystem};
 ghost use Rattle.solve_lattice.specs.Room.{outputWords};
-ghost use Rattle.solve_meaning.specs.SystemIn.{systemIn, SystemArea};
+ghost use Rattle.solve_meaning.specs.SystemIn.{systemInLanes, SystemArea};
 ghost use Rattle.answers.specs.Answer.{shapeOf};
-ghost use Rattle.solver.specs.Certified.{HasShape, Certified, CertifiedRead};
+ghost use Rattle.solver.specs.Certified.{HasShape, CertifiedOutput, CertifiedRead};
 
 // Stores a right certificate of the system that is laid out in `input`, of that shape, in `output`, which is 0. Returns whether
 // there is a solution.
 pub fn certify_laid(output: &mut Output, input: &Input, shape: Shape) -> bool
     requires { ⌜ ShapeWithin office (shapeOf shape) × SystemArea (shapeOf shape) (now input) ⌝ }
     requires cleared { ⌜ (length (now output) ≡ outputWords) × AtMost 0 (now output) ⌝ }
-    ensures { λ r. ⌜ Certified (systemIn (shapeOf shape) (now (input .entry))) (now (output .exit)) r ⌝ }
+    ensures { λ r. ⌜ CertifiedOutput (systemInLanes (shapeOf shape) (now (input .entry))) (now (output .exit)) r ⌝ }
 {
     let rows = shape.rows as usize;
     let columns = shape.columns as usize;

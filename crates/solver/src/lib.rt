@@ -25,7 +25,7 @@ ghost use Rattle.solver.specs.Solving.{Gives, Solves};
 
 // Returns the form of the certificate.
 fn form_for(solved: bool) -> Form
-    ensures { λ r. ⌜ formOf r ≡ certificate.formOf solved ⌝ }
+    ensures { λ r. ⌜ formOf r ≡ certificate.formWhen solved ⌝ }
 {
     if solved {
         Form::Solution

@@ -2,6 +2,7 @@
 use crate::input::word;
 ghost use Prim.Native.Nat.{_+_, _*_, _≤_};
 ghost use lib.ListN.{length};
+ghost use Rattle.limits.specs.Counts.{systemPolynomials};
 
 // Fills f with the words of the case from a place on.
 fn unpack_coefficients(f: &mut [u64], case: &[u32], place: usize)
@@ -36,7 +37,7 @@ pub fn unpack(
     stride: usize,
     limit: usize,
 )
-    requires { ⌜ (limit ≤ 121) × (limit ≤ stride) × (length (now sizes) ≤ 72)
+    requires { ⌜ (limit ≤ 121) × (limit ≤ stride) × (length (now sizes) ≤ systemPolynomials)
         × (stride * length (now sizes) ≤ length (now coefficients)) ⌝ }
 {
     let mut place: usize = 5;

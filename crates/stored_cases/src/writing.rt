@@ -11,10 +11,8 @@ use answers::Counted;
 use answers::Form;
 use limits::Office;
 use writer::certificate::write_certificate;
-use writer::format::CERTIFICATE_POLYNOMIALS;
 use writer::format::CERTIFICATE_VALUES;
 use writer::format::STRIDE;
-use writer::format::SYSTEM_POLYNOMIALS;
 use writer::format::SYSTEM_VALUES;
 use writer::system::write_system;
 
@@ -39,7 +37,7 @@ pub fn answer(case: &[u32]) {
 
 // Writes a system.
 fn system(words: &mut [u32], case: &[u32]) {
-    let mut sizes = [0usize; SYSTEM_POLYNOMIALS];
+    let mut sizes = [0usize; Office::SYSTEM_POLYNOMIALS];
     let mut coefficients = [0u64; SYSTEM_VALUES];
     let limit = Office::COEFFICIENTS as usize;
     unpack(&mut sizes, &mut coefficients, case, limit, limit);
@@ -56,7 +54,7 @@ fn system(words: &mut [u32], case: &[u32]) {
 
 // Writes a certificate.
 fn certificate(words: &mut [u32], case: &[u32], form: Form) {
-    let mut sizes = [0usize; CERTIFICATE_POLYNOMIALS];
+    let mut sizes = [0usize; Office::CERTIFICATE_POLYNOMIALS];
     let mut coefficients = [0u64; CERTIFICATE_VALUES];
     let limit = Office::CERTIFICATE_COEFFICIENTS as usize;
     unpack(&mut sizes, &mut coefficients, case, STRIDE, limit);

@@ -15,7 +15,7 @@ use Rattle.modular.specs.DivisionLaws.{divisionLaws}
 use Rattle.words.specs.Limits.{Limits}
 use Rattle.words.specs.LimitsLaws.{LimitsFit}
 use Rattle.words.specs.Polynomial.{AllWithin}
-use Rattle.words.specs.System.{System, shape, rightSide, SystemWithin, systemWords, readSystem}
+use Rattle.words.specs.System.{System, shape, sideEntry, SystemWithin, systemWords, readSystem}
 use Rattle.words.specs.SystemLaws.{system-read-of-written, system-written-of-read}
 use Rattle.words.specs.Certificate.{Certificate, CertificateWithin, SolutionWithin, certificateWords, readCertificate}
 use Rattle.words.specs.Certificate.Certificate.{solution, absence}
@@ -23,7 +23,7 @@ use Rattle.words.specs.CertificateLaws.{certificate-read-of-written, certificat
 use Rattle.words.specs.Outcome.{Outcome, refuse, followedBy}
 use Rattle.words.specs.Outcome.Outcome.{accepted}
 use Rattle.words.specs.OutcomeLaws.{refuse-passed, passed-refuse, followedBy-accepted}
-use Rattle.truth.specs.Solution.{AllCanonical, Monic, Divides, rowOf, columnOf, sideOf}
+use Rattle.truth.specs.Solution.{AllCanonical, Monic, DividesModulo, rowOf, columnOf, sideOf}
 use Rattle.truth.specs.Right.{RightSolution, RightAbsence, Right, certified}
 use Rattle.truth.specs.Verdict.{monic?, zero?, same?, refuseFirst, solutionVerdict, absenceVerdict, certificateVerdict, verdict}
 use Rattle.truth.specs.Lift.{Proper, ringOf, equations, vector, column-list, divides-list, divides-lift}
@@ -41,7 +41,7 @@ pub proper : (limits : Limits) (s : System) → SystemWithin limits s → Proper
 proper limits s h = record {
   prime = h .shape .prime;
   matrix = all-canonical (s .modulus) (limits .systemCoefficients) (s .matrix) (h .matrix .entries);
-  right = all-canonical (s .modulus) (limits .systemCoefficients) (s .right) (h .right .entries);
+  side = all-canonical (s .modulus) (limits .systemCoefficients) (s .side) (h .side .entries);
 }
 
 pub proper-solution : (limits : Limits) (s : System) (d : List ℕ) (N : List (List ℕ)) (w : List ℕ) (Z : List (List ℕ))
@@ -69,20 +69,20 @@ module _ (s : System) (h : Proper s) where
     remainder-list : (j : ℕ) → remainder (modulo p) (column j .0) w ≡ remainder (modulo p) (columnOf s Z j) w
     remainder-list j = ap (λ f. remainder (modulo p) f w) (column-list s h Z hZ j)
 
-    pub column-divides : (j : ℕ) → remainder (modulo p) (columnOf s Z j) w ≡ [] → Divides p w (columnOf s Z j)
+    pub column-divides : (j : ℕ) → remainder (modulo p) (columnOf s Z j) w ≡ [] → DividesModulo p w (columnOf s Z j)
     unfolding numbers
-    column-divides j e = subst (Divides p w) (column-list s h Z hZ j)
+    column-divides j e = subst (DividesModulo p w) (column-list s h Z hZ j)
         (divides-list p (h .prime) {d = W} {f = column j} (divisionLaws p (h .prime) .remainder-divides (column j) W (equal-numbers p _ _ (remainder-list j ∙ e))))
 
-    pub divides-column : (j : ℕ) → Divides p w (columnOf s Z j) → remainder (modulo p) (columnOf s Z j) w ≡ []
+    pub divides-column : (j : ℕ) → DividesModulo p w (columnOf s Z j) → remainder (modulo p) (columnOf s Z j) w ≡ []
     unfolding numbers
     divides-column j d = sym (remainder-list j) ∙ ap (λ x. x .0) (divisionLaws p (h .prime) .divides-remainder (column j) W
-        (divides-lift p (h .prime) W (column j) (subst (Divides p w) (sym (column-list s h Z hZ j)) d)))
+        (divides-lift p (h .prime) W (column j) (subst (DividesModulo p w) (sym (column-list s h Z hZ j)) d)))
 
   -- the rows 31 to 34 and the four conditions
   module _ {d : List ℕ} {N : List (List ℕ)} {w : List ℕ} {Z : List (List ℕ)} (P : ProperSolution s d N w Z) where
     wrong-row : ℕ → Bool
-    wrong-row i = not (same? (rowOf s N i) (mul (modulo p) d (rightSide s i)))
+    wrong-row i = not (same? (rowOf s N i) (mul (modulo p) d (sideEntry s i)))
 
     wrong-column : ℕ → Bool
     wrong-column j = not (zero? (remainder (modulo p) (columnOf s Z j) w))

@@ -42,7 +42,7 @@ abbrev 𝟚 : List ℕ
 
 -- a system modulo p with n rows and m columns, its matrix row by row
 abbrev over : ℕ → ℕ → ℕ → List (List ℕ) → List (List ℕ) → System
-over p n m A b = record { modulus = p; rows = n; columns = m; matrix = A; right = b }
+over p n m A b = record { modulus = p; rows = n; columns = m; matrix = A; side = b }
 
 abbrev row : System → Certificate → Outcome (Unit {0}) → Case
 row s c o = record { system = s; certificate = c; expected = o }
@@ -65,29 +65,29 @@ cases =
     ∷ []
 
 -- what reading and the check give on the written forms of a row
-pub record Told : Type 0 where
+pub record CaseOutcome : Type 0 where
   pub system : Outcome System
   pub certificate : Outcome Certificate
   pub verdict : Outcome (Unit {0})
 
-abbrev pub told : Case → Told
-told c = record {
+abbrev pub caseOutcome : Case → CaseOutcome
+caseOutcome c = record {
   system = readSystem office (systemWords (c .system));
   certificate = readCertificate office (shape (c .system)) (certificateWords (c .certificate));
   verdict = verdict office (systemWords (c .system)) (certificateWords (c .certificate));
 }
 
 -- the values read back, and the expected verdict
-abbrev pub wanted : Case → Told
+abbrev pub wanted : Case → CaseOutcome
 wanted c = record { system = accepted (c .system); certificate = accepted (c .certificate); verdict = c .expected }
 
 -- the one proposition over all rows
-pub cases-hold : map told cases ≡ map wanted cases
+pub cases-hold : map caseOutcome cases ≡ map wanted cases
 unfolding cases verdict systemWords certificateWords
 cases-hold = refl
 
 -- what an accepted row's certificate says is true: its d is the least denominator, or there is no solution
-pub row-true : (c : Case) → told c ≡ wanted c → c .expected ≡ accepted tt → True (c .system) (c .certificate)
+pub row-true : (c : Case) → caseOutcome c ≡ wanted c → c .expected ≡ accepted tt → True (c .system) (c .certificate)
 row-true c r e = verdict-true office office-fits (c .system) (c .certificate)
     (ap (λ t. t .system) r) (ap (λ t. t .certificate) r) (ap (λ t. t .verdict) r ∙ e)
 

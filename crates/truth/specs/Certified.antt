@@ -9,7 +9,7 @@ use Rattle.modular.specs.Canonical.{Canonical}
 use Rattle.words.specs.System.{System}
 use Rattle.words.specs.Certificate.{Certificate}
 use Rattle.words.specs.Certificate.Certificate.{solution, absence}
-use Rattle.truth.specs.Solution.{columnOf, sideOf, RationalSolution, Divides, Clears, Monic, Denominator}
+use Rattle.truth.specs.Solution.{columnOf, sideOf, RationalSolution, DividesModulo, Clears, Monic, Denominator}
 use Rattle.truth.specs.Listed.{listed}
 use Rattle.truth.specs.Fractions.{SameFractions}
 
@@ -28,11 +28,12 @@ pub record Generates (p : ℕ) (M : List (List ℕ)) (e c : List ℕ) : Type 0 w
   pub canonical : Canonical p c
   pub monic : Monic p c
   pub clears : Clears p c M e
-  pub divides : (f : List ℕ) → Canonical p f → Clears p f M e → Divides p c f
+  pub divides : (f : List ℕ) → Canonical p f → Clears p f M e → DividesModulo p c f
 
 -- M/e is in lowest terms: no monic polynomial but 1 divides e and every entry of M
 unfoldable pub LowestTerms : ℕ → List (List ℕ) → List ℕ → Type 0
-LowestTerms p M e = (c : List ℕ) → Canonical p c → Monic p c → Divides p c e → ((j : ℕ) → j < length M → Divides p c (getD M j []))
+LowestTerms p M e = (c : List ℕ) → Canonical p c → Monic p c → DividesModulo p c e
+    → ((j : ℕ) → j < length M → DividesModulo p c (getD M j []))
     → c ≡ 1 ∷ []
 
 -- (y, z) with y = N/d and z = Z/w

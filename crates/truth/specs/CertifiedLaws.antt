@@ -21,8 +21,8 @@ use Rattle.modular.specs.Carried.{numberArithmetic}
 use Rattle.modular.specs.SizeLaws.{sized}
 use Rattle.modular.specs.MonicLaws.{monicLaws}
 use Rattle.modular.specs.Numbers.{numbers}
-use Rattle.words.specs.System.{System, rightSide}
-use Rattle.truth.specs.Solution.{AllCanonical, Divides, Clears, Monic, Denominator, rowOf, columnOf, sideOf}
+use Rattle.words.specs.System.{System, sideEntry}
+use Rattle.truth.specs.Solution.{AllCanonical, DividesModulo, Clears, Monic, Denominator, rowOf, columnOf, sideOf}
 use Rattle.truth.specs.Listed.{listed, length-listed, listed-at}
 use Rattle.truth.specs.Right.{RightSolution, RightAbsence, certified}
 use Rattle.truth.specs.Lift.{Proper, canonical-at, ringOf, equations, vector, column-list, side-list, divides-list, divides-lift}
@@ -202,12 +202,13 @@ module _ (s : System) (h : Proper s) where
         ∙ one-times p (h .prime) (columnOf s Z j) (column-canonical j)
 
     -- "every entry of Z·A is divisible by w" says that the entries of z·A are polynomials
-    pub whole-iff : (w : List ℕ) → ((j : ℕ) → j < s .columns → Divides p w (columnOf s Z j)) ↔ Whole p (productOf s Z) w
+    pub whole-iff : (w : List ℕ) → ((j : ℕ) → j < s .columns → DividesModulo p w (columnOf s Z j)) ↔ Whole p (productOf s Z) w
     unfolding Clears productOf
     whole-iff w = (
       λ columns j k. let l = subst (λ n. j < n) (length-listed (s .columns) (columnOf s Z)) k in
-          subst (Divides p w) (sym (entry-is j l)) (columns j l),
-      λ whole j k. subst (Divides p w) (entry-is j k) (whole j (subst (λ n. j < n) (sym (length-listed (s .columns) (columnOf s Z))) k)),
+          subst (DividesModulo p w) (sym (entry-is j l)) (columns j l),
+      λ whole j k. subst (DividesModulo p w) (entry-is j k)
+          (whole j (subst (λ n. j < n) (sym (length-listed (s .columns) (columnOf s Z))) k)),
     )
 
     product-canonical : AllCanonical p (productOf s Z)
@@ -293,8 +294,8 @@ module _ (s : System) (h : Proper s) where
 
     -- what 34 asks, where 31 to 33 turn nothing back: "zb and y have the same denominator" and N/d is in lowest terms. (In case 9 they
     -- have, and N/d is not.)
-    pub denominators-iff : Monic p d → Monic p w → ((i : ℕ) → i < s .rows → rowOf s N i ≡ mul (modulo p) d (rightSide s i))
-        → ((j : ℕ) → j < s .columns → Divides p w (columnOf s Z j))
+    pub denominators-iff : Monic p d → Monic p w → ((i : ℕ) → i < s .rows → rowOf s N i ≡ mul (modulo p) d (sideEntry s i))
+        → ((j : ℕ) → j < s .columns → DividesModulo p w (columnOf s Z j))
         → Denominator p (sideOf s Z ∷ []) w d
         ↔ (LowestTerms p N d × ((c : List ℕ) × Denominator p N d c × Denominator p (sideOf s Z ∷ []) w c))
     denominators-iff monic certifying rows columns = (

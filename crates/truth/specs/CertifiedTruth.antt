@@ -19,7 +19,7 @@ use Rattle.modular.specs.SizeLaws.{sized}
 use Rattle.modular.specs.DivisionLaws.{divisionLaws}
 use Rattle.modular.specs.Numbers.{numbers}
 use Rattle.words.specs.System.{System}
-use Rattle.truth.specs.Solution.{AllCanonical, RationalSolution, Divides, Clears, LeastDenominator, columnOf, sideOf}
+use Rattle.truth.specs.Solution.{AllCanonical, RationalSolution, DividesModulo, Clears, LeastDenominator, columnOf, sideOf}
 use Rattle.truth.specs.Lift.{Proper, ringOf, equations, vector, column-list, side-list, divides-list, divides-lift}
 use Rattle.truth.specs.Truth.{solves, right-absent}
 use Rattle.truth.specs.Denominators.{denominator-divides}
@@ -51,7 +51,7 @@ module _ (s : System) (h : Proper s) where
         → Clears p c (sideOf s Z ∷ []) w
     unfolding Clears numbers
     clears-side M e X c hc clears zero k =
-        subst (λ f. Divides p w (mul (modulo p) c f)) (side-list s h Z hZ)
+        subst (λ f. DividesModulo p w (mul (modulo p) c f)) (side-list s h Z hZ)
         (divides-list p (h .prime) {d = W} {f = R .mul (c, hc) (Witness.sideOf R (equations s h) z)} (record {
           cofactor = Y;
           product = clearing-side R (cancel-mul (sized p (h .prime))) (equations s h) W z q columns m (e, X .divisor) (solves s h M e X) (c, hc) Q
@@ -76,7 +76,8 @@ module _ (s : System) (h : Proper s) where
 
         columns : (j : ℕ) → j < s .columns → column j ≡ R .mul W (q j)
         columns j k = divisionLaws p (h .prime) .quotient-exact (column j) W
-            (divides-lift p (h .prime) W (column j) (subst (Divides p w) (sym (column-list s h Z hZ j)) (whole-iff s h Z hZ w .1 (C .whole) j k)))
+            (divides-lift p (h .prime) W (column j)
+            (subst (DividesModulo p w) (sym (column-list s h Z hZ j)) (whole-iff s h Z hZ w .1 (C .whole) j k)))
             ∙ R .mul-comm (q j) W
 
         entry : (j : ℕ) → j < s .columns → DividesIn (ringOf s h) (e, X .divisor) (ringOf s h .mul (c, hc) (m j))

@@ -11,7 +11,7 @@ use Rattle.words.specs.SystemLaws.{systemWords-injective}
 use Rattle.words.specs.Certificate.{Certificate, CertificateWithin, certificateForm, formWord, certificateWords}
 use Rattle.words.specs.Certificate.Certificate.{solution, absence}
 use Rattle.words.specs.Frame.{framedWords}
-use Rattle.truth.specs.Solution.{RationalSolution, Divides, Denominator, LeastDenominator}
+use Rattle.truth.specs.Solution.{RationalSolution, DividesModulo, Denominator, LeastDenominator}
 use Rattle.truth.specs.Verdict.{verdict}
 use Rattle.truth.specs.Truth.{least-unique}
 use Rattle.truth.specs.Accepted.{AcceptedWords, words-of-accepted, proper}
@@ -22,7 +22,7 @@ use Rattle.truth.specs.CertifiedWords.{within-certified}
 -- "divides the denominator of every rational solution"
 abbrev pub DividesEvery : System → List ℕ → Type 0
 DividesEvery s d = (M : List (List ℕ)) (e : List ℕ) → RationalSolution s M e → (c : List ℕ) → Denominator (s .modulus) M e c
-    → Divides (s .modulus) d c
+    → DividesModulo (s .modulus) d c
 
 pub least-divides : (s : System) (d : List ℕ) → LeastDenominator s d → DividesEvery s d
 least-divides s d L M e X c D = L .divides M e X c (D .canonical) (D .clears)

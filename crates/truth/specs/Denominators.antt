@@ -26,7 +26,7 @@ use Rattle.modular.specs.DivisionLaws.{divisionLaws}
 use Rattle.modular.specs.MonicLaws.{monicLaws}
 use Rattle.modular.specs.GcdLaws.{gcdLaws}
 use Rattle.modular.specs.Numbers.{numbers}
-use Rattle.truth.specs.Solution.{AllCanonical, Divides, Clears, Monic, Denominator}
+use Rattle.truth.specs.Solution.{AllCanonical, DividesModulo, Clears, Monic, Denominator}
 use Rattle.truth.specs.Lift.{vector, divides-list, divides-lift}
 
 module _ (p : ℕ) (prime : Prime p) where
@@ -169,9 +169,9 @@ module _ (p : ℕ) (prime : Prime p) where
     denominator-unique d f D F = is-own d D ∙ sym (is-own f F)
 
     -- it divides whatever clears: it generates the ideal of what clears
-    pub denominator-divides : (d : List ℕ) → Denominator p M e d → (f : List ℕ) → Canonical p f → Clears p f M e → Divides p d f
+    pub denominator-divides : (d : List ℕ) → Denominator p M e d → (f : List ℕ) → Canonical p f → Clears p f M e → DividesModulo p d f
     unfolding Clears numbers
-    denominator-divides d D f hf h = subst (λ x. Divides p x f) (sym (is-own d D))
+    denominator-divides d D f hf h = subst (λ x. DividesModulo p x f) (sym (is-own d D))
         (divides-list p prime {d = c} {f = (f, hf)} (clearing (f, hf) (λ j k. divides-lift p prime E ((f, hf) * m j) (h j k))))
 
   -- of one fraction f/e: "w divided by the greatest common divisor of w and Z·b, made monic"
@@ -183,7 +183,7 @@ module _ (p : ℕ) (prime : Prime p) where
       (own (f ∷ []) (hf, tt) e he nonzero)
 
   -- "Zero is divisible by everything"
-  pub everything-divides-zero : (d : List ℕ) → Divides p d []
+  pub everything-divides-zero : (d : List ℕ) → DividesModulo p d []
   unfolding mul
   everything-divides-zero d = record { quotient = []; canonical = canonical-nil p; product = refl }
 
@@ -198,7 +198,7 @@ module _ (p : ℕ) (prime : Prime p) where
   zero-denominator M e h = record {
     canonical = canonical-one;
     monic = refl;
-    clears = λ j k. subst (λ f. Divides p e (mul (modulo p) (1 ∷ []) f)) (sym (h j k)) (everything-divides-zero e);
+    clears = λ j k. subst (λ f. DividesModulo p e (mul (modulo p) (1 ∷ []) f)) (sym (h j k)) (everything-divides-zero e);
     least = λ f hf monic clears. monicLaws p prime .monic-positive (f, hf) monic;
   }
     where

@@ -14,16 +14,16 @@ use Rattle.modular.specs.Canonical.{Canonical}
 use Rattle.modular.specs.Closed.{canonical-nil}
 use Rattle.modular.specs.Values.{NumberPolynomial, equal-numbers}
 use Rattle.modular.specs.Numbers.{numbers}
-use Rattle.words.specs.System.{System, entry, rightSide}
-use Rattle.truth.specs.Solution.{AllCanonical, total, rowOf, columnOf, sideOf, Divides}
-use Rattle.truth.specs.Witness.{Equations}
+use Rattle.words.specs.System.{System, entry, sideEntry}
+use Rattle.truth.specs.Solution.{AllCanonical, totalModulo, rowOf, columnOf, sideOf, DividesModulo}
+use Rattle.truth.specs.Witness.{RingEquations}
 use Rattle.truth.specs.Witness
 
 -- a system over the polynomials modulo a prime, of any size and any degree
 pub record Proper (s : System) : Type 0 where
   pub prime : Prime (s .modulus)
   pub matrix : AllCanonical (s .modulus) (s .matrix)
-  pub right : AllCanonical (s .modulus) (s .right)
+  pub side : AllCanonical (s .modulus) (s .side)
 
 pub canonical-at : (p : ℕ) (fs : List (List ℕ)) → AllCanonical p fs → (i : ℕ) → Canonical p (getD fs i [])
 unfolding AllCanonical
@@ -39,16 +39,16 @@ module _ (p : ℕ) (prime : Prime p) where
   abbrev R : Ring (NumberPolynomial p)
   R = numbers p prime
 
-  pub sum-list : (n : ℕ) (F : ℕ → NumberPolynomial p) → sum R n F .0 ≡ total p n (λ i. F i .0)
-  unfolding sum total numbers
+  pub sum-list : (n : ℕ) (F : ℕ → NumberPolynomial p) → sum R n F .0 ≡ totalModulo p n (λ i. F i .0)
+  unfolding sum totalModulo numbers
   sum-list zero F = refl
   sum-list (suc n) F = ap (λ f. add (modulo p) f (F n .0)) (sum-list n F)
 
-  pub divides-list : {d f : NumberPolynomial p} → DividesIn R d f → Divides p (d .0) (f .0)
+  pub divides-list : {d f : NumberPolynomial p} → DividesIn R d f → DividesModulo p (d .0) (f .0)
   unfolding numbers
   divides-list w = record { quotient = w .cofactor .0; canonical = w .cofactor .1; product = ap (λ x. x .0) (w .product) }
 
-  pub divides-lift : (d f : NumberPolynomial p) → Divides p (d .0) (f .0) → DividesIn R d f
+  pub divides-lift : (d f : NumberPolynomial p) → DividesModulo p (d .0) (f .0) → DividesIn R d f
   unfolding numbers
   divides-lift d f w = record { cofactor = (w .quotient, w .canonical); product = equal-numbers p f _ (w .product) }
 
@@ -56,12 +56,12 @@ module _ (s : System) (h : Proper s) where
   abbrev pub ringOf : Ring (NumberPolynomial (s .modulus))
   ringOf = numbers (s .modulus) (h .prime)
 
-  abbrev pub equations : Equations (NumberPolynomial (s .modulus))
+  abbrev pub equations : RingEquations (NumberPolynomial (s .modulus))
   equations = record {
     rows = s .rows;
     columns = s .columns;
     entry = λ i j. (entry s i j, canonical-at (s .modulus) (s .matrix) (h .matrix) _);
-    side = λ i. (rightSide s i, canonical-at (s .modulus) (s .right) (h .right) i);
+    side = λ i. (sideEntry s i, canonical-at (s .modulus) (s .side) (h .side) i);
   }
 
   module _ (fs : List (List ℕ)) (hf : AllCanonical (s .modulus) fs) where

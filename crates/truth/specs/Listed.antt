@@ -6,7 +6,7 @@ use native.Mathlib.Omega.{arith}
 use lib.ListN.{length, getD}
 use Rattle.algebra.specs.Coefficients.{add}
 use Rattle.modular.specs.Modulo.{modulo}
-use Rattle.truth.specs.Solution.{total}
+use Rattle.truth.specs.Solution.{totalModulo}
 
 -- f 0, .., f (n - 1)
 unfoldable pub listed : {A : Type 0} → ℕ → (ℕ → A) → List A
@@ -35,7 +35,7 @@ listed-is (suc n) f (a ∷ l) default e h =
     ap₂ _∷_ (h 0 (omega arith)) (listed-is n (λ i. f (suc i)) l default (omega arith) (λ i k. h (suc i) (omega arith)))
 
 -- equal terms, equal sums
-pub total-ext : (p n : ℕ) (f g : ℕ → List ℕ) → ((i : ℕ) → i < n → f i ≡ g i) → total p n f ≡ total p n g
-unfolding total
+pub total-ext : (p n : ℕ) (f g : ℕ → List ℕ) → ((i : ℕ) → i < n → f i ≡ g i) → totalModulo p n f ≡ totalModulo p n g
+unfolding totalModulo
 total-ext p zero f g e = refl
 total-ext p (suc n) f g e = ap₂ (add (modulo p)) (total-ext p n f g (λ i h. e i (omega arith))) (e n (omega arith))

@@ -13,7 +13,7 @@ use Rattle.words.specs.Outcome.{Outcome, refuse, followedBy}
 use Rattle.words.specs.Outcome.Outcome.{accepted, refused}
 use Rattle.words.specs.OutcomeLaws.{refused-accepted}
 use Rattle.words.specs.FaultLaws.{system-place, certificate-place}
-use Rattle.words.specs.System.{System, shape, rightSide, readSystem}
+use Rattle.words.specs.System.{System, shape, sideEntry, readSystem}
 use Rattle.words.specs.SystemLaws.{system-written-of-read}
 use Rattle.words.specs.Certificate.{Certificate, readCertificate}
 use Rattle.words.specs.Certificate.Certificate.{solution, absence}
@@ -56,7 +56,7 @@ certificate-most s b rows columns one (solution d N w Z) =
     let p = s .modulus in
     refuse-most b (not (monic? p d)) 31 0 _ (omega arith)
     (refuse-most b (not (monic? p w)) 31 1 _ one
-    (first-most b (s .rows) (λ i. not (same? (rowOf s N i) (mul (modulo p) d (rightSide s i)))) 32 _ rows
+    (first-most b (s .rows) (λ i. not (same? (rowOf s N i) (mul (modulo p) d (sideEntry s i)))) 32 _ rows
     (first-most b (s .columns) (λ j. not (zero? (remainder (modulo p) (columnOf s Z j) w))) 33 _ columns
     (refuse-most b (not (same? (certified s w Z) d)) 34 0 _ (omega arith) (accepted-most b tt)))))
 certificate-most s b rows columns one (absence q) =

@@ -4,10 +4,10 @@ use mathlib.Core.Path.{_≡_}
 use mathlib.Core.List.{List, []}
 use Rattle.algebra.specs.Coefficients.{mul, divide, quotient, monic, gcd}
 use Rattle.modular.specs.Modulo.{modulo}
-use Rattle.words.specs.System.{System, rightSide}
+use Rattle.words.specs.System.{System, sideEntry}
 use Rattle.words.specs.Certificate.{Certificate}
 use Rattle.words.specs.Certificate.Certificate.{solution, absence}
-use Rattle.truth.specs.Solution.{rowOf, columnOf, sideOf, Divides, Monic}
+use Rattle.truth.specs.Solution.{rowOf, columnOf, sideOf, DividesModulo, Monic}
 
 -- "w divided by the greatest common divisor of w and Z·b, made monic"
 unfoldable pub certified : System → List ℕ → List (List ℕ) → List ℕ
@@ -19,9 +19,9 @@ pub record RightSolution (s : System) (d : List ℕ) (N : List (List ℕ)) (w : 
   pub monic : Monic (s .modulus) d
   pub certifyingMonic : Monic (s .modulus) w
   -- "A·N = d·b in every row"
-  pub rows : (i : ℕ) → i < s .rows → rowOf s N i ≡ mul (modulo (s .modulus)) d (rightSide s i)
+  pub rows : (i : ℕ) → i < s .rows → rowOf s N i ≡ mul (modulo (s .modulus)) d (sideEntry s i)
   -- "every entry of Z·A is divisible by w"
-  pub columns : (j : ℕ) → j < s .columns → Divides (s .modulus) w (columnOf s Z j)
+  pub columns : (j : ℕ) → j < s .columns → DividesModulo (s .modulus) w (columnOf s Z j)
   -- "w divided by the greatest common divisor of w and Z·b, made monic, is d"
   pub denominators : certified s w Z ≡ d
 

@@ -6,7 +6,7 @@ use lib.ListN.{length, getD}
 use Rattle.algebra.specs.Coefficients.{add, mul, leading}
 use Rattle.modular.specs.Modulo.{modulo}
 use Rattle.modular.specs.Canonical.{Canonical}
-use Rattle.words.specs.System.{System, entry, rightSide}
+use Rattle.words.specs.System.{System, entry, sideEntry}
 
 -- a list of polynomials modulo p
 unfoldable pub AllCanonical : ℕ → List (List ℕ) → Type 0
@@ -16,25 +16,25 @@ AllCanonical p (f ∷ fs) = Canonical p f × AllCanonical p fs
 -- ---- products with the matrix
 
 -- f 0 + .. + f (n - 1), polynomials modulo p
-unfoldable pub total : ℕ → ℕ → (ℕ → List ℕ) → List ℕ
+unfoldable pub totalModulo : ℕ → ℕ → (ℕ → List ℕ) → List ℕ
 unfolding add modulo
-total p zero f = []
-total p (suc n) f = add (modulo p) (total p n f) (f n)
+totalModulo p zero f = []
+totalModulo p (suc n) f = add (modulo p) (totalModulo p n f) (f n)
 
 -- the entry of row i of A·M
 unfoldable pub rowOf : System → List (List ℕ) → ℕ → List ℕ
-unfolding total mul modulo
-rowOf s M i = total (s .modulus) (s .columns) (λ j. mul (modulo (s .modulus)) (entry s i j) (getD M j []))
+unfolding totalModulo mul modulo
+rowOf s M i = totalModulo (s .modulus) (s .columns) (λ j. mul (modulo (s .modulus)) (entry s i j) (getD M j []))
 
 -- the entry of column j of Z·A
 unfoldable pub columnOf : System → List (List ℕ) → ℕ → List ℕ
-unfolding total mul modulo
-columnOf s Z j = total (s .modulus) (s .rows) (λ i. mul (modulo (s .modulus)) (getD Z i []) (entry s i j))
+unfolding totalModulo mul modulo
+columnOf s Z j = totalModulo (s .modulus) (s .rows) (λ i. mul (modulo (s .modulus)) (getD Z i []) (entry s i j))
 
 -- Z·b
 unfoldable pub sideOf : System → List (List ℕ) → List ℕ
-unfolding total mul modulo
-sideOf s Z = total (s .modulus) (s .rows) (λ i. mul (modulo (s .modulus)) (getD Z i []) (rightSide s i))
+unfolding totalModulo mul modulo
+sideOf s Z = totalModulo (s .modulus) (s .rows) (λ i. mul (modulo (s .modulus)) (getD Z i []) (sideEntry s i))
 
 -- ---- solutions
 
@@ -44,17 +44,17 @@ pub record RationalSolution (s : System) (M : List (List ℕ)) (e : List ℕ) : 
   pub count : length M ≡ s .columns
   pub divisor : Canonical (s .modulus) e
   pub nonzero : ¬ (e ≡ [])
-  pub rows : (i : ℕ) → i < s .rows → rowOf s M i ≡ mul (modulo (s .modulus)) e (rightSide s i)
+  pub rows : (i : ℕ) → i < s .rows → rowOf s M i ≡ mul (modulo (s .modulus)) e (sideEntry s i)
 
 -- d divides f
-pub record Divides (p : ℕ) (d f : List ℕ) : Type 0 where
+pub record DividesModulo (p : ℕ) (d f : List ℕ) : Type 0 where
   pub quotient : List ℕ
   pub canonical : Canonical p quotient
   pub product : f ≡ mul (modulo p) quotient d
 
 -- "A polynomial times y leaves only polynomials exactly when e divides its product with each entry of M."
 unfoldable pub Clears : ℕ → List ℕ → List (List ℕ) → List ℕ → Type 0
-Clears p c M e = (j : ℕ) → j < length M → Divides p e (mul (modulo p) c (getD M j []))
+Clears p c M e = (j : ℕ) → j < length M → DividesModulo p e (mul (modulo p) c (getD M j []))
 
 unfoldable pub Monic : ℕ → List ℕ → Type 0
 Monic p f = leading (modulo p) f ≡ 1
@@ -72,7 +72,7 @@ pub record LeastDenominator (s : System) (d : List ℕ) : Type 0 where
   pub monic : Monic (s .modulus) d
   -- whatever clears a solution is a multiple of d, its denominator before all
   pub divides : (M : List (List ℕ)) (e : List ℕ) → RationalSolution s M e → (c : List ℕ) → Canonical (s .modulus) c → Clears (s .modulus) c M e
-      → Divides (s .modulus) d c
+      → DividesModulo (s .modulus) d c
   -- some solution has it
   pub numerators : List (List ℕ)
   pub over : List ℕ

@@ -24,11 +24,12 @@ use Rattle.modular.specs.MonicLaws.{monicLaws}
 use Rattle.modular.specs.GcdLaws.{gcdLaws}
 use Rattle.modular.specs.Numbers.{numbers}
 use Rattle.words.specs.System.{System}
-use Rattle.truth.specs.Solution.{AllCanonical, RationalSolution, Divides, Clears, Monic, Denominator, LeastDenominator, Answer, Answers, columnOf, sideOf}
+use Rattle.truth.specs.Solution.{AllCanonical, RationalSolution, DividesModulo, Clears, Monic}
+use Rattle.truth.specs.Solution.{Denominator, LeastDenominator, Answer, Answers, columnOf, sideOf}
 use Rattle.truth.specs.Solution.Answer.{none, least}
 use Rattle.truth.specs.Right.{RightSolution, RightAbsence, certified}
 use Rattle.truth.specs.Lift.{Proper, canonical-at, ringOf, equations, vector, row-list, column-list, side-list, divides-list, divides-lift}
-use Rattle.truth.specs.Witness.{Bounds, Solves, Cancels, bounds-clearing, excludes}
+use Rattle.truth.specs.Witness.{Bounds, SolvesEquations, Cancels, bounds-clearing, excludes}
 use Rattle.truth.specs.Witness
 
 -- d, N, w and Z are polynomials modulo p, of any degree, as many as the system asks
@@ -62,7 +63,7 @@ module _ (s : System) (h : Proper s) where
 
   -- a rational solution solves the equations over the ring
   pub solves : (M : List (List ℕ)) (e : List ℕ) (X : RationalSolution s M e)
-      → Solves R (equations s h) (vector p M (X .numerators)) (e, X .divisor)
+      → SolvesEquations R (equations s h) (vector p M (X .numerators)) (e, X .divisor)
   unfolding numbers
   solves M e X = record {
     nonzero = λ z. X .nonzero (ap (λ x. x .0) z);
@@ -143,10 +144,12 @@ module _ (s : System) (h : Proper s) where
         column j = Witness.columnOf (ringOf s h) (equations s h) z j
 
         divided : (j : ℕ) → j < s .columns → DividesIn R W (column j)
-        divided j k = divides-lift p (h .prime) W (column j) (subst (Divides p w) (sym (column-list s h Z (P .certifyingNumerators) j)) (C .columns j k))
+        divided j k = divides-lift p (h .prime) W (column j)
+            (subst (DividesModulo p w) (sym (column-list s h Z (P .certifyingNumerators) j)) (C .columns j k))
 
     -- whatever clears a rational solution is a multiple of d
-    pub divides-clearing : (M : List (List ℕ)) (e : List ℕ) → RationalSolution s M e → (c : List ℕ) → Canonical p c → Clears p c M e → Divides p d c
+    pub divides-clearing : (M : List (List ℕ)) (e : List ℕ) → RationalSolution s M e → (c : List ℕ) → Canonical p c → Clears p c M e
+        → DividesModulo p d c
     unfolding Clears numbers
     divides-clearing M e X c hc clears = divides-list p (h .prime) {d = D} {f = (c, hc)} (record { cofactor = t .0; product = t .1 })
       where

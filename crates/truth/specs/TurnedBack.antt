@@ -5,10 +5,10 @@ use mathlib.Core.Path.{_≡_}
 use mathlib.Core.List.{List, [], _∷_}
 use Rattle.algebra.specs.Coefficients.{mul}
 use Rattle.modular.specs.Modulo.{modulo}
-use Rattle.words.specs.System.{System, rightSide}
+use Rattle.words.specs.System.{System, sideEntry}
 use Rattle.words.specs.Certificate.{Certificate}
 use Rattle.words.specs.Certificate.Certificate.{solution, absence}
-use Rattle.truth.specs.Solution.{rowOf, columnOf, sideOf, Divides, Monic, Denominator}
+use Rattle.truth.specs.Solution.{rowOf, columnOf, sideOf, DividesModulo, Monic, Denominator}
 
 -- "first such row", "first such column": of the places 0 to n - 1 the first at which it does not hold
 pub record FirstFailing (n : ℕ) (Holds : ℕ → Type 0) (place : ℕ) : Type 0 where
@@ -21,11 +21,11 @@ All n Holds = (i : ℕ) → i < n → Holds i
 
 -- row i of A·N = d·b
 abbrev pub RowSolved : System → List ℕ → List (List ℕ) → ℕ → Type 0
-RowSolved s d N i = rowOf s N i ≡ mul (modulo (s .modulus)) d (rightSide s i)
+RowSolved s d N i = rowOf s N i ≡ mul (modulo (s .modulus)) d (sideEntry s i)
 
 -- w divides column j of Z·A
 abbrev pub ColumnDivided : System → List ℕ → List (List ℕ) → ℕ → Type 0
-ColumnDivided s w Z j = Divides (s .modulus) w (columnOf s Z j)
+ColumnDivided s w Z j = DividesModulo (s .modulus) w (columnOf s Z j)
 
 -- d is the denominator of z·b, z = Z/w
 abbrev pub SameDenominators : System → List ℕ → List ℕ → List (List ℕ) → Type 0

@@ -13,7 +13,7 @@ use Rattle.words.specs.Limits.{Limits}
 use Rattle.words.specs.Outcome.{Outcome, refuse}
 use Rattle.words.specs.Outcome.Outcome.{accepted, refused}
 use Rattle.words.specs.OutcomeLaws.{refused-accepted}
-use Rattle.words.specs.System.{System, shape, rightSide, SystemWithin}
+use Rattle.words.specs.System.{System, shape, sideEntry, SystemWithin}
 use Rattle.words.specs.Certificate.{Certificate, CertificateWithin}
 use Rattle.words.specs.Certificate.Certificate.{solution, absence}
 use Rattle.truth.specs.Solution.{rowOf, columnOf, sideOf, Monic}
@@ -129,14 +129,14 @@ module _ (s : System) (h : Proper s) {d : List ℕ} {N : List (List ℕ)} {w : L
   p = s .modulus
 
   wrong-row : ℕ → Bool
-  wrong-row i = not (same? (rowOf s N i) (mul (modulo p) d (rightSide s i)))
+  wrong-row i = not (same? (rowOf s N i) (mul (modulo p) d (sideEntry s i)))
 
   wrong-column : ℕ → Bool
   wrong-column j = not (zero? (remainder (modulo p) (columnOf s Z j) w))
 
   row-passes : (i : ℕ) → Passes (wrong-row i) (RowSolved s d N i)
   unfolding wrong-row
-  row-passes i = same-passes (rowOf s N i) (mul (modulo p) d (rightSide s i))
+  row-passes i = same-passes (rowOf s N i) (mul (modulo p) d (sideEntry s i))
 
   column-passes : (j : ℕ) → Passes (wrong-column j) (ColumnDivided s w Z j)
   unfolding wrong-column

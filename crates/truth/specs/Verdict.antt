@@ -9,7 +9,7 @@ use Rattle.modular.specs.Modulo.{modulo}
 use Rattle.words.specs.Limits.{Limits}
 use Rattle.words.specs.Outcome.{Outcome, refuse, followedBy}
 use Rattle.words.specs.Outcome.Outcome.{accepted}
-use Rattle.words.specs.System.{System, rightSide, shape, readSystem}
+use Rattle.words.specs.System.{System, sideEntry, shape, readSystem}
 use Rattle.words.specs.Certificate.{Certificate, readCertificate}
 use Rattle.words.specs.Certificate.Certificate.{solution, absence}
 use Rattle.truth.specs.Solution.{rowOf, columnOf, sideOf}
@@ -38,7 +38,7 @@ unfolding refuseFirst same? rowOf columnOf certified modulo mul divide leading
 solutionVerdict s d N w Z =
     refuse (not (monic? (s .modulus) d)) 31 0  -- 31: d not monic, tried first
     (refuse (not (monic? (s .modulus) w)) 31 1  -- 31: w not monic
-    (refuseFirst (s .rows) (λ i. not (same? (rowOf s N i) (mul (modulo (s .modulus)) d (rightSide s i)))) 32  -- 32: A·N not d·b
+    (refuseFirst (s .rows) (λ i. not (same? (rowOf s N i) (mul (modulo (s .modulus)) d (sideEntry s i)))) 32  -- 32: A·N not d·b
     (refuseFirst (s .columns) (λ j. not (zero? (remainder (modulo (s .modulus)) (columnOf s Z j) w))) 33  -- 33: w does not divide Z·A
     (refuse (not (same? (certified s w Z) d)) 34 0  -- 34: the denominators differ
     (accepted tt)))))

@@ -13,7 +13,7 @@ abbrev pub Cancels : {A : Type 0} → Ring A → Type 0
 Cancels {A} R = (x y : A) → ¬ (x ≡ R .zero) → R .mul x y ≡ R .zero → y ≡ R .zero
 
 -- a matrix of n rows and m columns with a right side
-pub record Equations (A : Type 0) : Type 0 where
+pub record RingEquations (A : Type 0) : Type 0 where
   pub rows : ℕ
   pub columns : ℕ
   pub entry : ℕ → ℕ → A
@@ -26,24 +26,24 @@ module _ {A : Type 0} (R : Ring A) where
   infixl 70 _*_
   infix 75 -_
   -- row i of A·x
-  abbrev pub rowOf : Equations A → (ℕ → A) → ℕ → A
+  abbrev pub rowOf : RingEquations A → (ℕ → A) → ℕ → A
   rowOf E x i = sum R (E .columns) (λ j. E .entry i j * x j)
 
   -- column j of Z·A
-  abbrev pub columnOf : Equations A → (ℕ → A) → ℕ → A
+  abbrev pub columnOf : RingEquations A → (ℕ → A) → ℕ → A
   columnOf E Z j = sum R (E .rows) (λ i. Z i * E .entry i j)
 
   -- Z·b
-  abbrev pub sideOf : Equations A → (ℕ → A) → A
+  abbrev pub sideOf : RingEquations A → (ℕ → A) → A
   sideOf E Z = sum R (E .rows) (λ i. Z i * E .side i)
 
   -- the fractions x / e solve A·y = b
-  pub record Solves (E : Equations A) (x : ℕ → A) (e : A) : Type 0 where
+  pub record SolvesEquations (E : RingEquations A) (x : ℕ → A) (e : A) : Type 0 where
     pub nonzero : ¬ (e ≡ 𝟘)
     pub rows : (i : ℕ) → i < E .rows → rowOf E x i ≡ e * E .side i
 
   -- w divides Z·A, and w = d·g, Z·b = g·s with d and s coprime
-  pub record Bounds (E : Equations A) (d w : A) (Z : ℕ → A) : Type 0 where
+  pub record Bounds (E : RingEquations A) (d w : A) (Z : ℕ → A) : Type 0 where
     pub quotient : ℕ → A
     pub columns : (j : ℕ) → j < E .columns → columnOf E Z j ≡ w * quotient j
     pub g : A
@@ -55,7 +55,7 @@ module _ {A : Type 0} (R : Ring A) where
     pub β : A
     pub coprime : α * d + β * s ≡ 𝟙
 
-  module _ (cancels : Cancels R) (E : Equations A) where
+  module _ (cancels : Cancels R) (E : RingEquations A) where
     cancel-eq : (x y z : A) → ¬ (x ≡ 𝟘) → x * y ≡ x * z → y ≡ z
     cancel-eq x y z h e = combination R y z (given 𝟙 difference ∷ [])
         (identity R (y ∷ z ∷ []) (λ ρ qy qz. search quotes depth 16) refl)
@@ -74,7 +74,8 @@ module _ {A : Type 0} (R : Ring A) where
         ∙ sum-assoc R (E .rows) (E .columns) Z (E .entry) x
 
     -- lemma 6 of document 002: c·x = e·Q gives A·Q = c·b, so that w divides Z·A·Q = c·(Z·b)
-    pub clearing-side : (w : A) (Z q : ℕ → A) → ((j : ℕ) → j < E .columns → columnOf E Z j ≡ w * q j) → (x : ℕ → A) (e : A) → Solves E x e
+    pub clearing-side : (w : A) (Z q : ℕ → A) → ((j : ℕ) → j < E .columns → columnOf E Z j ≡ w * q j) → (x : ℕ → A) (e : A)
+        → SolvesEquations E x e
         → (c : A) (Q : ℕ → A) → ((j : ℕ) → j < E .columns → c * x j ≡ e * Q j) → c * sideOf E Z ≡ w * sum R (E .columns) (λ j. q j * Q j)
     clearing-side w Z q columns x e X c Q h =
         times-row Z c Q row
@@ -90,7 +91,7 @@ module _ {A : Type 0} (R : Ring A) where
             ∙ sum-mul R (E .columns) c (λ j. E .entry i j * x j) ∙ ap (λ z. c * z) (X .rows i k) ∙ mul-left-comm R c e (E .side i))
 
     -- whatever makes a solution whole is a multiple of d: w divides c·(Z·b), so that d divides c·s and so c
-    pub bounds-clearing : (d w : A) (Z : ℕ → A) → Bounds E d w Z → (x : ℕ → A) (e : A) → Solves E x e
+    pub bounds-clearing : (d w : A) (Z : ℕ → A) → Bounds E d w Z → (x : ℕ → A) (e : A) → SolvesEquations E x e
         → (c : A) (Q : ℕ → A) → ((j : ℕ) → j < E .columns → c * x j ≡ e * Q j) → (t : A) × (c ≡ t * d)
     bounds-clearing d w Z B x e X c Q h = (B .α * c + B .β * Y, whole)
       where
@@ -111,7 +112,7 @@ module _ {A : Type 0} (R : Ring A) where
 
     -- with q·A = 0 and q·b not 0 there is no solution: e·(q·b) = q·A·x = 0
     pub excludes : (q : ℕ → A) → ((j : ℕ) → j < E .columns → columnOf E q j ≡ 𝟘) → ¬ (sideOf E q ≡ 𝟘)
-        → (x : ℕ → A) (e : A) → ¬ Solves E x e
+        → (x : ℕ → A) (e : A) → ¬ SolvesEquations E x e
     excludes q zero-columns side x e X = side (cancels e (sideOf E q) (X .nonzero)
         (times-row q e x (X .rows)
         ∙ sum-none R (E .columns) (λ j. columnOf E q j * x j) (λ j k. ap (λ y. y * x j) (zero-columns j k) ∙ zero-mul R (x j))))

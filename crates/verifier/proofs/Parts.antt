@@ -8,14 +8,14 @@ use lib.ListN.{length, getD, length-append, List·getD-append}
 use lib.Seq.{getD-append-add, getD-at}
 use Rattle.words.specs.System.{System}
 use Rattle.truth.specs.Verdict.{solutionVerdict}
-use Rattle.loader.specs.Slot.{slot, Stands}
-use Rattle.check_conditions.specs.Widths.{certificateWidth}
+use Rattle.loader.specs.Slot.{slot, InSlots}
+use Rattle.loader.specs.Widths.{certificateWidth}
 use Rattle.check_conditions.specs.Areas.{vectorIn}
 use Rattle.check_conditions.specs.AreaLaws.{vector-is}
 
 module _ (columns rows : ℕ) (area d : List ℕ) (N : List (List ℕ)) (w : List ℕ) (Z : List (List ℕ)) (eN : length N ≡ columns)
     (eZ : length Z ≡ rows)
-    (stands : Stands certificateWidth area (d ∷ N ++ w ∷ Z)) where
+    (stands : InSlots certificateWidth area (d ∷ N ++ w ∷ Z)) where
   entries-count : length (d ∷ N ++ w ∷ Z) ≡ columns + 2 + rows
   entries-count = omega (arith, length-append N (w ∷ Z))
 
@@ -43,7 +43,7 @@ module _ (columns rows : ℕ) (area d : List ℕ) (N : List (List ℕ)) (w : Lis
       (vectorIn rows (columns + 2) area) ≡ solutionVerdict s d N w Z
   solution-is s = rw (denominator-is, numerators-is, certifying-denominator-is, certifying-numerators-is)
 
-pub absence-is : (rows : ℕ) (area : List ℕ) (q : List (List ℕ)) → length q ≡ rows → Stands certificateWidth area q
+pub absence-is : (rows : ℕ) (area : List ℕ) (q : List (List ℕ)) → length q ≡ rows → InSlots certificateWidth area q
     → vectorIn rows 0 area ≡ q
 absence-is rows area q e stands =
     vector-is area q q rows 0 stands e (omega arith) (λ k lt. ap (λ (i : ℕ). getD q i []) (zero-add k))

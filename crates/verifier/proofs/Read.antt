@@ -5,6 +5,7 @@ use Prim.Native.Nat.{ℕ, _+_, _*_, _≤_, _<_}
 use native.Mathlib.Nat.{mul-le-mul}
 use native.Mathlib.Omega.{arith}
 use lib.ListN.{length, getD}
+use Rattle.limits.specs.Counts.{systemPolynomials, certificatePolynomials}
 use Rattle.modular.specs.Canonical.{Canonical}
 use Rattle.residue.specs.Modulus.{ValidModulus}
 use Rattle.residue.specs.declared.modulus.Modulus.{Modulus}
@@ -19,13 +20,14 @@ use Rattle.words.specs.Certificate.Certificate.{solution, absence}
 use Rattle.words.specs.Certificate.Form.{solving, absent}
 use Rattle.words.specs.CertificateLaws.{certificate-written-of-read}
 use Rattle.truth.specs.Verdict.{verdict, certificateVerdict, solutionVerdict, absenceVerdict}
-use Rattle.loader.specs.Slot.{Holds, Stands, Filled}
+use Rattle.loader.specs.Slot.{FramedForSlots, InSlots, SlotFilled}
 use Rattle.loader.specs.SlotLaws.{stands-filled}
 use Rattle.loader.specs.HoldLaws.{system-holds, system-canonical, system-count, certificate-holds, certificate-canonical}
 use Rattle.loader.specs.HoldLaws.{certificate-count}
-use Rattle.check_conditions.specs.Widths.{systemWidth, certificateWidth}
-use Rattle.check_conditions.specs.declared.layout.Layout.{Layout}
-use Rattle.check_conditions.specs.Areas.{systemIn, vectorIn, denominatorIn, numeratorsIn, certifyingDenominatorIn, certifyingNumeratorsIn}
+use Rattle.loader.specs.Widths.{systemWidth, certificateWidth}
+use Rattle.check_conditions.specs.declared.dimensions.Dimensions.{Dimensions}
+use Rattle.check_conditions.specs.Areas.{systemInSlots, vectorIn, denominatorIn}
+use Rattle.check_conditions.specs.Areas.{numeratorsIn, certifyingDenominatorIn, certifyingNumeratorsIn}
 use Rattle.check_conditions.specs.Areas.{Loaded}
 use Rattle.check_conditions.specs.AreaLaws.{system-is}
 use Rattle.verifier.proofs.Parts.{solution-is, absence-is}
@@ -47,13 +49,13 @@ module _ {h : Shape} {form : Form} {ws cs : List ℕ} (b : BothRead h form ws cs
   pub read-shape : ShapeWithin office h
   read-shape = rw (b .same-shape) (system-part .1 .shape)
 
-  -- there are at most 72 polynomials
+  -- there are at most systemPolynomials polynomials
   pub read-places : h .rows * h .columns ≤ 64
   read-places = mul-le-mul (read-shape .rows .1) (read-shape .columns .1)
 
   -- ---- what `load` asks
 
-  pub read-system : Holds systemWidth ws (systemEntries s)
+  pub read-system : FramedForSlots systemWidth ws (systemEntries s)
   read-system = system-holds office office-fits ws s (system-part .0) (system-part .1)
 
   pub read-system-count : length (systemEntries s) ≡ h .rows * h .columns + h .rows
@@ -61,7 +63,7 @@ module _ {h : Shape} {form : Form} {ws cs : List ℕ} (b : BothRead h form ws cs
       system-count office office-fits ws s (system-part .0) (system-part .1)
       ∙ ap (λ (g : Shape). g .rows * g .columns + g .rows) (sym (b .same-shape))
 
-  pub read-certificate : Holds certificateWidth cs (certificateEntries c)
+  pub read-certificate : FramedForSlots certificateWidth cs (certificateEntries c)
   read-certificate =
       certificate-holds office office-fits cs (shape s) (system-part .1 .shape) c (certificate-part .0) (certificate-part .1)
 
@@ -94,38 +96,38 @@ module _ {h : Shape} {form : Form} {ws cs : List ℕ} (b : BothRead h form ws cs
       (valid : ValidModulus m)
       (same : m .p ≡ h .modulus)
       (A C : List ℕ)
-      (room-A : length A ≡ 72 * systemWidth)
-      (room-C : length C ≡ 18 * certificateWidth)
-      (in-A : Stands systemWidth A (systemEntries s))
-      (in-C : Stands certificateWidth C (certificateEntries c))
+      (room-A : length A ≡ systemPolynomials * systemWidth)
+      (room-C : length C ≡ certificatePolynomials * certificateWidth)
+      (in-A : InSlots systemWidth A (systemEntries s))
+      (in-C : InSlots certificateWidth C (certificateEntries c))
     where
-      abbrev l : Layout
+      abbrev l : Dimensions
       l = record { modulus = m; rows = h .rows; columns = h .columns }
 
       same-modulus : m .p ≡ s .modulus
       same-modulus = same ∙ ap (λ (g : Shape). g .modulus) (b .same-shape)
 
-      filled-system : (k : ℕ) → k < h .rows * h .columns + h .rows → Filled (m .p) systemWidth A k
+      filled-system : (k : ℕ) → k < h .rows * h .columns + h .rows → SlotFilled (m .p) systemWidth A k
       filled-system k lt =
-          let few : length (systemEntries s) * systemWidth ≤ 72 * systemWidth =
+          let few : length (systemEntries s) * systemWidth ≤ systemPolynomials * systemWidth =
           omega (arith, read-system-count, read-places, read-shape .rows .1) in
           stands-filled in-A k (omega (arith, read-system-count)) (omega arith) (read-system .sizes k)
           (subst (λ (p : ℕ). Canonical p (getD (systemEntries s) k [])) (sym same-modulus)
           (system-canonical office office-fits ws s (system-part .0) (system-part .1) k))
 
-      filled-certificate : length (certificateEntries c) ≤ 18 → (k : ℕ) → k < length (certificateEntries c)
-          → Filled (m .p) certificateWidth C k
+      filled-certificate : length (certificateEntries c) ≤ certificatePolynomials → (k : ℕ) → k < length (certificateEntries c)
+          → SlotFilled (m .p) certificateWidth C k
       filled-certificate few k lt =
           stands-filled in-C k lt (omega arith) (read-certificate .sizes k)
           (subst (λ (p : ℕ). Canonical p (getD (certificateEntries c) k [])) (sym same-modulus)
           (certificate-canonical office office-fits cs (shape s) (system-part .1 .shape) c (certificate-part .0)
           (certificate-part .1) k))
 
-      loaded : (count : ℕ) → length (certificateEntries c) ≡ count → count ≤ 18 → Loaded l count A C
+      loaded : (count : ℕ) → length (certificateEntries c) ≡ count → count ≤ certificatePolynomials → Loaded l count A C
       loaded count all few = record {
         certificate =
             record {
-              layout = record { modulus = valid; rows = read-shape .rows .1; columns = read-shape .columns .1 };
+              dimensions = record { modulus = valid; rows = read-shape .rows .1; columns = read-shape .columns .1 };
               filled = λ k lt. filled-certificate (omega arith) k (omega arith);
             };
         system = filled-system;
@@ -142,15 +144,15 @@ module _ {h : Shape} {form : Form} {ws cs : List ℕ} (b : BothRead h form ws cs
           let r = read-shape .rows .1 in
           loaded (h .rows) (read-absence-count e) (omega arith)
 
-      system-in : systemIn l A ≡ s
+      system-in : systemInSlots l A ≡ s
       system-in =
           system-is l A s in-A same-modulus (ap (λ (g : Shape). g .rows) (b .same-shape))
           (ap (λ (g : Shape). g .columns) (b .same-shape))
-          (system-part .1 .matrix .count) (system-part .1 .right .count)
+          (system-part .1 .matrix .count) (system-part .1 .side .count)
 
       -- by the form of the certificate
       solution-by : (x : Certificate) → solving ≡ certificateForm x → CertificateWithin office (shape s) x
-          → Stands certificateWidth C (certificateEntries x)
+          → InSlots certificateWidth C (certificateEntries x)
           → solutionVerdict s (denominatorIn C) (numeratorsIn l C) (certifyingDenominatorIn l C) (certifyingNumeratorsIn l C)
           ≡ certificateVerdict s x
       unfolding certificateForm certificateEntries CertificateWithin certificateVerdict
@@ -161,7 +163,7 @@ module _ {h : Shape} {form : Form} {ws cs : List ℕ} (b : BothRead h form ws cs
       solution-by (absence q) e k stands = absurd (let z : _≡_ {A = ℕ} 0 1 = cc in omega arith)
 
       absence-by : (x : Certificate) → absent ≡ certificateForm x → CertificateWithin office (shape s) x
-          → Stands certificateWidth C (certificateEntries x)
+          → InSlots certificateWidth C (certificateEntries x)
           → absenceVerdict s (vectorIn (h .rows) 0 C) ≡ certificateVerdict s x
       unfolding certificateForm certificateEntries CertificateWithin certificateVerdict
       absence-by (solution d N w Z) e k stands = absurd (let z : _≡_ {A = ℕ} 0 1 = cc in omega arith)
@@ -169,7 +171,7 @@ module _ {h : Shape} {form : Form} {ws cs : List ℕ} (b : BothRead h form ws cs
           ap (absenceVerdict s) (absence-is (h .rows) C q (k .count ∙ ap (λ (g : Shape). g .rows) (sym (b .same-shape))) stands)
 
       pub verdict-solution : form ≡ solving → {told : Outcome (Unit {0})}
-          → told ≡ solutionVerdict (systemIn l A) (denominatorIn C) (numeratorsIn l C) (certifyingDenominatorIn l C)
+          → told ≡ solutionVerdict (systemInSlots l A) (denominatorIn C) (numeratorsIn l C) (certifyingDenominatorIn l C)
           (certifyingNumeratorsIn l C)
           → told ≡ verdict office ws cs
       verdict-solution e is =
@@ -180,7 +182,7 @@ module _ {h : Shape} {form : Form} {ws cs : List ℕ} (b : BothRead h form ws cs
           ∙ verdict-read
 
       pub verdict-absence : form ≡ absent → {told : Outcome (Unit {0})}
-          → told ≡ absenceVerdict (systemIn l A) (vectorIn (h .rows) 0 C)
+          → told ≡ absenceVerdict (systemInSlots l A) (vectorIn (h .rows) 0 C)
           → told ≡ verdict office ws cs
       verdict-absence e is =
           is ∙ ap (λ (t : System). absenceVerdict t (vectorIn (h .rows) 0 C)) system-in

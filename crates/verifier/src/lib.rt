@@ -8,12 +8,12 @@ use answers::Shape;
 use answers::SystemRead;
 pub use answers::Verdict;
 use check_conditions::absence::check_absence;
-use check_conditions::layout::Layout;
-use check_conditions::products::CERTIFICATE_WIDTH;
-use check_conditions::products::SYSTEM_WIDTH;
+use check_conditions::dimensions::Dimensions;
 use check_conditions::solution::check_solution;
 use limits::Office;
 use loader::load;
+use loader::width::CERTIFICATE_WIDTH;
+use loader::width::SYSTEM_WIDTH;
 use reader::certificate::read_certificate;
 use reader::system::read_system;
 use residue::modulus::Modulus;
@@ -31,19 +31,19 @@ fn check_read(system: &[u32], certificate: &[u32], shape: Shape, form: Form) -> 
     let rows = shape.rows as usize;
     let columns = shape.columns as usize;
     let modulus = Modulus::new(shape.modulus as u64);
-    let layout = Layout {
+    let dimensions = Dimensions {
         modulus,
         rows,
         columns,
     };
-    let mut system_area = [0u64; 72 * SYSTEM_WIDTH];
+    let mut system_area = [0u64; Office::SYSTEM_POLYNOMIALS * SYSTEM_WIDTH];
     load(
         &mut system_area,
         SYSTEM_WIDTH,
         system,
         rows * columns + rows,
     );
-    let mut certificate_area = [0u64; 18 * CERTIFICATE_WIDTH];
+    let mut certificate_area = [0u64; Office::CERTIFICATE_POLYNOMIALS * CERTIFICATE_WIDTH];
     match form {
         Form::Solution => {
             load(
@@ -52,11 +52,11 @@ fn check_read(system: &[u32], certificate: &[u32], shape: Shape, form: Form) -> 
                 certificate,
                 columns + 2 + rows,
             );
-            check_solution(&system_area, &certificate_area, layout)
+            check_solution(&system_area, &certificate_area, dimensions)
         }
         Form::Absence => {
             load(&mut certificate_area, CERTIFICATE_WIDTH, certificate, rows);
-            check_absence(&system_area, &certificate_area, layout)
+            check_absence(&system_area, &certificate_area, dimensions)
         }
     }
 }

@@ -59,15 +59,15 @@ certificateWords c = framedWords (formWord (certificateForm c)) (certificateEntr
 -- ---- reading
 
 -- whether it is a solution: in a head, of a payload of 1 or 2, whether it is 1
-unfoldable pub formOf : Bool → Form
-formOf true = solving
-formOf false = absent
+unfoldable pub formWhen : Bool → Form
+formWhen true = solving
+formWhen false = absent
 
 unfoldable pub certificateHeadFrom : List ℕ → Reading Form
 certificateHeadFrom [] = fault 24 []  -- "an empty card 24 at 0"
 certificateHeadFrom (w ∷ ws) =
     turnBack (not (eqb (kind w) 5 && (eqb (payload w) 1 || eqb (payload w) 2))) 21 (w ∷ ws)  -- 21: kind not 5 or payload not 1 or 2
-    (read (formOf (eqb (payload w) 1)) ws)
+    (read (formWhen (eqb (payload w) 1)) ws)
 
 unfoldable pub entryCount : Shape → Form → ℕ
 entryCount h solving = solutionCount (h .rows) (h .columns)
@@ -92,6 +92,6 @@ certificateFrom limits h ws =
 
 -- The whole: the values, or number and place; laws go through `certificateFrom-shown`.
 unfoldable pub readCertificate : Limits → Shape → List ℕ → Outcome Certificate
-unfolding certificateFrom certificateHeadFrom formOf entryCount certificateAs
+unfolding certificateFrom certificateHeadFrom formWhen entryCount certificateAs
     framedFrom bodyFrom endFrom polynomialsFrom polynomialFrom coefficientsFrom
 readCertificate limits h ws = outcome (length ws) (certificateFrom limits h ws)

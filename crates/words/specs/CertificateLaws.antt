@@ -19,7 +19,7 @@ use Rattle.words.specs.Reading.Reading.{read}
 use Rattle.words.specs.Polynomial.{Within, VectorWithin}
 use Rattle.words.specs.System.{Shape, ShapeWithin}
 use Rattle.words.specs.Certificate.{Certificate, Form, CertificateWithin, certificateForm}
-use Rattle.words.specs.Certificate.{certificateEntries, formWord, certificateWords, formOf, certificateHeadFrom, entryCount}
+use Rattle.words.specs.Certificate.{certificateEntries, formWord, certificateWords, formWhen, certificateHeadFrom, entryCount}
 use Rattle.words.specs.Certificate.{certificateDue, certificateAs, certificateOf, certificateFrom, readCertificate}
 use Rattle.words.specs.Certificate.Certificate.{solution, absence}
 use Rattle.words.specs.Certificate.Form.{solving, absent}
@@ -33,13 +33,13 @@ use Rattle.words.specs.FormatLaws.{Format, Parts, FormatLaws}
 -- ---- the head
 
 form-written : (form : Form) (rest : List ℕ) → certificateHeadFrom (formWord form ∷ rest) ≡ read form rest
-unfolding certificateHeadFrom formWord formOf
+unfolding certificateHeadFrom formWord formWhen
 form-written solving rest = refl
 form-written absent rest = refl
 
 -- of a payload that passed the test
-form-word : (w : ℕ) → kind w ≡ 5 → (b : Bool) → eqb (payload w) 1 ≡ b → b || eqb (payload w) 2 ≡ true → w ≡ formWord (formOf b)
-unfolding formWord formOf
+form-word : (w : ℕ) → kind w ≡ 5 → (b : Bool) → eqb (payload w) 1 ≡ b → b || eqb (payload w) 2 ≡ true → w ≡ formWord (formWhen b)
+unfolding formWord formWhen
 form-word w k true e t = let n = eqb-true (payload w) 1 e in omega arith
 form-word w k false e t = let n = eqb-true (payload w) 2 t in omega arith
 
@@ -49,9 +49,9 @@ form-read [] form rest e = absurd (fault-read e)
 form-read (w ∷ ws) form rest e =
     let a = turnBack-read (not (eqb (kind w) 5 && (eqb (payload w) 1 || eqb (payload w) 2))) _ _ _ e in
     let k = and-passed (eqb (kind w) 5) (eqb (payload w) 1 || eqb (payload w) 2) (a .0) in
-    let ef : formOf (eqb (payload w) 1) ≡ form = cc in
+    let ef : formWhen (eqb (payload w) 1) ≡ form = cc in
     let er : ws ≡ rest = cc in
-    let ew : w ≡ formWord (formOf (eqb (payload w) 1)) =
+    let ew : w ≡ formWord (formWhen (eqb (payload w) 1)) =
     form-word w (eqb-true (kind w) 5 (k .0)) (eqb (payload w) 1) refl (k .1) in
     ap₂ (λ (v : ℕ) (vs : List ℕ). v ∷ vs) (ew ∙ ap formWord ef) er
 

@@ -10,13 +10,13 @@ use lib.Dec.{eqb, ltb}
 use borrow.Author.Tests.{eq-eqb, lt-leb, le-ltb, ltb-false}
 use Rattle.words.specs.Word.{kind, payload, word}
 use Rattle.words.specs.WordLaws.{kind-word, payload-word}
-use Rattle.words.specs.Table.{Expected, HeadTable, row, polynomialsDue, coefficientsDue, numberAt, missingAt, after, dueAfter}
+use Rattle.words.specs.Table.{Expected, HeadTable, tableRow, polynomialsDue, coefficientsDue, numberAt, missingAt, after, dueAfter}
 use Rattle.words.specs.Table.{Passed}
 use Rattle.words.specs.Table.Expected.{head, start, coefficient, end, nothing}
 use Rattle.words.specs.PassLaws.{none-some}
 
 -- a row that is not broken
-row-none : (b : Bool) (number : ℕ) (below : Option ℕ) → row b number below ≡ none → (b ≡ false) × (below ≡ none)
+row-none : (b : Bool) (number : ℕ) (below : Option ℕ) → tableRow b number below ≡ none → (b ≡ false) × (below ≡ none)
 row-none true number below h = absurd (none-some (sym h))
 row-none false number below h = (refl, h)
 

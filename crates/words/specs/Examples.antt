@@ -12,7 +12,7 @@ use Rattle.words.specs.Bytes.{readSystemFile}
 -- ---- case 1
 
 case1 : System
-case1 = record { modulus = 2; rows = 1; columns = 1; matrix = (0 ∷ 1 ∷ []) ∷ []; right = (1 ∷ []) ∷ [] }
+case1 = record { modulus = 2; rows = 1; columns = 1; matrix = (0 ∷ 1 ∷ []) ∷ []; side = (1 ∷ []) ∷ [] }
 
 system1 : List ℕ
 system1 = 0x10110002 ∷ 0x20000002 ∷ 0x30000000 ∷ 0x30000001 ∷ 0x20000001 ∷ 0x30000001 ∷ 0x40000007 ∷ []

@@ -16,7 +16,7 @@ use Rattle.words.specs.ReadingLaws.{fault-read, andThen-read}
 use Rattle.words.specs.Frame.{Due, framedFrom}
 use Rattle.words.specs.FrameLaws.{Expressible}
 use Rattle.words.specs.FormatLaws.{Format, FormatLaws, written, valueFrom, readValue, value-read, value-written, read-of-written}
-use Rattle.words.specs.Table.{HeadTable, row, polynomialsDue, numberAt, missingAt, after, dueAfter}
+use Rattle.words.specs.Table.{HeadTable, tableRow, polynomialsDue, numberAt, missingAt, after, dueAfter}
 use Rattle.words.specs.Table.{Passed, firstAt, ByTable}
 use Rattle.words.specs.Table.Expected.{head, nothing}
 use Rattle.words.specs.FirstFault.{FirstFault}
@@ -34,8 +34,8 @@ module _ {H A : Type 0} (F : Format H A) where
   abbrev pub Begins : List ℕ → Type 0
   Begins us = (v : A) × F .Within v × (vs : List ℕ) × (us ++ vs ≡ written F v)
 
-  abbrev pub Whole : List ℕ → Type 0
-  Whole ws = (v : A) × F .Within v × (ws ≡ written F v)
+  abbrev pub WholeForm : List ℕ → Type 0
+  WholeForm ws = (v : A) × F .Within v × (ws ≡ written F v)
 
   -- a beginning of a beginning
   begins-shorter : (ws : List ℕ) (j k : ℕ) → j ≤ k → Begins (take k ws) → Begins (take j ws)
@@ -48,17 +48,17 @@ module _ {H A : Type 0} (F : Format H A) where
       (b .0, b .1, drop j us ++ b .2, e ∙ b .3)
 
   -- there is one place at most
-  within-place : {missing : ℕ} {ws : List ℕ} {n k : ℕ} → FirstFault Begins Whole missing ws n k → k ≤ length ws
+  within-place : {missing : ℕ} {ws : List ℕ} {n k : ℕ} → FirstFault Begins WholeForm missing ws n k → k ≤ length ws
   within-place {ws = ws} {k = k} h = ⊎-elim (λ t. let e = t .1 in omega arith) (λ t. let l = t .0 in omega arith) (h .at)
 
-  not-before : {missing : ℕ} (ws : List ℕ) {n k m j : ℕ} → FirstFault Begins Whole missing ws n k
-      → FirstFault Begins Whole missing ws m j → k < j → ⊥
+  not-before : {missing : ℕ} (ws : List ℕ) {n k m j : ℕ} → FirstFault Begins WholeForm missing ws n k
+      → FirstFault Begins WholeForm missing ws m j → k < j → ⊥
   not-before ws {k = k} {j = j} h g l =
       let few = within-place g in
       ⊎-elim (λ t. let e = t .1 in omega arith) (λ t. t .1 (begins-shorter ws (suc k) j l (g .before))) (h .at)
 
-  pub first-fault-once : {missing : ℕ} (ws : List ℕ) {n k m j : ℕ} → FirstFault Begins Whole missing ws n k
-      → FirstFault Begins Whole missing ws m j → k ≡ j
+  pub first-fault-once : {missing : ℕ} (ws : List ℕ) {n k m j : ℕ} → FirstFault Begins WholeForm missing ws n k
+      → FirstFault Begins WholeForm missing ws m j → k ≡ j
   first-fault-once ws {k = k} {j = j} h g = let a = not-before ws h g in let b = not-before ws g h in omega arith
 
 -- ---- readings
@@ -138,7 +138,7 @@ module _ {H A : Type 0} (F : Format H A) (tabled : Tabled F) where
 
   module _ (roomy : Roomy F) where
     -- a whole written form: no word breaks a row, and nothing is due behind it
-    whole-passed : (ws : List ℕ) → Whole F ws → Passed T by 0 head ws × (dueAfter T head ws ≡ nothing)
+    whole-passed : (ws : List ℕ) → WholeForm F ws → Passed T by 0 head ws × (dueAfter T head ws ≡ nothing)
     whole-passed ws t =
         let written-read = value-written F (roomy .laws) (roomy .expressible) (t .0) (t .1) in
         let walked = sym (value-walk ws) ∙ ap forgotten (ap (valueFrom F) (t .2) ∙ written-read) in
@@ -150,7 +150,7 @@ module _ {H A : Type 0} (F : Format H A) (tabled : Tabled F) where
         pass.passed-append T by 0 head us (t .2) (whole-passed (us ++ t .2) (t .0, t .1, t .3) .0) .0
 
     -- "or words follow, the first of them"
-    pub words-follow : (ws : List ℕ) → Whole F ws → (u : ℕ) (us : List ℕ) → readValue F (ws ++ u ∷ us) ≡ refused (9 + by) (length ws)
+    pub words-follow : (ws : List ℕ) → WholeForm F ws → (u : ℕ) (us : List ℕ) → readValue F (ws ++ u ∷ us) ≡ refused (9 + by) (length ws)
     unfolding firstAt numberAt
     words-follow ws t u us =
         let r = whole-passed ws t in
@@ -191,7 +191,7 @@ module _ {H A : Type 0} (F : Format H A) (tabled : Tabled F) where
           let k : 0 + suc (length us) ≡ 1 + length us = omega arith in
           rw k (complete.complete-after T by 1 (after T head w) us (head-room w (h .0)) (h .1))
 
-      passed-whole : (ws : List ℕ) → Passed T by 0 head ws → missingAt by (dueAfter T head ws) ≡ none → Whole F ws
+      passed-whole : (ws : List ℕ) → Passed T by 0 head ws → missingAt by (dueAfter T head ws) ≡ none → WholeForm F ws
       passed-whole ws passed ended =
           let e = value-walk ws ∙ pass.ended-walk T by (length ws) 0 head ws (omega arith) passed ended in
           let t = andThen-read (valueFrom F ws) e in
@@ -221,8 +221,8 @@ module _ {H A : Type 0} (F : Format H A) (tabled : Tabled F) where
           let ek : 0 + length front ≡ k = omega (arith, length-take-le k ws (h .within)) in
           none-some (sym (subst (λ (m : ℕ). numberAt T by e (suc m) u ≡ none) ek last) ∙ row-at-word T by ws h more)
 
-      at-place : (ws : List ℕ) (n k : ℕ) → ByTable T by ws n k → ¬ Whole F ws → Dec (k < length ws)
-          → ((n ≡ 4 + by) × (k ≡ length ws) × ¬ Whole F ws) ⊎ ((k < length ws) × ¬ Begins F (take (suc k) ws))
+      at-place : (ws : List ℕ) (n k : ℕ) → ByTable T by ws n k → ¬ WholeForm F ws → Dec (k < length ws)
+          → ((n ≡ 4 + by) × (k ≡ length ws) × ¬ WholeForm F ws) ⊎ ((k < length ws) × ¬ Begins F (take (suc k) ws))
       at-place ws n k h whole (yes more) = inr (more, stops ws n k h more)
       at-place ws n k h whole (no less) =
           let few = h .within in
@@ -230,16 +230,16 @@ module _ {H A : Type 0} (F : Format H A) (tabled : Tabled F) where
           inl (row-at-end T by ws h all, all, whole)
 
       pub first-fault : (ws : List ℕ) {n k : ℕ} → readValue F ws ≡ refused n k
-          → FirstFault (Begins F) (Whole F) (4 + by) ws n k
+          → FirstFault (Begins F) (WholeForm F) (4 + by) ws n k
       first-fault ws {n} {k} e =
           let h = refused-row ws e in
-          let whole : ¬ Whole F ws = λ t.
+          let whole : ¬ WholeForm F ws = λ t.
           refused-accepted (sym e ∙ ap (readValue F) (t .2) ∙ read-of-written F (roomy .laws) (roomy .expressible) (t .0) (t .1)) in
           record { before = passed-begins (take k ws) (h .before); at = at-place ws n k h whole (decLt k (length ws)) }
 
       -- ---- a missing word: the words begin a written form, and are none
 
-      missing-refused : (ws : List ℕ) → Passed T by 0 head ws → ¬ Whole F ws → (o : Option ℕ)
+      missing-refused : (ws : List ℕ) → Passed T by 0 head ws → ¬ WholeForm F ws → (o : Option ℕ)
           → missingAt by (dueAfter T head ws) ≡ o → readValue F ws ≡ refused (4 + by) (length ws)
       unfolding firstAt
       missing-refused ws passed part none e = absurd (part (passed-whole ws passed e))
@@ -253,8 +253,8 @@ module _ {H A : Type 0} (F : Format H A) (tabled : Tabled F) where
             row = rw (take-length ws, drop-length ws) e;
           }))
 
-      pub missing-iff : (ws : List ℕ) → (readValue F ws ≡ refused (4 + by) (length ws)) ↔ (Begins F ws × ¬ Whole F ws)
+      pub missing-iff : (ws : List ℕ) → (readValue F ws ≡ refused (4 + by) (length ws)) ↔ (Begins F ws × ¬ WholeForm F ws)
       missing-iff ws = (λ e. of-fault (first-fault ws e), λ t. missing-refused ws (begins-passed ws (t .0)) (t .1) _ refl)
         where
-          of-fault : FirstFault (Begins F) (Whole F) (4 + by) ws (4 + by) (length ws) → Begins F ws × ¬ Whole F ws
+          of-fault : FirstFault (Begins F) (WholeForm F) (4 + by) ws (4 + by) (length ws) → Begins F ws × ¬ WholeForm F ws
           of-fault f = (rw (take-length ws) at (f .before), ⊎-elim (λ t. t .2) (λ t. absurd (let l = t .0 in omega arith)) (f .at))

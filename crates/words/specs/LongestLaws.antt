@@ -5,7 +5,7 @@ use Prim.Native.Nat.{ℕ, zero, suc, _+_, _*_, _≤_, _<_}
 use native.Mathlib.Nat.{le-refl, le-of-eq}
 use native.Mathlib.Omega.{arith}
 use lib.ListN.{length, length-append, replicate, length-replicate}
-use Rattle.modular.specs.Canonical.{Ends, Canonical}
+use Rattle.modular.specs.Canonical.{LastNonzero, Canonical}
 use Rattle.modular.specs.Primality.{prime-of-true}
 use Rattle.modular.specs.Prime.{prime?}
 use Rattle.words.specs.Limits.{Limits, longestSystem, longestCertificate}
@@ -27,7 +27,7 @@ full size count = replicate count (ones size)
 
 module _ (p : ℕ) (large : 1 < p) (size : ℕ) where
   ones-canonical : (n : ℕ) → Canonical p (ones n)
-  unfolding Canonical Ends
+  unfolding Canonical LastNonzero
   ones-canonical zero = tt
   ones-canonical (suc zero) = (large, omega arith, tt)
   ones-canonical (suc (suc n)) = (large, tt, ones-canonical (suc n))
@@ -83,7 +83,7 @@ module _ (limits : Limits) where
     rows = limits .rows;
     columns = limits .columns;
     matrix = full (limits .systemCoefficients) (limits .rows * limits .columns);
-    right = full (limits .systemCoefficients) (limits .rows);
+    side = full (limits .systemCoefficients) (limits .rows);
   }
 
   pub longCertificate : Certificate
@@ -134,7 +134,7 @@ module _ (limits : Limits) where
         columns = (some-columns, le-refl (limits .columns));
       };
       matrix = full-within 2 (omega arith) (limits .systemCoefficients) (limits .rows * limits .columns);
-      right = full-within 2 (omega arith) (limits .systemCoefficients) (limits .rows);
+      side = full-within 2 (omega arith) (limits .systemCoefficients) (limits .rows);
     }
 
   pub longCertificate-within : CertificateWithin limits (shape longSystem) longCertificate

@@ -10,7 +10,7 @@ use lib.ListN.{length, getD, take, drop-of-length-le}
 use lib.Seq.{drop-cons}
 use lib.Dec.{eqb, leb, ltb}
 use Rattle.words.specs.Word.{kind, payload}
-use Rattle.words.specs.Table.{Expected, HeadTable, row, polynomialsDue, coefficientsDue, numberAt, missingAt, after, dueAfter}
+use Rattle.words.specs.Table.{Expected, HeadTable, tableRow, polynomialsDue, coefficientsDue, numberAt, missingAt, after, dueAfter}
 use Rattle.words.specs.Table.{firstAt, ByTable, OnTable}
 use Rattle.words.specs.Table.OnTable.{at-head, at-end, behind-head}
 use Rattle.words.specs.Table.Expected.{head, start, coefficient, end, nothing}
@@ -87,7 +87,7 @@ module _ (T : HeadTable) (by : ℕ) where
   Five n = (5 + by ≤ n) × (n ≤ 9 + by)
 
   row-five : (b : Bool) (i : ℕ) (below : Option ℕ) {n : ℕ} → 5 ≤ i → i ≤ 9 → (below ≡ some n → Five n)
-      → row b (i + by) below ≡ some n → Five n
+      → tableRow b (i + by) below ≡ some n → Five n
   row-five true i below {n} l h k e = let same : i + by ≡ n = cc in (omega arith, omega arith)
   row-five false i below l h k e = k e
 

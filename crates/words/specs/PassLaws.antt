@@ -9,7 +9,7 @@ use lib.ListN.{length}
 use Rattle.words.specs.Reading.{Reading}
 use Rattle.words.specs.Reading.Reading.{read, fault}
 use Rattle.words.specs.ReadingLaws.{fault-read}
-use Rattle.words.specs.Table.{Expected, HeadTable, row, numberAt, missingAt, after, dueAfter}
+use Rattle.words.specs.Table.{Expected, HeadTable, tableRow, numberAt, missingAt, after, dueAfter}
 use Rattle.words.specs.Table.{Passed, firstAt}
 use Rattle.words.specs.TableLaws.{turned, walk}
 

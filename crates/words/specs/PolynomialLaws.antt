@@ -7,7 +7,7 @@ use native.Mathlib.Omega.{arith}
 use lib.ListN.{length, length-append, length-map}
 use lib.Dec.{eqb, leb, ltb}
 use borrow.Author.Tests.{eqb-false, eq-eqb, ne-eqb, lt-leb, le-ltb, leb-false, ltb-false}
-use Rattle.modular.specs.Canonical.{Ends, Canonical}
+use Rattle.modular.specs.Canonical.{LastNonzero, Canonical}
 use Rattle.words.specs.Word.{kind, payload, word}
 use Rattle.words.specs.Reading.{Reading}
 use Rattle.words.specs.Reading.Reading.{read}
@@ -19,8 +19,8 @@ use Rattle.words.specs.ReadingLaws.{fault-read, turnBack-read, andThen-r
 -- ---- reading what was written; p and the number of coefficients are small enough to be payloads
 
 -- row 8 is passed where the coefficient may stand
-ends-passed : (a : ℕ) (f : List ℕ) → Ends a f → eqb (length f) 0 && eqb a 0 ≡ false
-unfolding Ends
+ends-passed : (a : ℕ) (f : List ℕ) → LastNonzero a f → eqb (length f) 0 && eqb a 0 ≡ false
+unfolding LastNonzero
 ends-passed a [] h = ne-eqb a 0 (λ e. omega arith)
 ends-passed a (b ∷ f) h = simp (ne-eqb (suc (length f)) 0 (λ e. omega arith))
 
@@ -62,8 +62,8 @@ record CoefficientsRead (p due : ℕ) (ws f rest : List ℕ) : Type 0 where
   count : length f ≡ due
   canonical : Canonical p f
 
-ends-from : (a due : ℕ) (f : List ℕ) → length f ≡ due → eqb due 0 && eqb a 0 ≡ false → Ends a f
-unfolding Ends
+ends-from : (a due : ℕ) (f : List ℕ) → length f ≡ due → eqb due 0 && eqb a 0 ≡ false → LastNonzero a f
+unfolding LastNonzero
 ends-from a zero [] e t = let n = eqb-false a 0 t in omega arith
 ends-from a (suc due) [] e t = absurd (omega arith)
 ends-from a due (b ∷ f) e t = tt

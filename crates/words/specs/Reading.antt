@@ -38,8 +38,8 @@ wordsUsed total (read a rest) = accepted (total - length rest)
 wordsUsed total (fault number ws) = refused number (total - length ws)
 
 -- the same of a way to read, from the first of the words on, or from word `at` on
-abbrev pub told : {A : Type 0} → (List ℕ → Reading A) → List ℕ → Outcome A
-told reading ws = outcome (length ws) (reading ws)
+abbrev pub outcomeOf : {A : Type 0} → (List ℕ → Reading A) → List ℕ → Outcome A
+outcomeOf reading ws = outcome (length ws) (reading ws)
 
 abbrev pub used : {A : Type 0} → (List ℕ → Reading A) → List ℕ → Outcome ℕ
 used reading ws = wordsUsed (length ws) (reading ws)

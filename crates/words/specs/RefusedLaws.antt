@@ -16,14 +16,14 @@ use Rattle.words.specs.Word.{kind, payload}
 use Rattle.words.specs.Outcome.{Outcome, refuse}
 use Rattle.words.specs.Outcome.Outcome.{refused}
 use Rattle.words.specs.Reading.{Reading, turnBack}
-use Rattle.words.specs.System.{Shape, ShapeWithin, headShape, sized, systemWords, systemHeadFrom, systemDue, readSystem}
-use Rattle.words.specs.Certificate.{formOf, certificateHeadFrom, certificateDue, certificateWords, readCertificate}
+use Rattle.words.specs.System.{Shape, ShapeWithin, headShape, countsWithin, systemWords, systemHeadFrom, systemDue, readSystem}
+use Rattle.words.specs.Certificate.{formWhen, certificateHeadFrom, certificateDue, certificateWords, readCertificate}
 use Rattle.words.specs.Certificate.Form.{absent}
 use Rattle.words.specs.Bytes.{wordsOf, broken, tooLong, readSystemFile}
 use Rattle.words.specs.LimitsLaws.{LimitsFit}
 use Rattle.words.specs.SystemLaws.{systemFormat, system-laws, system-expressible}
 use Rattle.words.specs.CertificateLaws.{certificateFormat, certificate-laws, certificate-expressible}
-use Rattle.words.specs.Table.{row, numberAt, dueAfter, Passed, ByTable, OnTable}
+use Rattle.words.specs.Table.{tableRow, numberAt, dueAfter, Passed, ByTable, OnTable}
 use Rattle.words.specs.Table.{systemHeadNumber, certificateHeadNumber, systemTable, certificateTable}
 use Rattle.words.specs.Table.OnTable.{at-head, at-end, behind-head}
 use Rattle.words.specs.Table.Expected.{head}
@@ -37,7 +37,7 @@ use Rattle.words.specs.FirstFaultLaws.{Tabled, Roomy}
 -- ---- heads go by their tables
 
 row-turned : {A : Type 0} (b : Bool) (number : ℕ) (ws : List ℕ) (next : Reading A) (below : Option ℕ) (other : Reading A)
-    → next ≡ turned below ws other → turnBack b number ws next ≡ turned (row b number below) ws other
+    → next ≡ turned below ws other → turnBack b number ws next ≡ turned (tableRow b number below) ws other
 row-turned true number ws next below other h = refl
 row-turned false number ws next below other h = h
 
@@ -50,7 +50,7 @@ system-heads limits =
       word = λ w ws.
           row-turned (not (eqb (kind w) 1 && eqb (w / 16777216 % 16) 0)) 1 (w ∷ ws) _ _ _
           (row-turned (not (prime? (headShape w .modulus))) 2 (w ∷ ws) _ _ _
-          (row-turned (not (sized limits (headShape w))) 3 (w ∷ ws) _ none _ refl));
+          (row-turned (not (countsWithin limits (headShape w))) 3 (w ∷ ws) _ none _ refl));
       says = λ w. refl;
     }
 
@@ -58,7 +58,7 @@ certificate-heads : (limits : Limits) (h : Shape) → HeadWalk certificateHeadFr
 unfolding certificateHeadFrom certificateHeadNumber
 certificate-heads limits h =
     record {
-      value = λ w. formOf (eqb (payload w) 1);
+      value = λ w. formWhen (eqb (payload w) 1);
       missing = refl;
       word = λ w ws. row-turned (not (eqb (kind w) 5 && (eqb (payload w) 1 || eqb (payload w) 2))) 21 (w ∷ ws) _ none _ refl;
       says = λ w. refl;
@@ -69,10 +69,10 @@ unfolding systemHeadNumber
 system-head-numbers limits w n h =
     head-row (not (eqb (kind w) 1 && eqb (w / 16777216 % 16) 0)) 1 _ (omega arith)
     (head-row (not (prime? (headShape w .modulus))) 2 _ (omega arith)
-    (head-row (not (sized limits (headShape w))) 3 none (omega arith) (λ e. absurd (none-some e)))) h
+    (head-row (not (countsWithin limits (headShape w))) 3 none (omega arith) (λ e. absurd (none-some e)))) h
   where
     head-row : (b : Bool) (i : ℕ) (below : Option ℕ) → (1 ≤ i) × (i ≤ 3) → (below ≡ some n → (1 ≤ n) × (n ≤ 3))
-        → row b i below ≡ some n → (1 ≤ n) × (n ≤ 3)
+        → tableRow b i below ≡ some n → (1 ≤ n) × (n ≤ 3)
     head-row true i below l k e = let same : i ≡ n = cc in (omega arith, omega arith)
     head-row false i below l k e = k e
 
@@ -80,7 +80,7 @@ certificate-head-numbers : (w n : ℕ) → certificateHeadNumber w ≡ some n �
 unfolding certificateHeadNumber
 certificate-head-numbers w n h = head-row (not (eqb (kind w) 5 && (eqb (payload w) 1 || eqb (payload w) 2))) h
   where
-    head-row : (b : Bool) → row b 21 none ≡ some n → (21 ≤ n) × (n ≤ 21)
+    head-row : (b : Bool) → tableRow b 21 none ≡ some n → (21 ≤ n) × (n ≤ 21)
     head-row true e = let same : 21 ≡ n = cc in (omega arith, omega arith)
     head-row false e = absurd (none-some e)
 

@@ -22,15 +22,15 @@ pub record System : Type 0 where
   pub rows : ℕ
   pub columns : ℕ
   pub matrix : List (List ℕ)
-  pub right : List (List ℕ)
+  pub side : List (List ℕ)
 
 -- A's polynomial at row i, column j
 abbrev pub entry : System → ℕ → ℕ → List ℕ
 entry s i j = getD (s .matrix) (i * s .columns + j) []
 
 -- b's polynomial at row i
-abbrev pub rightSide : System → ℕ → List ℕ
-rightSide s i = getD (s .right) i []
+abbrev pub sideEntry : System → ℕ → List ℕ
+sideEntry s i = getD (s .side) i []
 
 -- p, n and m: what the head holds, and what a certificate must know of its system
 pub record Shape : Type 0 where
@@ -52,7 +52,7 @@ pub record ShapeWithin (limits : Limits) (h : Shape) : Type 0 where
 pub record SystemWithin (limits : Limits) (s : System) : Type 0 where
   pub shape : ShapeWithin limits (shape s)
   pub matrix : VectorWithin (s .modulus) (limits .systemCoefficients) (s .rows * s .columns) (s .matrix)
-  pub right : VectorWithin (s .modulus) (limits .systemCoefficients) (s .rows) (s .right)
+  pub side : VectorWithin (s .modulus) (limits .systemCoefficients) (s .rows) (s .side)
 
 -- ---- written form: "A sheet is head, A row by row, b, end."
 
@@ -61,7 +61,7 @@ unfoldable pub headWord : Shape → ℕ
 headWord h = word 1 (h .modulus + h .rows * 65536 + h .columns * 1048576)
 
 abbrev pub systemEntries : System → List (List ℕ)
-systemEntries s = s .matrix ++ s .right
+systemEntries s = s .matrix ++ s .side
 
 unfoldable pub systemWords : System → List ℕ
 unfolding headWord framedWords polynomialsWords polynomialWords
@@ -75,15 +75,15 @@ headShape w = record { modulus = w % 65536; rows = w / 65536 % 16; columns = w /
 abbrev pub oneTo : ℕ → ℕ → Bool
 oneTo most n = leb 1 n && leb n most
 
-abbrev pub sized : Limits → Shape → Bool
-sized limits h = oneTo (limits .rows) (h .rows) && oneTo (limits .columns) (h .columns)
+abbrev pub countsWithin : Limits → Shape → Bool
+countsWithin limits h = oneTo (limits .rows) (h .rows) && oneTo (limits .columns) (h .columns)
 
 unfoldable pub systemHeadFrom : Limits → List ℕ → Reading Shape
 systemHeadFrom limits [] = fault 4 []  -- "An empty sheet is 4 at 0"
 systemHeadFrom limits (w ∷ ws) =
     turnBack (not (eqb (kind w) 1 && eqb (w / 16777216 % 16) 0)) 1 (w ∷ ws)  -- 1: kind not 1 or bits 24 to 27 not zero
     (turnBack (not (prime? (headShape w .modulus))) 2 (w ∷ ws)  -- 2: p not prime
-    (turnBack (not (sized limits (headShape w))) 3 (w ∷ ws)  -- 3: n or m outside 1 to 8
+    (turnBack (not (countsWithin limits (headShape w))) 3 (w ∷ ws)  -- 3: n or m outside 1 to 8
     (read (headShape w) ws)))
 
 -- what is due behind a head: A and b
@@ -97,7 +97,7 @@ systemOf v = record {
   rows = v .head .rows;
   columns = v .head .columns;
   matrix = take (v .head .rows * v .head .columns) (v .entries);
-  right = drop (v .head .rows * v .head .columns) (v .entries);
+  side = drop (v .head .rows * v .head .columns) (v .entries);
 }
 
 -- 4 to 9: in the body

@@ -12,7 +12,7 @@ use Rattle.words.specs.Outcome.Outcome.{accepted}
 use Rattle.words.specs.Reading.{outcome}
 use Rattle.words.specs.Polynomial.{Within}
 use Rattle.words.specs.Frame.{Framed}
-use Rattle.words.specs.System.{System, Shape, shape, entry, rightSide, ShapeWithin, SystemWithin, headWord, systemEntries}
+use Rattle.words.specs.System.{System, Shape, shape, entry, sideEntry, ShapeWithin, SystemWithin, headWord, systemEntries}
 use Rattle.words.specs.System.{systemWords, systemHeadFrom, systemDue, systemOf, systemFrom, readSystem}
 use Rattle.words.specs.LimitsLaws.{LimitsFit, systemCount-most, wordsFor-most, wordsFor-small}
 use Rattle.words.specs.VectorLaws.{all-at, vector-append, vector-take, vector-drop}
@@ -42,7 +42,7 @@ module _ (limits : Limits) where
   module _ (fit : LimitsFit limits) where
     system-parts : (s : System) → SystemWithin limits s → Parts systemFormat (systemFormat .apart s)
     system-parts s h =
-        record { valid = h .shape; entries = vector-append (s .modulus) (limits .systemCoefficients) (h .matrix) (h .right) }
+        record { valid = h .shape; entries = vector-append (s .modulus) (limits .systemCoefficients) (h .matrix) (h .side) }
 
     system-together : (f : Framed Shape) → Parts systemFormat f → SystemWithin limits (systemOf f)
     unfolding systemOf
@@ -52,16 +52,16 @@ module _ (limits : Limits) where
           shape = h .valid;
           matrix = vector-take (g .modulus) (limits .systemCoefficients) (g .rows * g .columns) (g .rows) (f .entries)
               (h .entries);
-          right = vector-drop (g .modulus) (limits .systemCoefficients) (g .rows * g .columns) (g .rows) (f .entries)
+          side = vector-drop (g .modulus) (limits .systemCoefficients) (g .rows * g .columns) (g .rows) (f .entries)
               (h .entries);
         }
 
     system-together-apart : (s : System) → SystemWithin limits s → systemOf (systemFormat .apart s) ≡ s
     unfolding systemOf
     system-together-apart s h =
-        ap₂ (λ (A b : List (List ℕ)). record { modulus = s .modulus; rows = s .rows; columns = s .columns; matrix = A; right = b })
-        (take-at (s .matrix) (s .right) (s .rows * s .columns) (h .matrix .count))
-        (drop-at (s .matrix) (s .right) (s .rows * s .columns) (h .matrix .count))
+        ap₂ (λ (A b : List (List ℕ)). record { modulus = s .modulus; rows = s .rows; columns = s .columns; matrix = A; side = b })
+        (take-at (s .matrix) (s .side) (s .rows * s .columns) (h .matrix .count))
+        (drop-at (s .matrix) (s .side) (s .rows * s .columns) (h .matrix .count))
 
     system-apart-together : (f : Framed Shape) → Parts systemFormat f → systemFormat .apart (systemOf f) ≡ f
     unfolding systemOf
@@ -126,5 +126,5 @@ module _ (limits : Limits) (s : System) (h : SystemWithin limits s) where
   pub entry-within : (i j : ℕ) → Within (s .modulus) (limits .systemCoefficients) (entry s i j)
   entry-within i j = all-at (s .modulus) (limits .systemCoefficients) (s .matrix) (h .matrix .entries) (i * s .columns + j)
 
-  pub rightSide-within : (i : ℕ) → Within (s .modulus) (limits .systemCoefficients) (rightSide s i)
-  rightSide-within i = all-at (s .modulus) (limits .systemCoefficients) (s .right) (h .right .entries) i
+  pub sideEntry-within : (i : ℕ) → Within (s .modulus) (limits .systemCoefficients) (sideEntry s i)
+  sideEntry-within i = all-at (s .modulus) (limits .systemCoefficients) (s .side) (h .side .entries) i

@@ -12,8 +12,8 @@ use Rattle.modular.specs.Prime.{prime?}
 use Rattle.words.specs.Limits.{Limits}
 use Rattle.words.specs.Word.{kind, payload}
 use Rattle.words.specs.Frame.{Due}
-use Rattle.words.specs.System.{Shape, headShape, sized, systemDue}
-use Rattle.words.specs.Certificate.{formOf, certificateDue}
+use Rattle.words.specs.System.{Shape, headShape, countsWithin, systemDue}
+use Rattle.words.specs.Certificate.{formWhen, certificateDue}
 
 -- ---- what is due
 
@@ -39,9 +39,9 @@ coefficientsDue p limit (suc more) left = coefficient p limit more left
 -- ---- the rows
 
 -- a row: its number where its condition holds, else what the rows below it say
-abbrev pub row : Bool → ℕ → Option ℕ → Option ℕ
-row true number below = some number
-row false number below = below
+abbrev pub tableRow : Bool → ℕ → Option ℕ → Option ℕ
+tableRow true number below = some number
+tableRow false number below = below
 
 -- of a sheet or a card: the rows for its head, and what a head says is due
 pub record HeadTable : Type 0 where
@@ -53,17 +53,17 @@ pub record HeadTable : Type 0 where
 unfoldable pub numberAt : HeadTable → (by : ℕ) → Expected → (count w : ℕ) → Option ℕ
 numberAt T by head count w = T .number w
 numberAt T by (start p limit left) count w =
-    row (not (eqb (kind w) 2)) (5 + by)  -- kind 2 due, another found
-    (row (ltb limit (payload w)) (6 + by)  -- more than 16 coefficients; on a card 121
+    tableRow (not (eqb (kind w) 2)) (5 + by)  -- kind 2 due, another found
+    (tableRow (ltb limit (payload w)) (6 + by)  -- more than 16 coefficients; on a card 121
     none)
 numberAt T by (coefficient p limit more left) count w =
-    row (not (eqb (kind w) 3)) (5 + by)  -- kind 3 due, another found
-    (row (leb p (payload w)) (7 + by)  -- coefficient p or more
-    (row (eqb more 0 && eqb (payload w) 0) (8 + by)  -- last coefficient 0
+    tableRow (not (eqb (kind w) 3)) (5 + by)  -- kind 3 due, another found
+    (tableRow (leb p (payload w)) (7 + by)  -- coefficient p or more
+    (tableRow (eqb more 0 && eqb (payload w) 0) (8 + by)  -- last coefficient 0
     none))
 numberAt T by end count w =
-    row (not (eqb (kind w) 4)) (5 + by)  -- kind 4 due, another found
-    (row (not (eqb (payload w) count)) (9 + by)  -- end payload wrong
+    tableRow (not (eqb (kind w) 4)) (5 + by)  -- kind 4 due, another found
+    (tableRow (not (eqb (payload w) count)) (9 + by)  -- end payload wrong
     none)
 numberAt T by nothing count w = some (9 + by)  -- words follow
 
@@ -117,18 +117,18 @@ pub data OnTable (lowest highest by : ℕ) (ws : List ℕ) (number place : ℕ) 
 -- 1: kind not 1 or bits 24 to 27 not zero; 2: p not prime; 3: n or m outside 1 to 8
 unfoldable pub systemHeadNumber : Limits → ℕ → Option ℕ
 systemHeadNumber limits w =
-    row (not (eqb (kind w) 1 && eqb (w / 16777216 % 16) 0)) 1
-    (row (not (prime? (headShape w .modulus))) 2
-    (row (not (sized limits (headShape w))) 3
+    tableRow (not (eqb (kind w) 1 && eqb (w / 16777216 % 16) 0)) 1
+    (tableRow (not (prime? (headShape w .modulus))) 2
+    (tableRow (not (countsWithin limits (headShape w))) 3
     none))
 
 -- 21: kind not 5 or payload not 1 or 2
 unfoldable pub certificateHeadNumber : ℕ → Option ℕ
-certificateHeadNumber w = row (not (eqb (kind w) 5 && (eqb (payload w) 1 || eqb (payload w) 2))) 21 none
+certificateHeadNumber w = tableRow (not (eqb (kind w) 5 && (eqb (payload w) 1 || eqb (payload w) 2))) 21 none
 
 abbrev pub systemTable : Limits → HeadTable
 systemTable limits = record { number = systemHeadNumber limits; due = λ w. systemDue limits (headShape w) }
 
 abbrev pub certificateTable : Limits → Shape → HeadTable
 certificateTable limits h =
-    record { number = certificateHeadNumber; due = λ w. certificateDue limits h (formOf (eqb (payload w) 1)) }
+    record { number = certificateHeadNumber; due = λ w. certificateDue limits h (formWhen (eqb (payload w) 1)) }

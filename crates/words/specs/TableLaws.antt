@@ -12,7 +12,7 @@ use Rattle.words.specs.Reading.{Reading, turnBack, andThen, renumber}
 use Rattle.words.specs.Reading.Reading.{read, fault}
 use Rattle.words.specs.Polynomial.{coefficientsFrom, polynomialFrom, polynomialsFrom}
 use Rattle.words.specs.Frame.{Due, Framed, nothingFrom, endFrom, bodyFrom, framedFrom}
-use Rattle.words.specs.Table.{Expected, HeadTable, row, polynomialsDue, coefficientsDue, numberAt, missingAt, after}
+use Rattle.words.specs.Table.{Expected, HeadTable, tableRow, polynomialsDue, coefficientsDue, numberAt, missingAt, after}
 use Rattle.words.specs.Table.Expected.{head, start, end, nothing}
 
 -- ---- the walk
@@ -51,7 +51,7 @@ forgotten-map (fault number ws) g = refl
 -- a row of a reader and a row of the table
 row-walk : {A B : Type 0} (by : ℕ) (b : Bool) (number : ℕ) (ws : List ℕ) (next : Reading A) (last : A → List ℕ → Reading B)
     (below : Option ℕ) (other : Reading B) → andThen (renumber by next) last ≡ turned below ws other
-    → andThen (renumber by (turnBack b number ws next)) last ≡ turned (row b (number + by) below) ws other
+    → andThen (renumber by (turnBack b number ws next)) last ≡ turned (tableRow b (number + by) below) ws other
 row-walk by true number ws next last below other h = refl
 row-walk by false number ws next last below other h = h
 

@@ -11,7 +11,7 @@ use Rattle.write_frame.specs.Values.{polynomialIn, polynomialsIn}
 use Rattle.write_frame.specs.ValuesLaws.{length-polynomialIn, polynomialsIn-cons}
 use Rattle.write_frame.proofs.Turns.{partOf, partOf-polynomial}
 use Rattle.write_frame.specs.Trial.{passed, refuseCoefficients, refusePolynomials}
-use Rattle.write_frame.specs.TrialLaws.{after, coefficients-first}
+use Rattle.write_frame.specs.TrialLaws.{nextAfter, coefficients-first}
 
 module _ (p limit stride by : ℕ) (sizes coefficients : List ℕ) (count : ℕ) where
   abbrev all : Outcome (Unit {0})
@@ -57,7 +57,7 @@ module _ (p limit stride by : ℕ) (sizes coefficients : List ℕ) (count : ℕ)
 
     module _ (few : size ≤ limit) (r : stride * k + limit ≤ length coefficients) where
       -- what the coefficients give comes first, then what follows
-      turn-same : all ≡ after (refuseCoefficients p by (place + 1) (partOf stride sizes coefficients k) passed)
+      turn-same : all ≡ nextAfter (refuseCoefficients p by (place + 1) (partOf stride sizes coefficients k) passed)
           (due (place + 1 + size) (k + 1))
       unfolding refusePolynomials
       turn-same =
@@ -66,14 +66,14 @@ module _ (p limit stride by : ℕ) (sizes coefficients : List ℕ) (count : ℕ)
           ∙ here
           ∙ simp (length-polynomialIn stride sizes coefficients k, le-ltb limit size few)
           (coefficients-first p by rest (place + 1) (polynomialIn stride sizes coefficients k)
-          ∙ ap (λ (f : List ℕ). after (refuseCoefficients p by (place + 1) f passed) rest)
+          ∙ ap (λ (f : List ℕ). nextAfter (refuseCoefficients p by (place + 1) f passed) rest)
           (sym (partOf-polynomial stride sizes coefficients k (omega arith))))
 
       pub polynomial-refused : (number at : ℕ)
           → refused number at ≡ refuseCoefficients p by (place + 1) (partOf stride sizes coefficients k) passed
           → refused number at ≡ all
       polynomial-refused number at e =
-          sym (turn-same ∙ ap (λ (o : Outcome (Unit {0})). after o (due (place + 1 + size) (k + 1))) (sym e))
+          sym (turn-same ∙ ap (λ (o : Outcome (Unit {0})). nextAfter o (due (place + 1 + size) (k + 1))) (sym e))
 
       pub polynomials-next : passed ≡ refuseCoefficients p by (place + 1) (partOf stride sizes coefficients k) passed
           → PolynomialsTried (place + 1 + size) (k + 1)
@@ -82,5 +82,5 @@ module _ (p limit stride by : ℕ) (sizes coefficients : List ℕ) (count : ℕ)
           record {
             within = omega arith;
             most = omega arith;
-            same = turn-same ∙ ap (λ (o : Outcome (Unit {0})). after o (due (place + 1 + size) (k + 1))) (sym e);
+            same = turn-same ∙ ap (λ (o : Outcome (Unit {0})). nextAfter o (due (place + 1 + size) (k + 1))) (sym e);
           }

@@ -7,7 +7,7 @@ use native.Mathlib.Omega.{arith}
 use lib.ListN.{length}
 use lib.Dec.{eqb, leb, ltb}
 use borrow.Author.Tests.{eqb-false, ne-eqb, lt-leb, le-ltb, leb-false, ltb-false}
-use Rattle.modular.specs.Canonical.{Ends, Canonical}
+use Rattle.modular.specs.Canonical.{LastNonzero, Canonical}
 use Rattle.words.specs.Outcome.{Outcome, refuse, followedBy}
 use Rattle.words.specs.Outcome.Outcome.{accepted, refused}
 use Rattle.words.specs.OutcomeLaws.{refuse-passed}
@@ -17,36 +17,36 @@ use Rattle.write_frame.specs.Trial.{passed, last?, refuseCoefficients, r
 -- ---- one thing tried after another
 
 -- what comes next, where nothing was refused before it
-abbrev pub after : {A : Type 0} → Outcome (Unit {0}) → Outcome A → Outcome A
-after tried next = followedBy tried (λ _. next)
+abbrev pub nextAfter : {A : Type 0} → Outcome (Unit {0}) → Outcome A → Outcome A
+nextAfter tried next = followedBy tried (λ _. next)
 
 module _ {A : Type 0} where
   after-after : (first second : Outcome (Unit {0})) (next : Outcome A)
-      → after first (after second next) ≡ after (after first second) next
+      → nextAfter first (nextAfter second next) ≡ nextAfter (nextAfter first second) next
   after-after (accepted u) second next = refl
   after-after (refused number place) second next = refl
 
   -- a row, and what is tried behind it
   pub refuse-after : (b : Bool) (number place : ℕ) (first : Outcome (Unit {0})) (next : Outcome A) {rest : Outcome A}
-      → rest ≡ after first next → refuse b number place rest ≡ after (refuse b number place first) next
+      → rest ≡ nextAfter first next → refuse b number place rest ≡ nextAfter (refuse b number place first) next
   refuse-after true number place first next e = refl
   refuse-after false number place first next e = e
 
 -- ---- polynomials
 
-ends-passed : (a : ℕ) (f : List ℕ) → last? f && eqb a 0 ≡ false → Ends a f
-unfolding Ends
+ends-passed : (a : ℕ) (f : List ℕ) → last? f && eqb a 0 ≡ false → LastNonzero a f
+unfolding LastNonzero
 ends-passed a [] e = let n = eqb-false a 0 e in omega arith
 ends-passed a (b ∷ f) e = tt
 
-ends-within : (a : ℕ) (f : List ℕ) → Ends a f → last? f && eqb a 0 ≡ false
-unfolding Ends
+ends-within : (a : ℕ) (f : List ℕ) → LastNonzero a f → last? f && eqb a 0 ≡ false
+unfolding LastNonzero
 ends-within a [] h = ne-eqb a 0 (λ e. omega arith)
 ends-within a (b ∷ f) h = refl
 
 module _ {A : Type 0} (p by : ℕ) (next : Outcome A) where
   pub coefficients-first : (place : ℕ) (f : List ℕ)
-      → refuseCoefficients p by place f next ≡ after (refuseCoefficients p by place f passed) next
+      → refuseCoefficients p by place f next ≡ nextAfter (refuseCoefficients p by place f passed) next
   unfolding refuseCoefficients
   coefficients-first place [] = refl
   coefficients-first place (a ∷ f) =
@@ -71,7 +71,7 @@ module _ {A : Type 0} (p by : ℕ) (next : Outcome A) where
 
 module _ {A : Type 0} (p limit by : ℕ) (next : Outcome A) where
   pub polynomials-first : (place : ℕ) (fs : List (List ℕ))
-      → refusePolynomials p limit by place fs next ≡ after (refusePolynomials p limit by place fs passed) next
+      → refusePolynomials p limit by place fs next ≡ nextAfter (refusePolynomials p limit by place fs passed) next
   unfolding refusePolynomials
   polynomials-first place [] = refl
   polynomials-first place (f ∷ fs) =
@@ -80,9 +80,9 @@ module _ {A : Type 0} (p limit by : ℕ) (next : Outcome A) where
       let rest = refusePolynomials p limit by behind fs passed in
       refuse-after (ltb limit (length f)) (6 + by) place (refuseCoefficients p by (place + 1) f rest) next
       (coefficients-first p by (refusePolynomials p limit by behind fs next) (place + 1) f
-      ∙ ap (after here) (polynomials-first behind fs)
+      ∙ ap (nextAfter here) (polynomials-first behind fs)
       ∙ after-after here rest next
-      ∙ ap (λ (o : Outcome (Unit {0})). after o next) (sym (coefficients-first p by rest (place + 1) f)))
+      ∙ ap (λ (o : Outcome (Unit {0})). nextAfter o next) (sym (coefficients-first p by rest (place + 1) f)))
 
   pub polynomials-passed : (place : ℕ) (fs : List (List ℕ)) {a : A} → refusePolynomials p limit by place fs next ≡ accepted a
       → AllWithin p limit fs × (next ≡ accepted a)

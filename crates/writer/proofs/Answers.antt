@@ -21,7 +21,7 @@ use Rattle.answers.specs.declared.answer.Counted.the-variants.{Count, Refused}
 use Rattle.write_frame.specs.declared.format.Format.{Format}
 use Rattle.writer.specs.Writing.{refuseShape, refuseRoom, lentAfter, Writes}
 use Rattle.write_frame.specs.Trial.{passed, refusePolynomials}
-use Rattle.write_frame.specs.TrialLaws.{after, polynomials-first, polynomials-passed}
+use Rattle.write_frame.specs.TrialLaws.{nextAfter, polynomials-first, polynomials-passed}
 use Rattle.writer.specs.WritingLaws.{shape-first}
 use Rattle.write_frame.specs.Values.{polynomialIn}
 use Rattle.write_frame.specs.ValuesLaws.{length-polynomialIn, getD-polynomialsIn}
@@ -35,18 +35,18 @@ writes-as {entry = entry} {exit = exit} {answer = answer} e = subst (λ (o : Out
 
 -- ---- a trial before the rest
 
-module _ (trial : Outcome (Unit {0})) (next outcome : Outcome (List ℕ)) (first : outcome ≡ after trial next) where
+module _ (trial : Outcome (Unit {0})) (next outcome : Outcome (List ℕ)) (first : outcome ≡ nextAfter trial next) where
   pub writes-refused : (entry : List ℕ) (r : Refusal) → refused (r .number) (r .place) ≡ trial
       → Writes outcome entry (Refused r) entry
   unfolding lentAfter
   writes-refused entry r e =
-      let o : outcome ≡ refused (r .number) (r .place) = first ∙ ap (λ (t : Outcome (Unit {0})). after t next) (sym e) in
+      let o : outcome ≡ refused (r .number) (r .place) = first ∙ ap (λ (t : Outcome (Unit {0})). nextAfter t next) (sym e) in
       record { told = sym (ap (mapped length) o); lent = sym (ap (λ (p : Outcome (List ℕ)). lentAfter p entry) o) }
 
   pub writes-passed : (entry exit : List ℕ) (answer : Counted) → passed ≡ trial → Writes next entry answer exit
       → Writes outcome entry answer exit
   writes-passed entry exit answer e w =
-      writes-as (first ∙ ap (λ (t : Outcome (Unit {0})). after t next) (sym e)) w
+      writes-as (first ∙ ap (λ (t : Outcome (Unit {0})). nextAfter t next) (sym e)) w
 
 -- ---- room
 
@@ -113,7 +113,7 @@ module _ (format : Format) (p : ℕ) (sizes coefficients : List ℕ) where
     abbrev rest : Outcome (List ℕ)
     rest = refuseRoom (format .longest) (length lent) (accepted (framedWords (format .head) entries))
 
-    trial-first : all ≡ after trial rest
+    trial-first : all ≡ nextAfter trial rest
     trial-first = polynomials-first p (format .limit) (format .by) rest 1 entries
 
     pub values-refused : (r : Refusal) → refused (r .number) (r .place) ≡ trial → Writes all lent (Refused r) lent

@@ -16,7 +16,7 @@ use Rattle.write_frame.specs.Framing.{Covers}
 use Rattle.writer.specs.declared.format.Kind.{Kind}
 use Rattle.writer.specs.declared.format.Kind.the-variants as kind
 use Rattle.writer.specs.Values.{certificateStride}
-use Rattle.writer.specs.Formats.{systemFormat, certificateFormat, formatOf, mostOf, strideOf}
+use Rattle.writer.specs.Formats.{systemFrame, certificateFrame, formatOf, mostOf, strideOf}
 
 -- what writing values asks
 abbrev pub Ready : Format → ℕ → List ℕ → List ℕ → Type 0
@@ -47,14 +47,14 @@ module _ (limits : Limits) (fit : LimitsFit limits) (h : Shape) (within : ShapeW
   kind-ready kind.System sizes coefficients apart s c =
       let x = system-expressible limits fit h within in
       let few = systemCount-most (within .rows .1) (within .columns .1) in (
-        covers (systemFormat limits h) _ sizes coefficients few s c (omega arith) (x .words) (omega arith),
+        covers (systemFrame limits h) _ sizes coefficients few s c (omega arith) (x .words) (omega arith),
         x .modulus,
         wordsFor-most (limits .systemCoefficients) few,
       )
   kind-ready (kind.Certificate form) sizes coefficients apart s c =
       let x = certificate-expressible limits h fit within (formOf form) tt in
       let few = entryCount-most limits h fit within (formOf form) in (
-        covers (certificateFormat limits h (formOf form)) _ sizes coefficients few s c apart (x .words) (omega arith),
+        covers (certificateFrame limits h (formOf form)) _ sizes coefficients few s c apart (x .words) (omega arith),
         x .modulus,
         wordsFor-most (limits .certificateCoefficients) few,
       )

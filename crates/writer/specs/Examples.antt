@@ -12,18 +12,18 @@ use Rattle.words.specs.Certificate.Certificate.{solution, absence}
 use Rattle.words.specs.Certificate.Form.{solving}
 use Rattle.modular.specs.Prime.{prime?}
 use Rattle.writer.specs.Writing.{writeSystem, writeCertificate, lentAfter}
-use Rattle.writer.specs.Values.{shapeWith, systemIn, certificateIn}
+use Rattle.writer.specs.Values.{shapeWith, systemInArrays, certificateIn}
 
 -- ---- case 1: p = 2, A = (x), b = 1
 
 system1 : System
-system1 = record { modulus = 2; rows = 1; columns = 1; matrix = (0 ∷ 1 ∷ []) ∷ []; right = (1 ∷ []) ∷ [] }
+system1 = record { modulus = 2; rows = 1; columns = 1; matrix = (0 ∷ 1 ∷ []) ∷ []; side = (1 ∷ []) ∷ [] }
 
 certificate1 : Certificate
 certificate1 = solution (0 ∷ 1 ∷ []) ((1 ∷ []) ∷ []) (0 ∷ 1 ∷ []) ((1 ∷ []) ∷ [])
 
-system1-in : systemIn office (shapeWith 2 1 1) (2 ∷ 1 ∷ []) (0 ∷ 1 ∷ replicate 14 0 ++ 1 ∷ []) ≡ system1
-unfolding systemIn system1
+system1-in : systemInArrays office (shapeWith 2 1 1) (2 ∷ 1 ∷ []) (0 ∷ 1 ∷ replicate 14 0 ++ 1 ∷ []) ≡ system1
+unfolding systemInArrays system1
 system1-in = refl
 
 -- beyond an array there is 0: two zero polynomials
@@ -63,7 +63,7 @@ lent-refused = refl
 -- ---- refusals of a system of n rows and one column, with one polynomial of A and one of b
 
 refusedOf : ℕ → ℕ → ℕ → List ℕ → List ℕ → Outcome (List ℕ)
-refusedOf lent p n f g = writeSystem office lent (record { modulus = p; rows = n; columns = 1; matrix = f ∷ []; right = g ∷ [] })
+refusedOf lent p n f g = writeSystem office lent (record { modulus = p; rows = n; columns = 1; matrix = f ∷ []; side = g ∷ [] })
 
 -- 2 before 3; 3; 6; 7; 8; 7 in b; the first of two faults; 11; a fault before 11
 systems-refused : refusedOf 1226 4 9 [] []

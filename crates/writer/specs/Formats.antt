@@ -15,7 +15,7 @@ use Rattle.write_frame.specs.Trial.{refusePolynomials}
 use Rattle.writer.specs.declared.format.Kind.{Kind}
 use Rattle.writer.specs.declared.format.Kind.the-variants as kind
 use Rattle.writer.specs.Writing.{refuseShape, refuseRoom, writeSystem, writeCertificate}
-use Rattle.writer.specs.Values.{systemIn, certificateIn, certificateStride}
+use Rattle.writer.specs.Values.{systemInArrays, certificateIn, certificateStride}
 use Rattle.writer.specs.ValuesLaws.{systemIn-entries, certificateIn-entries, certificateIn-form}
 
 -- all that is tried of the polynomials in arrays, in order, and their words
@@ -25,8 +25,8 @@ writeFramed format p lent sizes coefficients =
     (refuseRoom (format .longest) lent
     (accepted (framedWords (format .head) (entriesIn format sizes coefficients))))
 
-abbrev pub systemFormat : Limits → Shape → Format
-systemFormat limits h = record {
+abbrev pub systemFrame : Limits → Shape → Format
+systemFrame limits h = record {
   head = headWord h;
   count = systemCount (h .rows) (h .columns);
   limit = limits .systemCoefficients;
@@ -35,8 +35,8 @@ systemFormat limits h = record {
   longest = longestSystem limits;
 }
 
-abbrev pub certificateFormat : Limits → Shape → Form → Format
-certificateFormat limits h form = record {
+abbrev pub certificateFrame : Limits → Shape → Form → Format
+certificateFrame limits h form = record {
   head = formWord form;
   count = entryCount h form;
   limit = limits .certificateCoefficients;
@@ -47,8 +47,8 @@ certificateFormat limits h form = record {
 
 -- of what is written: the format, the most polynomials, and how far apart they lie
 abbrev pub formatOf : Limits → Shape → Kind → Format
-formatOf limits h kind.System = systemFormat limits h
-formatOf limits h (kind.Certificate form) = certificateFormat limits h (formOf form)
+formatOf limits h kind.System = systemFrame limits h
+formatOf limits h (kind.Certificate form) = certificateFrame limits h (formOf form)
 
 abbrev pub mostOf : Limits → Kind → ℕ
 mostOf limits kind.System = systemCount (limits .rows) (limits .columns)
@@ -59,9 +59,9 @@ strideOf limits kind.System = limits .systemCoefficients
 strideOf limits (kind.Certificate form) = certificateStride
 
 module _ (limits : Limits) (h : Shape) (sizes coefficients : List ℕ) (lent : ℕ) where
-  pub system-framed : writeSystem limits lent (systemIn limits h sizes coefficients)
-      ≡ refuseShape limits h (writeFramed (systemFormat limits h) (h .modulus) lent sizes coefficients)
-  unfolding writeSystem systemWords systemIn
+  pub system-framed : writeSystem limits lent (systemInArrays limits h sizes coefficients)
+      ≡ refuseShape limits h (writeFramed (systemFrame limits h) (h .modulus) lent sizes coefficients)
+  unfolding writeSystem systemWords systemInArrays
   system-framed =
       ap (λ (fs : List (List ℕ)). refuseShape limits h
       (refusePolynomials (h .modulus) (limits .systemCoefficients) 0 1 fs
@@ -70,7 +70,7 @@ module _ (limits : Limits) (h : Shape) (sizes coefficients : List ℕ) (lent : �
       (systemIn-entries limits h sizes coefficients)
 
   pub certificate-framed : (form : Form) → writeCertificate limits lent h (certificateIn h form sizes coefficients)
-      ≡ refuseShape limits h (writeFramed (certificateFormat limits h form) (h .modulus) lent sizes coefficients)
+      ≡ refuseShape limits h (writeFramed (certificateFrame limits h form) (h .modulus) lent sizes coefficients)
   unfolding writeCertificate certificateWords
   certificate-framed form =
       ap₂ (λ (head : Form) (fs : List (List ℕ)). refuseShape limits h

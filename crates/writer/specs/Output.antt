@@ -23,8 +23,8 @@ abbrev pub sizeIn : List ℕ → ℕ → ℕ
 sizeIn words k = sizeFrom words (certificateStride * k) (office .certificateCoefficients)
 
 -- of the first so many polynomials
-abbrev pub Sized : List ℕ → List ℕ → ℕ → Type 0
-Sized words sizes count = (k : ℕ) → k < count → getD sizes k 0 ≡ sizeIn words k
+abbrev pub SizesTaken : List ℕ → List ℕ → ℕ → Type 0
+SizesTaken words sizes count = (k : ℕ) → k < count → getD sizes k 0 ≡ sizeIn words k
 
 abbrev pub polynomialOf : List ℕ → ℕ → List ℕ
 polynomialOf words k = numbersFrom words (certificateStride * k) (sizeIn words k)

@@ -8,8 +8,9 @@ use mathlib.Core.Logic.{⊎-elim}
 use mathlib.Core.List.{List, _∷_}
 use lib.ListN.{length, getD, set}
 use lib.Seq.{getD-set-same, getD-set-other}
+use Rattle.limits.specs.Counts.{certificatePolynomials}
 use Rattle.words.specs.Word.{AllBelow}
-use Rattle.words.specs.Limits.{office, wordsFor}
+use Rattle.words.specs.Limits.{office, wordsFor, longestCertificate}
 use Rattle.words.specs.System.{Shape}
 use Rattle.words.specs.Frame.{framedWords}
 use Rattle.words.specs.Certificate.{Form, formWord, entryCount}
@@ -19,8 +20,8 @@ use Rattle.write_frame.specs.Values.{numbersFrom, polynomialIn, polynomialsIn}
 use Rattle.write_frame.specs.ValuesLaws.{numbersFrom-below}
 use Rattle.write_frame.specs.Framing.{Covers, Writable, Wrote, entriesIn}
 use Rattle.writer.specs.Values.{certificateStride}
-use Rattle.writer.specs.Formats.{certificateFormat}
-use Rattle.writer.specs.Output.{upTo, sizeFrom, sizeIn, Sized, polynomialsOf}
+use Rattle.writer.specs.Formats.{certificateFrame}
+use Rattle.writer.specs.Output.{upTo, sizeFrom, sizeIn, SizesTaken, polynomialsOf}
 
 -- ---- sizes
 
@@ -80,8 +81,8 @@ module _ (words : List ℕ) (at : ℕ) where
 
 -- ---- sizes in an array
 
-pub sized-next : (words sizes : List ℕ) (k size : ℕ) → Sized words sizes k → k < length sizes → size ≡ sizeIn words k
-    → Sized words (set sizes k size) (k + 1)
+pub sized-next : (words sizes : List ℕ) (k size : ℕ) → SizesTaken words sizes k → k < length sizes → size ≡ sizeIn words k
+    → SizesTaken words (set sizes k size) (k + 1)
 sized-next words sizes k size before room e i lt =
     ⊎-elim
     (λ same.
@@ -89,7 +90,7 @@ sized-next words sizes k size before room e i lt =
     (λ less. getD-set-other sizes k i size 0 (λ e. omega arith) ∙ before i less)
     (eq-or-lt-of-le (let l : i ≤ k = omega arith in l))
 
-polynomials-sized : (words sizes : List ℕ) (count : ℕ) → Sized words sizes count → (k n : ℕ) → k + n ≤ count
+polynomials-sized : (words sizes : List ℕ) (count : ℕ) → SizesTaken words sizes count → (k n : ℕ) → k + n ≤ count
     → polynomialsIn certificateStride sizes words k n ≡ polynomialsOf words k n
 unfolding polynomialIn polynomialsIn polynomialsOf
 polynomials-sized words sizes count sized k zero h = refl
@@ -102,24 +103,24 @@ polynomials-sized words sizes count sized k (suc n) h =
 -- ---- the format that code computed
 
 module _ (h : Shape) (rows : h .rows ≤ office .rows) (columns : h .columns ≤ office .columns) (form : Form) {format : Format}
-    (is : format ≡ certificateFormat office h form) where
-  entries-few : (form : Form) → entryCount h form ≤ 18
+    (is : format ≡ certificateFrame office h form) where
+  entries-few : (form : Form) → entryCount h form ≤ certificatePolynomials
   unfolding entryCount
   entries-few solving = omega arith
   entries-few absent = omega arith
 
-  pub format-few : format .count ≤ 18
-  format-few = subst (λ (f : Format). f .count ≤ 18) (sym is) (entries-few form)
+  pub format-few : format .count ≤ certificatePolynomials
+  format-few = subst (λ (f : Format). f .count ≤ certificatePolynomials) (sym is) (entries-few form)
 
-  module _ (words sizes : List ℕ) (sized : Sized words sizes (format .count)) where
+  module _ (words sizes : List ℕ) (sized : SizesTaken words sizes (format .count)) where
     abbrev Ready : ℕ → Format → Type 0
     Ready lent f = Covers f sizes words × Writable f sizes words × (wordsFor (f .count) (f .limit) ≤ lent)
 
-    pub output-ready : length sizes ≡ 18 → length words ≡ 2304 → AllBelow 268435456 words → {lent : ℕ} → 2198 ≤ lent
-        → Ready lent format
+    pub output-ready : length sizes ≡ certificatePolynomials → length words ≡ certificateStride * certificatePolynomials
+        → AllBelow 268435456 words → {lent : ℕ} → longestCertificate office ≤ lent → Ready lent format
     unfolding polynomialIn
     output-ready s w below {lent} room =
-        subst (λ (f : Format). Sized words sizes (f .count) → Ready lent f) (sym is)
+        subst (λ (f : Format). SizesTaken words sizes (f .count) → Ready lent f) (sym is)
         (λ sized.
         let few = entries-few form in (
           record { sized = omega arith; roomy = omega arith; apart = omega arith; short = omega arith; number = omega arith },
@@ -137,7 +138,7 @@ module _ (h : Shape) (rows : h .rows ≤ office .rows) (columns : h .columns ≤
     output-wrote {entry} {exit} {n} =
         subst
         (λ (f : Format).
-        Sized words sizes (f .count)
+        SizesTaken words sizes (f .count)
         → Wrote (framedWords (f .head) (entriesIn f sizes words)) entry exit n
         → Wrote (framedWords (formWord form) (polynomialsOf words 0 (entryCount h form))) entry exit n)
         (sym is)

@@ -13,14 +13,14 @@ abbrev pub shapeWith : ℕ → ℕ → ℕ → Shape
 shapeWith p n m = record { modulus = p; rows = n; columns = m }
 
 -- "A row by row, b"
-unfoldable pub systemIn : Limits → Shape → List ℕ → List ℕ → System
+unfoldable pub systemInArrays : Limits → Shape → List ℕ → List ℕ → System
 unfolding polynomialsIn
-systemIn limits h sizes coefficients = record {
+systemInArrays limits h sizes coefficients = record {
   modulus = h .modulus;
   rows = h .rows;
   columns = h .columns;
   matrix = polynomialsIn (limits .systemCoefficients) sizes coefficients 0 (h .rows * h .columns);
-  right = polynomialsIn (limits .systemCoefficients) sizes coefficients (h .rows * h .columns) (h .rows);
+  side = polynomialsIn (limits .systemCoefficients) sizes coefficients (h .rows * h .columns) (h .rows);
 }
 
 -- how far apart the polynomials of a certificate lie: as the solver leaves them

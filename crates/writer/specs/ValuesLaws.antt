@@ -9,16 +9,16 @@ use Rattle.words.specs.Certificate.{Form, certificateForm, certificateEntries, 
 use Rattle.words.specs.Certificate.Form.{solving, absent}
 use Rattle.write_frame.specs.Values.{polynomialIn, polynomialsIn}
 use Rattle.write_frame.specs.ValuesLaws.{polynomialsIn-append}
-use Rattle.writer.specs.Values.{systemIn, certificateIn, certificateStride}
+use Rattle.writer.specs.Values.{systemInArrays, certificateIn, certificateStride}
 
 module _ (limits : Limits) (h : Shape) (sizes coefficients : List ℕ) where
-  pub systemIn-shape : shape (systemIn limits h sizes coefficients) ≡ h
-  unfolding systemIn
+  pub systemIn-shape : shape (systemInArrays limits h sizes coefficients) ≡ h
+  unfolding systemInArrays
   systemIn-shape = refl
 
-  pub systemIn-entries : systemEntries (systemIn limits h sizes coefficients)
+  pub systemIn-entries : systemEntries (systemInArrays limits h sizes coefficients)
       ≡ polynomialsIn (limits .systemCoefficients) sizes coefficients 0 (systemCount (h .rows) (h .columns))
-  unfolding systemIn
+  unfolding systemInArrays
   systemIn-entries =
       let room = limits .systemCoefficients in
       let A = h .rows * h .columns in

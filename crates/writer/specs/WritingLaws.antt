@@ -15,7 +15,7 @@ use Rattle.words.specs.System.{Shape, ShapeWithin, oneTo}
 use Rattle.words.specs.ReadingLaws.{and-passed}
 use Rattle.words.specs.SystemHeadLaws.{oneTo-true, oneTo-from}
 use Rattle.write_frame.specs.Trial.{passed}
-use Rattle.write_frame.specs.TrialLaws.{after, refuse-after}
+use Rattle.write_frame.specs.TrialLaws.{nextAfter, refuse-after}
 use Rattle.writer.specs.Writing.{refuseShape}
 
 or-passed : (a b : Bool) → a || b ≡ false → (a ≡ false) × (b ≡ false)
@@ -30,7 +30,7 @@ module _ {A : Type 0} (limits : Limits) (h : Shape) (next : Outcome A) where
   abbrev outside : Bool
   outside = not (oneTo (limits .rows) (h .rows) && oneTo (limits .columns) (h .columns))
 
-  pub shape-first : refuseShape limits h next ≡ after (refuseShape limits h passed) next
+  pub shape-first : refuseShape limits h next ≡ nextAfter (refuseShape limits h passed) next
   shape-first = refuse-after notPrime 2 0 (refuse outside 3 0 passed) next (refuse-after outside 3 0 passed next refl)
 
   pub shape-passed : {a : A} → refuseShape limits h next ≡ accepted a → ShapeWithin limits h × (next ≡ accepted a)

@@ -26,7 +26,7 @@ use Rattle.write_frame.specs.Trial.{refusePolynomials}
 use Rattle.write_frame.specs.TrialLaws.{polynomials-passed, polynomials-within}
 use Rattle.writer.specs.Writing.{refuseShape, refuseRoom, writeSystem, writeCertificate, lentAfter, Writes}
 use Rattle.writer.specs.WritingLaws.{shape-passed, shape-within}
-use Rattle.writer.specs.Values.{systemIn, certificateIn, certificateStride}
+use Rattle.writer.specs.Values.{systemInArrays, certificateIn, certificateStride}
 
 -- ---- both writers
 
@@ -73,19 +73,19 @@ module _ (limits : Limits) (lent : ℕ) where
 
   module _ (h : Shape) (sizes coefficients : List ℕ) where
     abbrev system : System
-    system = systemIn limits h sizes coefficients
+    system = systemInArrays limits h sizes coefficients
 
     pub system-accepted : (ws : List ℕ) → writeSystem limits lent system ≡ accepted ws
         → SystemWithin limits system × (systemWords system ≡ ws)
-    unfolding writeSystem systemIn
+    unfolding writeSystem systemInArrays
     system-accepted ws e =
         let limit = limits .systemCoefficients in
         let w = write-accepted limits h limit 0 (longestSystem limits) lent (systemEntries system) (systemWords system) ws e in
-        let each = all-split (h .modulus) limit (system .matrix) (system .right) (w .entries) in (
+        let each = all-split (h .modulus) limit (system .matrix) (system .side) (w .entries) in (
           record {
             shape = w .shape;
             matrix = record { entries = each .0; count = length-polynomialsIn limit sizes coefficients _ _ };
-            right = record { entries = each .1; count = length-polynomialsIn limit sizes coefficients _ _ };
+            side = record { entries = each .1; count = length-polynomialsIn limit sizes coefficients _ _ };
           },
           w .form,
         )
@@ -167,8 +167,8 @@ count-words (accepted ws) {entry} {exit} {n} w =
 count-words (refused number place) w = absurd (let t = w .told in let z : _≡_ {A = ℕ} 0 1 = cc in omega arith)
 
 module _ (limits : Limits) (fit : LimitsFit limits) (h : Shape) (sizes coefficients : List ℕ) {entry exit : List ℕ} {n : ℕ} where
-  pub system-call-is-read : Writes (writeSystem limits (length entry) (systemIn limits h sizes coefficients)) entry (Count n) exit
-      → readSystem limits (take n exit) ≡ accepted (systemIn limits h sizes coefficients)
+  pub system-call-is-read : Writes (writeSystem limits (length entry) (systemInArrays limits h sizes coefficients)) entry (Count n) exit
+      → readSystem limits (take n exit) ≡ accepted (systemInArrays limits h sizes coefficients)
   system-call-is-read w = system-written-is-read limits (length entry) h sizes coefficients fit (take n exit) (count-words _ w)
 
   pub certificate-call-is-read : (form : Form)

@@ -1,10 +1,10 @@
 // The writer of certificates.
-use crate::format::CERTIFICATE_POLYNOMIALS;
 use crate::format::CERTIFICATE_VALUES;
 use crate::format::Kind;
 use crate::values::write_shaped;
 use answers::Counted;
 use answers::Form;
+use limits::Office;
 ghost use lib.ListN.{length};
 ghost use Rattle.words.specs.Limits.{office};
 ghost use Rattle.answers.specs.Answer.{formOf};
@@ -15,7 +15,7 @@ ghost use Rattle.writer.specs.Values.{shapeWith, certificateIn};
 // of q, has `sizes[k]` coefficients, lowest power first, from `coefficients[STRIDE * k]` on.
 pub fn write_certificate(
     words: &mut [u32],
-    sizes: &[usize; CERTIFICATE_POLYNOMIALS],
+    sizes: &[usize; Office::CERTIFICATE_POLYNOMIALS],
     coefficients: &[u64; CERTIFICATE_VALUES],
     form: Form,
     rows: u32,

@@ -8,7 +8,7 @@ ghost use Rattle.words.specs.Limits.{office};
 ghost use Rattle.words.specs.System.{ShapeWithin};
 ghost use Rattle.answers.specs.Answer.{formOf};
 ghost use Rattle.writer.specs.Values.{shapeWith};
-ghost use Rattle.writer.specs.Formats.{certificateFormat, formatOf};
+ghost use Rattle.writer.specs.Formats.{certificateFrame, formatOf};
 
 // What is written.
 pub enum Kind {
@@ -19,23 +19,19 @@ pub enum Kind {
 // Refusals 26 to 28 are 6 to 8, on the certificate.
 const BY: u8 = 20;
 
-// The most polynomials of a system, and the words of the array that hands them over.
-pub const SYSTEM_POLYNOMIALS: usize = 72;
+// The words of the array that hands over the polynomials of a system.
+pub const SYSTEM_VALUES: usize = Office::COEFFICIENTS as usize * Office::SYSTEM_POLYNOMIALS;
 
-pub const SYSTEM_VALUES: usize = 16 * SYSTEM_POLYNOMIALS;
-
-// The most polynomials of a certificate, and the words of the array that hands them over: polynomial k has its coefficients from
-// the place STRIDE * k on.
-pub const CERTIFICATE_POLYNOMIALS: usize = 18;
-
+// The words of the array that hands over the polynomials of a certificate: polynomial k has its coefficients from the place
+// STRIDE * k on.
 pub const STRIDE: usize = 128;
 
-pub const CERTIFICATE_VALUES: usize = STRIDE * CERTIFICATE_POLYNOMIALS;
+pub const CERTIFICATE_VALUES: usize = STRIDE * Office::CERTIFICATE_POLYNOMIALS;
 
 // Returns the format of certificates for systems of `rows` rows and `columns` columns; p does not matter.
 pub fn certificate_format(form: Form, rows: u32, columns: u32) -> Format
     requires { ⌜ (rows ≤ office .rows) × (columns ≤ office .columns) ⌝ }
-    ensures { λ r. ⌜ ((p : ℕ) → r ≡ certificateFormat office (shapeWith p rows columns) (formOf form)) ⌝ }
+    ensures { λ r. ⌜ ((p : ℕ) → r ≡ certificateFrame office (shapeWith p rows columns) (formOf form)) ⌝ }
 {
     match form {
         Form::Solution => Format {

@@ -1,6 +1,5 @@
 // A certificate as the solver leaves it: polynomial k has its coefficients, at most 121, from the word STRIDE * k on, and no size
 // beside them.
-use crate::format::CERTIFICATE_POLYNOMIALS;
 use crate::format::CERTIFICATE_VALUES;
 use crate::format::STRIDE;
 use crate::format::certificate_format;
@@ -11,17 +10,18 @@ use write_frame::frame::write_framed;
 ghost use mathlib.Core.Path.{_≡_};
 ghost use Prim.Native.Nat.{_≤_, _<_};
 ghost use lib.ListN.{length};
+ghost use Rattle.limits.specs.Counts.{certificatePolynomials};
 ghost use Rattle.words.specs.Limits.{office, longestCertificate};
 ghost use Rattle.words.specs.Word.{AllBelow};
 ghost use Rattle.words.specs.Frame.{framedWords};
 ghost use Rattle.words.specs.Certificate.{formWord, entryCount};
 ghost use Rattle.answers.specs.Answer.{shapeOf, formOf};
 ghost use Rattle.write_frame.specs.Framing.{Wrote};
-ghost use Rattle.writer.specs.Output.{sizeIn, Sized, polynomialsOf};
+ghost use Rattle.writer.specs.Output.{sizeIn, SizesTaken, polynomialsOf};
 
 // Returns the number of the coefficients of polynomial k: zeros at the end do not count.
 pub fn size_of(output: &[u64; CERTIFICATE_VALUES], k: usize) -> usize
-    requires { ⌜ k < 18 ⌝ }
+    requires { ⌜ k < certificatePolynomials ⌝ }
     ensures { λ r. ⌜ r ≡ sizeIn (now (output .entry)) k ⌝ }
 {
     let mut size = Office::CERTIFICATE_COEFFICIENTS as usize;
@@ -36,12 +36,12 @@ pub fn size_of(output: &[u64; CERTIFICATE_VALUES], k: usize) -> usize
 
 // Stores the sizes of the first `count` polynomials.
 fn store_sizes(
-    sizes: &mut [usize; CERTIFICATE_POLYNOMIALS],
+    sizes: &mut [usize; Office::CERTIFICATE_POLYNOMIALS],
     output: &[u64; CERTIFICATE_VALUES],
     count: usize,
 )
-    requires { ⌜ (count ≤ 18) × (length (now sizes) ≡ 18) ⌝ }
-    ensures { λ _. ⌜ Sized (now (output .entry)) (now (sizes .exit)) count × (length (now (sizes .exit)) ≡ 18) ⌝ }
+    requires { ⌜ (count ≤ certificatePolynomials) × (length (now sizes) ≡ certificatePolynomials) ⌝ }
+    ensures { λ _. ⌜ SizesTaken (now (output .entry)) (now (sizes .exit)) count × (length (now (sizes .exit)) ≡ certificatePolynomials) ⌝ }
 {
     let mut k: usize = 0;
     while k < count {
@@ -66,7 +66,7 @@ pub fn write_output(
 {
     let format = certificate_format(form, shape.rows as u32, shape.columns as u32);
     let count = format.count;
-    let mut sizes = [0usize; CERTIFICATE_POLYNOMIALS];
+    let mut sizes = [0usize; Office::CERTIFICATE_POLYNOMIALS];
     store_sizes(&mut sizes, output, count);
     write_framed(words, &sizes, output, format)
 }

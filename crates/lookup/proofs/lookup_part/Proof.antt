@@ -6,8 +6,8 @@ use Rattle.answers.specs.Answer.{shapeOf, formOf, systemOutcome, certificateOut
 use Rattle.limits.specs.Value.{limitsOf}
 use Prim.Native.Nat.{ℕ}
 use Rattle.lookup.specs.Lookup.{on, shown, polynomialLookup, boundsShown}
-use Rattle.lookup.specs.Answer.{sideOf, partOutcome}
-use Rattle.lookup.specs.Holding.{Holds, Holding}
+use Rattle.lookup.specs.Answer.{sideAsked, partOutcome}
+use Rattle.lookup.specs.Holding.{HasPolynomials, Holding}
 use Rattle.lookup.specs.declared.Side.{Side}
 use Rattle.lookup.specs.declared.part.Part.{Part}
 use Rattle.lookup.proofs.FindSteps.{find-system-refused, find-certificate-refused, find-holding, find-part}
@@ -27,27 +27,27 @@ module _ (f : tie.After-enum-told) where
   start = r .before .before .before
 
   abbrev of-side : Side → List ℕ
-  of-side side = on (sideOf side) (start .args .system .now) (start .args .certificate .now)
+  of-side side = on (sideAsked side) (start .args .system .now) (start .args .certificate .now)
 
   holding : (side : Side) → start .args .side ≡ side → Holding (of-side side)
   holding side is =
       let a = start .args in
       let e = y .before .before .read .given in
       let g = f .enum-told .given in
-      find-holding (limitsOf (a .limits)) (a .system .now) (a .certificate .now) (sideOf (a .side)) (a .number)
+      find-holding (limitsOf (a .limits)) (a .system .now) (a .certificate .now) (sideAsked (a .side)) (a .number)
       (shapeOf (e .0 .0)) (ap systemOutcome (sym (e .1)) ∙ r .read-system .ensures)
       (formOf (g .0 .0)) (ap certificateOutcome (sym (g .1)) ∙ y .read-certificate .ensures)
       (omega (arith, start .good)) (omega (arith, start .good)) (of-side side) (ap of-side (sym is))
 
   tells : (side : Side) → start .args .side ≡ side → (part : Part)
-      → ((fs : List (List ℕ)) → Holds (of-side side) fs → partOutcome part ≡ boundsShown (shown (start .args .number) fs))
+      → ((fs : List (List ℕ)) → HasPolynomials (of-side side) fs → partOutcome part ≡ boundsShown (shown (start .args .number) fs))
       → partOutcome part ≡ boundsShown (polynomialLookup (limitsOf (start .args .limits)) (start .args .system .now)
-      (start .args .certificate .now) (sideOf (start .args .side)) (start .args .number))
+      (start .args .certificate .now) (sideAsked (start .args .side)) (start .args .number))
   tells side is =
       let a = start .args in
       let e = y .before .before .read .given in
       let g = f .enum-told .given in
-      find-part (limitsOf (a .limits)) (a .system .now) (a .certificate .now) (sideOf (a .side)) (a .number)
+      find-part (limitsOf (a .limits)) (a .system .now) (a .certificate .now) (sideAsked (a .side)) (a .number)
       (shapeOf (e .0 .0)) (ap systemOutcome (sym (e .1)) ∙ r .read-system .ensures)
       (formOf (g .0 .0)) (ap certificateOutcome (sym (g .1)) ∙ y .read-certificate .ensures)
       (omega (arith, start .good)) (omega (arith, start .good)) (of-side side) (ap of-side (sym is))
@@ -75,7 +75,7 @@ returns-3 c =
     let a = r .before .before .before .args in
     let e = y .before .before .read .given in
     let g = c .before .read2 .given in
-    find-certificate-refused (limitsOf (a .limits)) (a .system .now) (a .certificate .now) (sideOf (a .side)) (a .number)
+    find-certificate-refused (limitsOf (a .limits)) (a .system .now) (a .certificate .now) (sideAsked (a .side)) (a .number)
     (shapeOf (e .0 .0)) (ap systemOutcome (sym (e .1)) ∙ r .read-system .ensures) _
     (ap certificateOutcome (sym (g .1)) ∙ y .read-certificate .ensures)
 
@@ -84,7 +84,7 @@ returns-4 c =
     let r = c .before .before .before in
     let a = r .before .before .before .args in
     let e = c .before .read3 .given in
-    find-system-refused (limitsOf (a .limits)) (a .system .now) (a .certificate .now) (sideOf (a .side)) (a .number) _
+    find-system-refused (limitsOf (a .limits)) (a .system .now) (a .certificate .now) (sideAsked (a .side)) (a .number) _
     (ap systemOutcome (sym (e .1)) ∙ r .read-system .ensures)
 
 pub lookup-part-spec : {M : Type 1} → statement M

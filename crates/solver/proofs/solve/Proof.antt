@@ -1,5 +1,7 @@
 -- The reader's refusals, then 11; else what `solve_read` gives (`Reading`).
+use Prim.Native.Nat.{ℕ}
 use mathlib.Core.Path.{refl, ap}
+use Rattle.words.specs.Limits.{office, longestCertificate}
 use Rattle.words.specs.Certificate.{certificateWords}
 use Rattle.answers.specs.Answer.{systemOutcome}
 use Rattle.solver.proofs.Reading.{was-read, was-refused, solves-refused, solves-short, solves-given}
@@ -7,13 +9,17 @@ use borrow.Author.Needs.{needs}
 use Rattle.solver.proofs.solve.Statement.{statement}
 use Rattle.solver.proofs.solve.Tie as tie
 
+-- words of the longest certificate
+abbrev longest : ℕ
+longest = longestCertificate office
+
 returns : tie.Need-returns
 returns c =
     let read = c .before .before in
     let told = read .before .before in
     let lent = told .before .before .before .before .args .words .now in
     let R = was-read _ _ (told .before .limits .ensures) (told .read-system .ensures) (ap systemOutcome (read .read .given .1)) in
-    solves-short 2198 certificateWords lent lent _ _ (R .read) (c .if1 .taken) refl refl
+    solves-short longest certificateWords lent lent _ _ (R .read) (c .if1 .taken) refl refl
 
 solve-read-requires : tie.Need-solve-read-requires
 solve-read-requires c κs =
@@ -26,13 +32,15 @@ returns-2 c =
     let read = c .before .before .before .before .before .before in
     let told = read .before .before in
     let R = was-read _ _ (told .before .limits .ensures) (told .read-system .ensures) (ap systemOutcome (read .read .given .1)) in
-    solves-given 2198 certificateWords _ _ _ _ (R .read) (search needs) _ refl (c .before .before .solve-read .ensures (R .system) (R .read))
+    solves-given longest certificateWords _ _ _ _ (R .read) (search needs) _ refl
+    (c .before .before .solve-read .ensures (R .system) (R .read))
 
 returns-3 : tie.Need-returns-3
 returns-3 c =
     let told = c .before .before .before in
     let lent = told .before .before .before .before .args .words .now in
-    solves-refused 2198 certificateWords lent lent _ _ (was-refused _ _ (told .before .limits .ensures) (told .read-system .ensures) (ap systemOutcome (c .before .read2 .given .1)))
+    solves-refused longest certificateWords lent lent _ _
+    (was-refused _ _ (told .before .limits .ensures) (told .read-system .ensures) (ap systemOutcome (c .before .read2 .given .1)))
     refl refl
 
 pub solve-spec : {M : Type 1} → statement M

@@ -3,6 +3,7 @@ use mathlib.Core.Path.{_≡_, ap}
 use Prim.Native.Nat.{_*_}
 use native.Mathlib.Omega.{arith}
 use lib.ListN.{length}
+use Rattle.limits.specs.Counts.{systemPolynomials, certificatePolynomials}
 use Rattle.answers.specs.Answer.{formOf}
 use Rattle.verifier.proofs.Read.{read-shape, read-places, read-system, read-system-count, read-certificate}
 use Rattle.verifier.proofs.Read.{read-solution-count, read-absence-count}
@@ -10,7 +11,7 @@ use Rattle.verifier.proofs.Read.{loaded-solution, loaded-absence, verdi
 use borrow.Author.Needs.{needs}
 use Rattle.verifier.proofs.check_read.Statement.{statement}
 use Rattle.verifier.proofs.check_read.Tie as tie
-use Rattle.check_conditions.specs.Widths.{systemWidth, certificateWidth}
+use Rattle.loader.specs.Widths.{systemWidth, certificateWidth}
 
 new-requires : tie.Need-new-requires
 new-requires c κs =
@@ -46,8 +47,8 @@ check-solution-requires c κs =
     let new = first .before .before .new in
     let A = first .load .last .0 in
     let C = c .before .before .before .load2 .last .0 in
-    let room-A : length A ≡ 72 * systemWidth = search needs in
-    let room-C : length C ≡ 18 * certificateWidth = search needs in
+    let room-A : length A ≡ systemPolynomials * systemWidth = search needs in
+    let room-C : length C ≡ certificatePolynomials * certificateWidth = search needs in
     loaded-solution (S .pre) _ (new .ensures .0) (new .ensures .1) A C room-A room-C
     (first .load .ensures _ (read-system (S .pre)) (read-system-count (S .pre)))
     (c .before .before .before .load2 .ensures _ (read-certificate (S .pre))
@@ -69,8 +70,8 @@ check-absence-requires c κs =
     let new = first .before .before .new in
     let A = first .load .last .0 in
     let C = c .before .before .before .load3 .last .0 in
-    let room-A : length A ≡ 72 * systemWidth = search needs in
-    let room-C : length C ≡ 18 * certificateWidth = search needs in
+    let room-A : length A ≡ systemPolynomials * systemWidth = search needs in
+    let room-C : length C ≡ certificatePolynomials * certificateWidth = search needs in
     loaded-absence (S .pre) _ (new .ensures .0) (new .ensures .1) A C room-A room-C
     (first .load .ensures _ (read-system (S .pre)) (read-system-count (S .pre)))
     (c .before .before .before .load3 .ensures _ (read-certificate (S .pre))
@@ -85,8 +86,8 @@ returns c =
     let new = first .before .before .new in
     let A = first .load .last .0 in
     let C = c .before .before .before .before .load2 .last .0 in
-    let room-A : length A ≡ 72 * systemWidth = search needs in
-    let room-C : length C ≡ 18 * certificateWidth = search needs in
+    let room-A : length A ≡ systemPolynomials * systemWidth = search needs in
+    let room-C : length C ≡ certificatePolynomials * certificateWidth = search needs in
     verdict-solution (S .pre) _ (new .ensures .0) (new .ensures .1) A C room-A room-C
     (first .load .ensures _ (read-system (S .pre)) (read-system-count (S .pre)))
     (c .before .before .before .before .load2 .ensures _ (read-certificate (S .pre))
@@ -101,8 +102,8 @@ returns-2 c =
     let new = first .before .before .new in
     let A = first .load .last .0 in
     let C = c .before .before .before .before .load3 .last .0 in
-    let room-A : length A ≡ 72 * systemWidth = search needs in
-    let room-C : length C ≡ 18 * certificateWidth = search needs in
+    let room-A : length A ≡ systemPolynomials * systemWidth = search needs in
+    let room-C : length C ≡ certificatePolynomials * certificateWidth = search needs in
     verdict-absence (S .pre) _ (new .ensures .0) (new .ensures .1) A C room-A room-C
     (first .load .ensures _ (read-system (S .pre)) (read-system-count (S .pre)))
     (c .before .before .before .before .load3 .ensures _ (read-certificate (S .pre))

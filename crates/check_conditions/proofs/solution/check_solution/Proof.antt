@@ -1,7 +1,7 @@
 -- 31 to 34 in their order; w, which passed 31, is not zero.
 use mathlib.Core.Path.{sym, ap, _∙_}
 use native.Mathlib.Omega.{arith}
-use Rattle.check_conditions.specs.Areas.{systemIn}
+use Rattle.check_conditions.specs.Areas.{systemInSlots}
 use Rattle.answers.specs.Answer.{verdictOutcome}
 use Rattle.check_conditions.proofs.Monic.{passed-some}
 use Rattle.check_conditions.proofs.Order.{solution-monic, solution-row, solution-column, solution-last}
@@ -12,14 +12,14 @@ use Rattle.check_conditions.proofs.solution.check_solution.Tie as tie
 try-monic-requires : tie.Need-try-monic-requires
 try-monic-requires c κs =
     let loaded = c .before .before .pre .certificate in
-    record { layout = loaded .layout; filled = λ k lt. loaded .filled k (omega arith) }
+    record { dimensions = loaded .dimensions; filled = λ k lt. loaded .filled k (omega arith) }
 
 returns : tie.Need-returns
-unfolding systemIn
+unfolding systemInSlots
 returns c = solution-monic _ _ _ _ _ (c .before .before .try-monic .ensures) (ap verdictOutcome (c .enum-told2 .given .1))
 
 returns-2 : tie.Need-returns-2
-unfolding systemIn
+unfolding systemInSlots
 returns-2 c =
     let monic = c .before .before .before in
     solution-row _ _ _ _ _ (monic .before .before .try-monic .ensures) (ap verdictOutcome (monic .enum-told .given .1))
@@ -35,7 +35,7 @@ try-columns-requires c κs =
     )
 
 returns-3 : tie.Need-returns-3
-unfolding systemIn
+unfolding systemInSlots
 returns-3 c =
     let rows = c .before .before .before in
     let monic = rows .before .before .before in
@@ -53,7 +53,7 @@ try-denominators-requires c κs =
     )
 
 returns-4 : tie.Need-returns-4
-unfolding systemIn
+unfolding systemInSlots
 returns-4 c =
     let columns = c .before in
     let rows = columns .before .before .before in

@@ -2,7 +2,7 @@
 use mathlib.Core.Path.{ap}
 use mathlib.Core.Bool.{not}
 use native.Mathlib.Omega.{arith}
-use Rattle.check_conditions.specs.Areas.{systemIn}
+use Rattle.check_conditions.specs.Areas.{systemInSlots}
 use Rattle.check_conditions.specs.Table.{columnWrong}
 use Rattle.check_conditions.proofs.Tests.{zero-test}
 use Rattle.check_conditions.proofs.Values.{value-size, remainder-value}
@@ -13,16 +13,16 @@ use Rattle.check_conditions.proofs.solution.column_wrong.Tie as tie
 polynomial-in-requires : tie.Need-polynomial-in-requires
 polynomial-in-requires c κs =
     let loaded = c .before .before .before .before .pre .0 .0 .certificate in
-    (loaded .layout .modulus, loaded .filled _ (omega arith), omega arith)
+    (loaded .dimensions .modulus, loaded .filled _ (omega arith), omega arith)
 
 remainder-requires : tie.Need-remainder-requires
 remainder-requires c κs =
     let S = c .before .before .before .before .before .before .before in
     let w = c .before .before .polynomial-in .ensures in
-    (S .pre .0 .0 .certificate .layout .modulus, c .column .ensures .valid, w .valid, value-size w (S .pre .1))
+    (S .pre .0 .0 .certificate .dimensions .modulus, c .column .ensures .valid, w .valid, value-size w (S .pre .1))
 
 returns : tie.Need-returns
-unfolding columnWrong systemIn
+unfolding columnWrong systemInSlots
 returns c =
     let w = c .before .before .before .before .polynomial-in .ensures in
     let sum = c .before .before .column .ensures in

@@ -1,7 +1,7 @@
 -- w divided by its common divisor with Z·b, made monic, is d or not.
 use native.Mathlib.Omega.{arith}
 use Rattle.truth.specs.Right.{certified}
-use Rattle.check_conditions.specs.Areas.{systemIn}
+use Rattle.check_conditions.specs.Areas.{systemInSlots}
 use Rattle.check_conditions.proofs.Refusals.{denominators-same, denominators-differ}
 use Rattle.check_conditions.proofs.Tests.{equal-test}
 use Rattle.check_conditions.proofs.Values.{gcd-some, certified-value}
@@ -12,24 +12,24 @@ use Rattle.check_conditions.proofs.solution.try_denominators.Tie as tie
 polynomial-in-requires : tie.Need-polynomial-in-requires
 polynomial-in-requires c κs =
     let loaded = c .before .before .before .pre .0 .certificate in
-    (loaded .layout .modulus, loaded .filled 0 (omega arith), omega arith)
+    (loaded .dimensions .modulus, loaded .filled 0 (omega arith), omega arith)
 
 polynomial-in-requires-2 : tie.Need-polynomial-in-requires-2
 polynomial-in-requires-2 c κs =
     let loaded = c .before .before .before .before .before .pre .0 .certificate in
-    (loaded .layout .modulus, loaded .filled _ (omega arith), omega arith)
+    (loaded .dimensions .modulus, loaded .filled _ (omega arith), omega arith)
 
 quotient-requires : tie.Need-quotient-requires
 quotient-requires c κs =
     let S = c .before .before .before .before .before .before .before .before .before in
-    let m = S .pre .0 .certificate .layout .modulus in
+    let m = S .pre .0 .certificate .dimensions .modulus in
     let w = c .before .before .before .polynomial-in2 .ensures in
     (m, w .valid, c .gcd .ensures .valid, gcd-some w (c .before .side .ensures) (c .gcd .ensures) (m .prime) (S .pre .1))
 
 monic-requires : tie.Need-monic-requires
 monic-requires c κs =
     let S = c .before .before .before .before .before .before .before .before .before .before in
-    (S .pre .0 .certificate .layout .modulus, c .quotient .ensures .valid)
+    (S .pre .0 .certificate .dimensions .modulus, c .quotient .ensures .valid)
 
 equal-requires : tie.Need-equal-requires
 equal-requires c κs = (
@@ -38,7 +38,7 @@ equal-requires c κs = (
 )
 
 returns : tie.Need-returns
-unfolding certified systemIn
+unfolding certified systemInSlots
 returns c =
     let k = c .before .before in
     let g = k .before .before in
@@ -48,7 +48,7 @@ returns c =
     denominators-same _ _ _ _ (equal-test value d (c .before .equal .ensures)) (c .if1 .taken)
 
 returns-2 : tie.Need-returns-2
-unfolding certified systemIn
+unfolding certified systemInSlots
 returns-2 c =
     let k = c .before .before in
     let g = k .before .before in

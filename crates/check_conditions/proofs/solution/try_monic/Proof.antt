@@ -6,14 +6,14 @@ use Rattle.check_conditions.proofs.solution.try_monic.Statement.{statem
 use Rattle.check_conditions.proofs.solution.try_monic.Tie as tie
 
 is-monic-at-requires : tie.Need-is-monic-at-requires
-is-monic-at-requires c κs = let loaded = c .before .before .pre in (loaded .layout, loaded .filled 0 (omega arith))
+is-monic-at-requires c κs = let loaded = c .before .before .pre in (loaded .dimensions, loaded .filled 0 (omega arith))
 
 returns : tie.Need-returns
 returns c = monic-first _ _ _ (c .before .is-monic-at .ensures) (c .if1 .taken)
 
 is-monic-at-requires-2 : tie.Need-is-monic-at-requires-2
 is-monic-at-requires-2 c κs =
-    let loaded = c .before .before .before .before .pre in (loaded .layout, loaded .filled _ (omega arith))
+    let loaded = c .before .before .before .before .pre in (loaded .dimensions, loaded .filled _ (omega arith))
 
 returns-2 : tie.Need-returns-2
 returns-2 c =

@@ -4,13 +4,13 @@ use mathlib.Core.Path.{sym, _∙_}
 use Prim.Native.Nat.{_-_, _≤_}
 use native.Mathlib.Omega.{arith}
 use borrow.Author.Needs.{needs}
-use Rattle.lookup.specs.Holding.{Stands}
+use Rattle.lookup.specs.Holding.{StartsAt}
 use Rattle.lookup.proofs.Walk.{stands-start, stands-as, stands-inside, stands-past, stands-more, stands-next}
 use Rattle.lookup.proofs.part.start_of.Statement.{statement}
 use Rattle.lookup.proofs.part.start_of.Tie as tie
 
 abbrev Inv-loop : tie.InvT-loop
-Inv-loop words number at₀ left₀ at left = (left ≤ number) × Stands words (number - left) at
+Inv-loop words number at₀ left₀ at left = (left ≤ number) × StartsAt words (number - left) at
 
 abbrev μ-loop : tie.MeasureT-loop
 μ-loop words number at₀ left₀ at left = left

@@ -33,7 +33,7 @@ subtract-product-requires c κs =
     let L = A .loop in
     let valid = S .pre .0 .2 in
     let slot = valid .slot (L .q) (omega arith) in
-    let is = terms-are (S .args .degrees) _ (K .before .most-terms .ensures) (K .min .ensures) in
+    let is = terms-are (S .args .degrees) _ (K .before .most-terms .ensures) (K .lesser .ensures) in
     let room = terms-room (S .args .degrees) _ is (slot .block .within) in
     let t : length (L .t) ≡ productWords = search needs in
     let quotients : length (S .args .quotients .now) ≡ productWords = search needs in
@@ -55,7 +55,7 @@ loop-again c =
     let S = A .before in
     let L = A .loop in
     let slot = S .pre .0 .2 .slot (L .q) (omega arith) in
-    let is = terms-are (S .args .degrees) _ (K .before .most-terms .ensures) (K .min .ensures) in
+    let is = terms-are (S .args .degrees) _ (K .before .most-terms .ensures) (K .lesser .ensures) in
     let room = terms-room (S .args .degrees) _ is (slot .block .within) in
     let long : length (L .t) ≡ productWords = search needs in (
       omega arith,

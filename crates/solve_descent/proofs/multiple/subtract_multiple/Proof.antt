@@ -22,14 +22,14 @@ returns c =
     let M = c .before in
     let S = M .before .before .before .before in
     nothing-taken (S .args .modulus .p) (S .args .quotients .now) (S .args .y .now) (S .args .factors .now) _ _ (S .pre .0 .1)
-    (M .before .find-leading .ensures .0) (M .min .ensures) (c .if1 .taken)
+    (M .before .find-leading .ensures .0) (M .lesser .ensures) (c .if1 .taken)
 
 subtract-product-requires : tie.Need-subtract-product-requires
 subtract-product-requires c κs =
     let W = c .before .before in
     let M = W .before .before in
     let S = M .before .before .before .before in
-    let few = M .min .ensures in
+    let few = M .lesser .ensures in
     let rows = W .count-words .ensures in
     let quotients : length (S .args .quotients .now) ≡ productWords = search needs in
     let y : length (S .args .y .now) ≡ blockWords = search needs in
@@ -50,7 +50,7 @@ reduce-range-requires c κs =
     let m : ValidModulus (S .args .modulus) = S .pre .0 .0 in
     let positive : 1 ≤ S .args .modulus .p = omega (arith, m .prime .large) in
     let square = mul-le-mul-right (S .args .modulus .p) positive in
-    let few : M .min .result ≤ mostCoefficients = omega (arith, M .min .ensures) in
+    let few : M .lesser .result ≤ mostCoefficients = omega (arith, M .lesser .ensures) in
     let products = mul-le-mul-right (S .args .modulus .p * S .args .modulus .p) few in
     let quotients : length (S .args .quotients .now) ≡ productWords = search needs in
     let T = P .subtract-product .ensures in (
@@ -67,7 +67,7 @@ returns-2 c =
     let rows = W .count-words .ensures in
     let quotients : length (S .args .quotients .now) ≡ productWords = search needs in
     let factors : length (S .args .factors .now) ≡ blockWords = S .pre .1 .1 .0 in
-    multiple-taken (S .pre .0 .0 .prime) _ _ _ (M .before .find-leading .ensures .0) (M .min .ensures) (rows .0) (rows .1)
+    multiple-taken (S .pre .0 .0 .prime) _ _ _ (M .before .find-leading .ensures .0) (M .lesser .ensures) (rows .0) (rows .1)
     (P .subtract-product .ensures) (c .reduce-range .ensures) quotients factors (S .pre .0 .1)
 
 pub subtract-multiple-spec : {M : Type 1} → statement M

@@ -9,7 +9,7 @@ use Rattle.residue.specs.Modulus.{ValidModulus}
 use Rattle.solve_lattice.specs.Room.{productWords, slotPlaces, mostPlaces}
 use Rattle.solve_lattice.specs.Found.{found-ends, found-leading, found-within}
 use Rattle.solve_lattice.specs.Sums.{sums-room, sums-fewer}
-use Rattle.solve_lattice.specs.Quotients.{Divided}
+use Rattle.solve_lattice.specs.Quotients.{BlockDivided}
 use Rattle.solve_lattice.specs.Step.{takes-left}
 use Rattle.solve_lattice.proofs.Rows
 use Rattle.solve_lattice.proofs.Stepping
@@ -131,7 +131,7 @@ returns-3 c =
     let L = c .before .before in
     let S = L .before .before .before .before .before in
     let none : L .loop .found .size ≡ 0 = omega arith in
-    subst (Divided _ _ _ _ _) none (dividing-end (S .pre .0 .0 .prime) (L .loop .inv) (S .pre .0 .1) (inl none))
+    subst (BlockDivided _ _ _ _ _) none (dividing-end (S .pre .0 .0 .prime) (L .loop .inv) (S .pre .0 .1) (inl none))
 
 pub divide-spec : {M : Type 1} → statement M
 divide-spec =

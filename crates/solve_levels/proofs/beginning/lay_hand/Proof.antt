@@ -15,8 +15,8 @@ returns c =
     let S = c .before .before .before in
     let p = S .args .modulus .p in (
       refl,
-      ap (λ (v : ℕ). record { size = S .args .size; leading = v; tail = 1 })
-          (c .reduce .ensures ∙ ap (λ (i : ℕ). getD (S .args .column .now) i 0 % p) (c .before .before .last-place .ensures)),
+      ap (λ (v : ℕ). record { size = S .args .size; leading = v; «tail_size» = 1 })
+          (c .reduce .ensures ∙ ap (λ (i : ℕ). getD (S .args .column .now) i 0 % p) (c .before .before .minus .ensures)),
     )
 
 pub lay-hand-spec : {M : Type 1} → statement M

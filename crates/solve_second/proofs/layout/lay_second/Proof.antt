@@ -11,7 +11,7 @@ returns c =
     let slots = c .before .before .lay-slots .ensures .1 in record {
       slots = same-laid (side-blocks (S .args .side) (S .args .level .now)) (S .pre .0 .0) (S .pre .0 .3) slots;
       room = c .lay-side .ensures .0;
-      right = c .lay-side .ensures .1;
+      side = c .lay-side .ensures .1;
     }
 
 pub lay-second-spec : {M : Type 1} → statement M

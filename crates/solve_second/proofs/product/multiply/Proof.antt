@@ -50,8 +50,8 @@ reduce-range-requires c κs =
     let room : length (S .args .out .now) ≡ blockWords = search needs in
     let clears = cleared .clear .ensures in
     let T = taken .subtract-product .ensures in (
-      (m, omega (arith, c .less .ensures, S .pre .0 .3, T .same-length, cleared-length blockWords (S .args .out .now) _ clears)),
-      product-reducible (S .args .modulus .p) (S .args .n) (c .less .result) (taken .subtract-product .last .0)
+      (m, omega (arith, c .minus .ensures, S .pre .0 .3, T .same-length, cleared-length blockWords (S .args .out .now) _ clears)),
+      product-reducible (S .args .modulus .p) (S .args .n) (c .minus .result) (taken .subtract-product .last .0)
           (S .pre .0 .1) (T .bound 0 (cleared-none blockWords (S .args .out .now) _ clears room)),
     )
 
@@ -65,7 +65,7 @@ returns c =
     let room : length (S .args .out .now) ≡ blockWords = search needs in
     let clears = cleared .clear .ensures in
     multiplied (m .prime) _ _ (S .args .f .now) (S .args .n) (S .args .g .now) (S .args .m) _ _ _ _
-    (c .before .less .ensures) (S .pre .0 .1) (S .pre .0 .3)
+    (c .before .minus .ensures) (S .pre .0 .1) (S .pre .0 .3)
     (omega (arith, cleared-length blockWords (S .args .out .now) _ clears)) (cleared-none blockWords (S .args .out .now) _ clears room)
     (negated .store-negated .ensures) (taken .subtract-product .ensures) (c .reduce-range .ensures)
 

@@ -7,12 +7,12 @@ use Rattle.residue.specs.Modulus.{ValidModulus}
 use Rattle.vector.specs.Bound.{zeros-none}
 use Rattle.solve_lattice.specs.Room.{levelWords, productWords}
 use Rattle.solve_second.specs.ProductLaws.{product-sums}
-use Rattle.solve_second.specs.RightFilling.{tails-end}
+use Rattle.solve_second.specs.SideFilling.{tails-end}
 use Rattle.solve_second.specs.Side.{side-valid}
-use Rattle.solve_second.specs.ValidTransposed.{right-below}
-use Rattle.solve_second.specs.RightInserted.{block-reducible, first-valid, first-starts}
+use Rattle.solve_second.specs.ValidTransposed.{second-side-below}
+use Rattle.solve_second.specs.SideInserted.{block-reducible, first-valid, first-starts}
 use Rattle.solve_second.specs.Denominator.{laid-denominator}
-use Rattle.solve_second.specs.Scaled.{right-within, product-room, right-scaled}
+use Rattle.solve_second.specs.Scaled.{side-within, product-room, side-scaled}
 use Rattle.solve_second.specs.DividedSecond.{laid-valid, laid-divided}
 use Rattle.solve_second.specs.SecondEnds.{second-solved}
 use borrow.Author.Needs.{needs}
@@ -66,10 +66,10 @@ multiply-block-requires c κs =
       (
         m,
         found .ends .within,
-        omega (arith, right-within (S .pre .0 .1) laid valid found _ size, laid .room),
+        omega (arith, side-within (S .pre .0 .1) laid valid found _ size, laid .room),
         product-room (S .pre .0 .1) laid valid found _ size (S .pre .1 .0),
       ),
-      ((found .below, right-below (S .args .modulus .p) (S .pre .0 .1) valid laid), zeros-none productWords),
+      ((found .below, second-side-below (S .args .modulus .p) (S .pre .0 .1) valid laid), zeros-none productWords),
     )
 
 divide-requires : tie.Need-divide-requires
@@ -105,7 +105,7 @@ returns c =
     let valid = side-valid (S .args .side) (S .pre .0 .2) (S .pre .0 .3) in
     let found = laid-denominator (S .args .modulus .p) (m .prime) (S .pre .0 .1) valid laid (F .find-leading .result)
     (F .find-leading .ensures .0) (F .find-leading .ensures .1) (D .second-denominator .ensures) in
-    let scaled = right-scaled (S .pre .0 .1) laid valid found _ (F .find-leading .ensures .0) (M .multiply-block .ensures) in
+    let scaled = side-scaled (S .pre .0 .1) laid valid found _ (F .find-leading .ensures .0) (M .multiply-block .ensures) in
     let divided = laid-divided (S .pre .0 .1) valid laid (Q .divide .ensures) in
     second-solved (S .pre .0 .1) valid found scaled divided _ (S .pre .1 .1 .0) (S .pre .1 .1 .1) _ (W .store-rows .ensures)
 

@@ -1,15 +1,20 @@
 -- Number 10, or what the words of the bytes give.
+use Prim.Native.Nat.{ℕ, _*_}
 use mathlib.Core.Path.{refl, sym, ap, subst}
 use native.Mathlib.Omega.{arith}
 use borrow.Author.Needs.{needs}
 use lib.ListN.{length}
-use Rattle.words.specs.Limits.{office}
+use Rattle.words.specs.Limits.{office, longestCertificate}
 use Rattle.answers.specs.Answer.{countedOutcome}
 use Rattle.reader.specs.OpeningLaws.{opened-room, opened-length, system-file-refused, system-file-read}
 use Rattle.solver.specs.Solving.{withRoom, certificateBytes, SolvesOr}
 use Rattle.solver.proofs.Reading.{solves-refused}
 use Rattle.solver.proofs.file.solve_file.Statement.{statement}
 use Rattle.solver.proofs.file.solve_file.Tie as tie
+
+-- words of the longest certificate
+abbrev longest : ℕ
+longest = longestCertificate office
 
 array-share-prefix-system : tie.Need-array-share-prefix-system
 array-share-prefix-system c =
@@ -27,14 +32,15 @@ returns c =
     let call = found .before .before .before in
     let lent = call .before .before .before .before .args .bytes .now in
     let solved = c .before .before .solve-to-bytes in
-    subst (λ o. SolvesOr office certificateBytes (withRoom 8792 (length lent) o) lent (solved .last .0) (countedOutcome (solved .result)))
+    subst (λ o. SolvesOr office certificateBytes (withRoom (4 * longest) (length lent) o) lent (solved .last .0)
+    (countedOutcome (solved .result)))
     (sym (system-file-read office (call .open-file .ensures) (omega arith) (ap countedOutcome (found .opened .given .1)))) (solved .ensures)
 
 returns-2 : tie.Need-returns-2
 returns-2 c =
     let call = c .before .before .before .before in
     let lent = call .before .before .before .before .args .bytes .now in
-    solves-refused 8792 certificateBytes lent lent _ _
+    solves-refused (4 * longest) certificateBytes lent lent _ _
     (system-file-refused office (call .open-file .ensures) (ap countedOutcome (c .before .opened2 .given .1))) refl refl
 
 pub solve-file-spec : {M : Type 1} → statement M

@@ -1,10 +1,11 @@
 -- What `solve` gave on words of its own is written as bytes (`FileWriting`).
-use Prim.Native.Nat.{_≤_}
+use Prim.Native.Nat.{ℕ, _*_, _≤_}
 use mathlib.Core.Path.{_≡_, refl, sym, ap}
 use native.Mathlib.Omega.{arith}
 use lib.ListN.{length, replicate}
 use lib.Seq.{length-take-le}
 use borrow.Author.Needs.{needs}
+use Rattle.words.specs.Limits.{office, longestCertificate}
 use Rattle.answers.specs.Answer.{countedOutcome}
 use Rattle.solver.specs.Solving.{certificateBytes}
 use Rattle.solver.specs.SolvingLaws.{gives-fits}
@@ -13,50 +14,57 @@ use Rattle.solver.proofs.FileWriting.{gives-bytes, was-solved, was-refu
 use Rattle.solver.proofs.file.solve_to_bytes.Statement.{statement}
 use Rattle.solver.proofs.file.solve_to_bytes.Tie as tie
 
+-- words of the longest certificate
+abbrev longest : ℕ
+longest = longestCertificate office
+
 -- back from where the count is known to the call of `solve`
 abbrev call : tie.After-solved → tie.After-solve
 call c = c .before .before .before
 
 -- the certificate's words are among those of the solver's own
 fits : (c : tie.After-solved) → c .solved .given .0 .0 ≤ length (call c .solve .last .0)
-fits c = gives-fits (was-solved (call c .before .before .before .before .args .system .now) (replicate 2198 0) _ _ (call c .solve .ensures)
+fits c = gives-fits
+    (was-solved (call c .before .before .before .before .args .system .now) (replicate longest 0) _ _ (call c .solve .ensures)
     (ap countedOutcome (c .solved .given .1)) .2)
 
 returns : tie.Need-returns
 returns c =
     let counted = c .before .before in
     let lent = call counted .before .before .before .before .args .bytes .now in
-    let given = was-solved (call counted .before .before .before .before .args .system .now) (replicate 2198 0) _ _ (call counted .solve .ensures)
+    let given = was-solved (call counted .before .before .before .before .args .system .now) (replicate longest 0) _ _
+    (call counted .solve .ensures)
     (ap countedOutcome (counted .solved .given .1)) in
-    solves-short 8792 certificateBytes lent lent _ _ (given .1) (c .if1 .taken) refl refl
+    solves-short (4 * longest) certificateBytes lent lent _ _ (given .1) (c .if1 .taken) refl refl
 
 write-bytes-requires : tie.Need-write-bytes-requires
 write-bytes-requires c κs =
     let counted = c .before .before .before .before in
     let few = fits counted in
-    let room : length (call counted .solve .last .0) ≡ 2198 = search needs in
+    let room : length (call counted .solve .last .0) ≡ longest = search needs in
     omega (arith, few, room, length-take-le _ (call counted .solve .last .0) few)
 
 mul-t11 : tie.Need-mul-t11
 mul-t11 c =
     let counted = c .before .before .before .before .before .before .before in
-    let room : length (call counted .solve .last .0) ≡ 2198 = search needs in
+    let room : length (call counted .solve .last .0) ≡ longest = search needs in
     omega (arith, fits counted, room)
 
 returns-2 : tie.Need-returns-2
 returns-2 c =
     let counted = c .before .before .before .before .before .before .before in
-    let given = was-solved (call counted .before .before .before .before .args .system .now) (replicate 2198 0) _ _ (call counted .solve .ensures)
+    let given = was-solved (call counted .before .before .before .before .args .system .now) (replicate longest 0) _ _
+    (call counted .solve .ensures)
     (ap countedOutcome (counted .solved .given .1)) in
-    solves-given 8792 certificateBytes _ _ _ _ (given .1) (search needs) _ refl
+    solves-given (4 * longest) certificateBytes _ _ _ _ (given .1) (search needs) _ refl
     (gives-bytes (given .2) _ _ (c .before .before .write-bytes .ensures))
 
 returns-3 : tie.Need-returns-3
 returns-3 c =
     let told = c .before .before .before .before in
     let lent = told .before .before .before .before .args .bytes .now in
-    solves-refused 8792 certificateBytes lent lent _ _
-    (was-refused (told .before .before .before .before .args .system .now) (replicate 2198 0) _ _ (told .solve .ensures) (omega arith)
+    solves-refused (4 * longest) certificateBytes lent lent _ _
+    (was-refused (told .before .before .before .before .args .system .now) (replicate longest 0) _ _ (told .solve .ensures) (omega arith)
     (ap countedOutcome (c .before .solved2 .given .1))) refl refl
 
 pub solve-to-bytes-spec : {M : Type 1} → statement M

@@ -3,13 +3,14 @@ use mathlib.Core.Path.{_≡_, _∙_}
 use Prim.Native.Nat.{_-_, _≤_}
 use native.Mathlib.Omega.{arith}
 use lib.ListN.{length, length-set}
-use Rattle.writer.specs.Output.{Sized}
+use Rattle.limits.specs.Counts.{certificatePolynomials}
+use Rattle.writer.specs.Output.{SizesTaken}
 use Rattle.writer.specs.OutputLaws.{sized-next}
 use Rattle.writer.proofs.output.store_sizes.Statement.{statement}
 use Rattle.writer.proofs.output.store_sizes.Tie as tie
 
 abbrev Inv-loop : tie.InvT-loop
-Inv-loop sizes₀ output count k₀ sizes k = (k ≤ count) × (length sizes ≡ 18) × Sized output sizes k
+Inv-loop sizes₀ output count k₀ sizes k = (k ≤ count) × (length sizes ≡ certificatePolynomials) × SizesTaken output sizes k
 
 abbrev μ-loop : tie.MeasureT-loop
 μ-loop sizes₀ output count k₀ sizes k = count - k
