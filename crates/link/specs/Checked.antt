@@ -23,7 +23,9 @@ use Rattle.truth.specs.DemandLaws.{Says, Agree}
 use Rattle.verifier.specs.File.{filesBroken, fileVerdict}
 use Rattle.verifier.specs.Checked.{CertifiedFiles, whole-files, bytes-verdict, files-iff-certified, files-say, files-agree}
 use Rattle.answers.specs.Packed.{packedVerdict}
-use Rattle.link.specs.NumberLaws.{Refusals, system-numbers, certificate-numbers, check-numbers}
+use Rattle.link_values.specs.Refusals.{Numbers}
+use Rattle.link_values.specs.FilesLaws.{system-numbers, certificate-numbers}
+use Rattle.link.specs.NumberLaws.{check-numbers}
 
 -- ---- words
 
@@ -37,8 +39,8 @@ module _ (limits : Limits) (fit : LimitsFit limits) (ws cs : List ℕ) (number p
       by : 31 ≤ number → (readSystem limits ws ≡ refused number place)
           ⊎ (((s : System) × (readSystem limits ws ≡ accepted s) × (readCertificate limits (shape s) cs ≡ refused number place))
           ⊎ FaultyWords limits ws cs number place) → FaultyWords limits ws cs number place
-      by h (inl e) = absurd (omega (arith, system-numbers limits ws .numbers number place e .1))
-      by h (inr (inl t)) = absurd (omega (arith, certificate-numbers limits (shape (t .0)) cs .numbers number place (t .2) .1))
+      by h (inl e) = absurd (omega (arith, system-numbers limits ws .each number place e .1))
+      by h (inr (inl t)) = absurd (omega (arith, certificate-numbers limits (shape (t .0)) cs .each number place (t .2) .1))
       by h (inr (inr a)) = a
 
 -- ---- files
@@ -84,15 +86,15 @@ module _ (limits : Limits) (fit : LimitsFit limits) (f g : List ℕ) (small-f : 
 abbrev pub checkGives : (f g : List ℕ) → ℕ
 checkGives f g = packedVerdict (fileVerdict office f g)
 
-zero-accepted : (v : Outcome (Unit {0})) → Refusals 1 36 v → packedVerdict v ≡ 0 → v ≡ accepted tt
+zero-accepted : (v : Outcome (Unit {0})) → Numbers 1 36 v → packedVerdict v ≡ 0 → v ≡ accepted tt
 zero-accepted (accepted tt) h e = refl
-zero-accepted (refused number place) h e = absurd (omega (arith, h .numbers number place refl))
+zero-accepted (refused number place) h e = absurd (omega (arith, h .each number place refl))
 
-number-refused : (v : Outcome (Unit {0})) → Refusals 1 36 v → (number place : ℕ) → 1 ≤ number → number ≤ 63
+number-refused : (v : Outcome (Unit {0})) → Numbers 1 36 v → (number place : ℕ) → 1 ≤ number → number ≤ 63
     → packedVerdict v ≡ 64 * place + number → v ≡ refused number place
 number-refused (accepted tt) h number place l m e = absurd (omega arith)
 number-refused (refused n k) h number place l m e =
-    let b = h .numbers n k refl in
+    let b = h .each n k refl in
     ap₂ refused (omega arith) (omega arith)
 
 module _ (f g : List ℕ) (small-f : Bytes f) (small-g : Bytes g) where

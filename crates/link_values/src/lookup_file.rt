@@ -18,7 +18,7 @@ ghost use Rattle.link_values.specs.Files.{sideOf, lookupOf, readBoth, fi
 ghost use Rattle.link_values.specs.Giving.{Gives, GivesPacked};
 
 // The most coefficients of a polynomial of a certificate.
-const COEFFICIENTS: usize = Office::CERTIFICATE_COEFFICIENTS as usize;
+pub const COEFFICIENTS: usize = Office::CERTIFICATE_COEFFICIENTS as usize;
 
 // Returns the side of a number: 0 is the system's.
 fn side_of(number: u64) -> Side
