@@ -1,83 +1,131 @@
 // Yezsdolak: a proved solver of A·y = b over polynomials modulo a prime, and its check, for other programs.
 //
-// `rt staticlib link` makes target/staticlib/liblink.a, for x86-64; examples/c and examples/rust show how to link and call it.
+// `make` builds libyezsdolak.a for x86-64, `make install` puts it where `pkg-config yezsdolak` finds it; examples/c and examples/rust
+// show how to link and call it.
 //
-// A system (a sheet) and a certificate (a card) are files of 32-bit words, four bytes to a word, lowest first, as document 01
-// describes them; tools/sheet makes systems from text. Every call takes the bytes of whole files. What a call gives is proved for
-// all bytes, damaged ones included (crates/link): there is no input that it does not answer.
+// A system (a sheet) and a certificate (a card) are files of 32-bit words, four bytes to a word, lowest first (docs/FORMAT.md). Calls
+// take the bytes of whole files. What a call gives is proved for all bytes, damaged ones included (crates/link): there is no input
+// that it does not answer.
 //
-// - No pointer may be NULL, also where its count is 0, and the bytes that a call writes must not overlap those that it reads.
-// - A call keeps nothing, allocates nothing and prints nothing. Any number of threads may call at the same time. Measured on the
-//   stack: up to 410 KB, by yezsdolak_check 80 KB.
+// - No pointer may be NULL, also where its count is 0, and what a call writes must not overlap what it reads.
+// - A call keeps nothing, allocates nothing and prints nothing. Any number of threads may call at the same time; each needs the
+//   stack that the constants below say.
+//
+// Every call but yezsdolak_version gives one number, and the functions below take it apart. yezsdolak_number is 0 where nothing is
+// refused; then yezsdolak_count says how much was written. Else it is the number of a refusal, yezsdolak_place says where it is, and
+// nothing that was lent has changed. The table of refusals, their names and their sentences are in yezsdolak_refusals.h.
 #ifndef YEZSDOLAK_H
 #define YEZSDOLAK_H
 #include <stddef.h>
 #include <stdint.h>
 
+#include "yezsdolak_refusals.h"
+
 #ifdef __cplusplus
 extern "C" {
 #endif
 
+#define YEZSDOLAK_VERSION "0.9.0"
+
 enum {
-    YEZSDOLAK_SYSTEM_BYTES = 4904,      // no system's file is longer
+    YEZSDOLAK_VERSION_NUMBER = 900, // 10000 × major + 100 × minor + patch
+
+    YEZSDOLAK_SYSTEM_BYTES = 4904,      // no system's file is longer: to be lent to yezsdolak_write_system
     YEZSDOLAK_CERTIFICATE_BYTES = 8792, // no certificate's file is longer: to be lent to yezsdolak_solve
     YEZSDOLAK_REPORT_BYTES = 1024,      // no report is longer: to be lent to yezsdolak_report
+
+    YEZSDOLAK_POLYNOMIALS = 72,      // no system has more: 8 rows of A with 8 columns, and b
+    YEZSDOLAK_COEFFICIENTS = 16,     // no polynomial of a system has more
+    YEZSDOLAK_MOST_COEFFICIENTS = 121, // no polynomial of a certificate has more
+
+    // bytes of stack that a call needs at most, as measured, and a tenth more
+    YEZSDOLAK_SOLVE_STACK = 448 * 1024, // also yezsdolak_report
+    YEZSDOLAK_CHECK_STACK = 96 * 1024,  // all others
 };
 
-// A refusal is 64 × place + number; a number is 1 to 36. Places count words from 0, unless the table says otherwise.
-//
-// The system's file, by yezsdolak_solve and yezsdolak_check:
-//    1  the first word is not the head of a system; place 0
-//    2  p is not a prime from 2 to 65,521; place 0
-//    3  there are not 1 to 8 rows and 1 to 8 columns; place 0
-//    4  the file stops before its end word; place is the number of its words
-//    5  a start of a polynomial, a coefficient or an end should stand here, another word does
-//    6  the polynomial has more than 16 coefficients
-//    7  the coefficient is not below p
-//    8  the last coefficient of the polynomial is 0
-//    9  the end word does not say how many words there are; or words follow it, place the first of them
-//   10  the file is not whole words, or has more than 4,904 bytes; place 0; comes before all others. By yezsdolak_check also where
-//       the certificate's file is not whole words, however long it is
-// What is lent, by yezsdolak_solve:
-//   11  fewer than YEZSDOLAK_CERTIFICATE_BYTES; place 0
-// Number 12 is that of the lookup of one polynomial, which is not among these calls.
-// The certificate's file, by yezsdolak_check:
-//   21  the first word is not the head of a certificate; place 0
-//   24  the file stops before its end word; place is the number of its words
-//   25  a start of a polynomial, a coefficient or an end should stand here, another word does
-//   26  the polynomial has more than 121 coefficients
-//   27  the coefficient is not below p
-//   28  the last coefficient of the polynomial is 0
-//   29  the end word does not say how many words there are; or words follow it, place the first of them
-// What the certificate says, by yezsdolak_check:
-//   31  d (place 0) or w (place 1) is not monic
-//   32  A·N is not d·b; place is the first such row
-//   33  w does not divide Z·A; place is the first such column
-//   34  d is not the denominator that w and Z certify; place 0
-//   35  q·A is not zero; place is the first such column
-//   36  q·b is zero; place 0
+// The number of a refusal, 0 where nothing is refused.
 static inline unsigned yezsdolak_number(uint64_t result)
 {
     return (unsigned)(result % 64);
 }
 
+// The place of a refusal.
 static inline uint64_t yezsdolak_place(uint64_t result)
 {
     return result / 64;
 }
 
-// Solves the system. Its certificate's file is written over the first of the lent bytes, and 64 × the count of these bytes is
-// given, so the number is 0; those behind keep their values. Of all solutions this one has the least denominator d; where there is
-// none at all, the certificate is an absence certificate, which shows that. After a refusal no lent byte has changed.
+// The count of what was written, where nothing is refused.
+static inline uint64_t yezsdolak_count(uint64_t result)
+{
+    return result / 64;
+}
+
+// YEZSDOLAK_VERSION_NUMBER of the library that is linked, which may differ from the header's.
+uint64_t yezsdolak_version(void);
+
+// ---- solving, checking, reporting
+
+// Solves the system and writes its certificate's file over the first of the lent bytes; those behind keep their values. The count is
+// that of these bytes. Of all solutions this one has the least denominator d; where there is none at all, the certificate is an
+// absence certificate, which shows that. The same system always has the same certificate.
 uint64_t yezsdolak_solve(const uint8_t *system, size_t system_bytes, uint8_t *certificate, size_t lent_bytes);
 
 // Checks a certificate, whoever made it. 0: it is right for the system. Else a refusal.
 uint64_t yezsdolak_check(const uint8_t *system, size_t system_bytes, const uint8_t *certificate, size_t certificate_bytes);
 
-// Writes the report of the system's file, lines of text without a zero at the end, over the first of the lent bytes, and gives the
-// count of its bytes; those behind keep their values. A refusal of the system is such a text too. 0, and no lent byte changed,
-// where fewer than YEZSDOLAK_REPORT_BYTES are lent.
+// Writes the report of the system's file, lines of text without a zero at the end, over the first of the lent bytes; those behind
+// keep their values. The count is that of these bytes. A refused system has a report too, which says so: this call refuses nothing.
+// Where fewer than YEZSDOLAK_REPORT_BYTES are lent, nothing is written and the count is 0.
 uint64_t yezsdolak_report(const uint8_t *system, size_t system_bytes, uint8_t *text, size_t lent_bytes);
+
+// ---- systems from values, certificates as values
+
+// Writes a system's file over the first of the lent bytes; those behind keep their values. The count is that of these bytes.
+// Polynomial k, of A row by row and then of b, has sizes[k] coefficients, that of x^j at coefficients[16·k + j]; the last is not 0,
+// and zero has none. Refused are p that is no prime up to 65,521 (2), rows or columns not 1 to 8 (3), more than 16 coefficients (6),
+// a coefficient not below p (7), a last one that is 0 (8), each at the place that its word would have; and then fewer than
+// YEZSDOLAK_SYSTEM_BYTES lent (11).
+uint64_t yezsdolak_write_system(uint32_t modulus, uint32_t rows, uint32_t columns, const uint64_t sizes[YEZSDOLAK_POLYNOMIALS],
+                                const uint64_t coefficients[YEZSDOLAK_POLYNOMIALS * YEZSDOLAK_COEFFICIENTS],
+                                uint8_t *system, size_t lent_bytes);
+
+// Reads the shape of a system: its modulus, its rows, its columns, where nothing is refused.
+uint64_t yezsdolak_shape(const uint8_t *system, size_t system_bytes);
+
+static inline unsigned yezsdolak_modulus(uint64_t shape)
+{
+    return (unsigned)(shape / 64 % 65536);
+}
+
+static inline unsigned yezsdolak_rows(uint64_t shape)
+{
+    return (unsigned)(shape / 64 / 65536 % 16);
+}
+
+static inline unsigned yezsdolak_columns(uint64_t shape)
+{
+    return (unsigned)(shape / 64 / 1048576 % 16);
+}
+
+enum {
+    YEZSDOLAK_SOLUTION = 1, // d, N, w, Z: its polynomials in this order
+    YEZSDOLAK_ABSENCE = 2,  // q
+};
+
+// Reads the kind of a certificate for the system, where nothing is refused; whether it is right is not asked.
+uint64_t yezsdolak_kind(const uint8_t *system, size_t system_bytes, const uint8_t *certificate, size_t certificate_bytes);
+
+enum {
+    YEZSDOLAK_OF_SYSTEM = 0,      // A row by row, then b
+    YEZSDOLAK_OF_CERTIFICATE = 1, // d, N, w, Z, or else q
+};
+
+// Writes the coefficients of polynomial `number` of the system or of the certificate, counted from 0, that of x^0 first, over the
+// first of `coefficients`; those behind keep their values. The count is that of the coefficients, 0 for zero. Both files are read
+// first; where there is no polynomial of that number, that is refused (12). Any `side` but 0 is the certificate.
+uint64_t yezsdolak_lookup(const uint8_t *system, size_t system_bytes, const uint8_t *certificate, size_t certificate_bytes,
+                          uint64_t side, uint64_t number, uint64_t coefficients[YEZSDOLAK_MOST_COEFFICIENTS]);
 
 #ifdef __cplusplus
 }

@@ -15,24 +15,25 @@ use Rattle.verifier.specs.File.{fileVerdict}
 use Rattle.verifier.specs.Checked.{CertifiedFiles, files-iff-certified, files-say, files-agree}
 use Rattle.verifier.specs.FilesRefused.{FilesRefused, files-refused-iff}
 use Rattle.answers.specs.Packed.{packedVerdict}
-use Rattle.link.specs.NumberLaws.{Refusals, check-numbers}
+use Rattle.link_values.specs.Refusals.{Numbers}
+use Rattle.link.specs.NumberLaws.{check-numbers}
 
 abbrev pub checkGives : (f g : List ℕ) → ℕ
 checkGives f g = packedVerdict (fileVerdict office f g)
 
-zero-accepted : (v : Outcome (Unit {0})) → Refusals 1 36 v → packedVerdict v ≡ 0 → v ≡ accepted tt
+zero-accepted : (v : Outcome (Unit {0})) → Numbers 1 36 v → packedVerdict v ≡ 0 → v ≡ accepted tt
 zero-accepted (accepted tt) h e = refl
-zero-accepted (refused number place) h e = absurd (omega (arith, h .numbers number place refl))
+zero-accepted (refused number place) h e = absurd (omega (arith, h .each number place refl))
 
-number-refused : (v : Outcome (Unit {0})) → Refusals 1 36 v → (number place : ℕ) → 1 ≤ number → number ≤ 63
+number-refused : (v : Outcome (Unit {0})) → Numbers 1 36 v → (number place : ℕ) → 1 ≤ number → number ≤ 63
     → packedVerdict v ≡ 64 * place + number → v ≡ refused number place
 number-refused (accepted tt) h number place l m e = absurd (omega arith)
 number-refused (refused n k) h number place l m e =
-    let b = h .numbers n k refl in
+    let b = h .each n k refl in
     ap₂ refused (omega arith) (omega arith)
 
 module _ (f g : List ℕ) where
-  abbrev numbered : Refusals 1 36 (fileVerdict office f g)
+  abbrev numbered : Numbers 1 36 (fileVerdict office f g)
   numbered = check-numbers office office-fits f g
 
   -- each number of the table under its condition only, 10 before all others

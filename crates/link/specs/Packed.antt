@@ -1,14 +1,22 @@
--- The solver's answer to a file as one number (`answers`, `Packed`).
-use Prim.Native.Nat.{ℕ}
+-- The solver's answer to a file, and the report, as one number (`answers`, `Packed`).
+use Prim.Native.Nat.{ℕ, _*_}
 use mathlib.Core.Path.{_≡_}
 use mathlib.Core.List.{List}
 use Rattle.words.specs.Limits.{Limits}
 use Rattle.words.specs.Outcome.{Outcome}
+use Rattle.words.specs.Outcome.Outcome.{accepted}
 use Rattle.answers.specs.Packed.{packed}
 use Rattle.solver.specs.Solving.{SolvesFile}
+use Rattle.report.specs.Reporting.{ReportsFile}
 
 -- some answer of the solver, packed: which certificate it is, is free as in `SolvesFile`
 pub record SolvesPacked (limits : Limits) (file entry exit : List ℕ) (r : ℕ) : Type 0 where
   pub answer : Outcome ℕ
   pub solves : SolvesFile limits file entry exit answer
   pub packs : r ≡ packed answer
+
+-- the number of the report's bytes, packed: it refuses nothing
+pub record ReportsPacked (limits : Limits) (file entry exit : List ℕ) (r : ℕ) : Type 0 where
+  pub count : ℕ
+  pub reports : ReportsFile limits file entry exit count
+  pub packs : r ≡ packed (accepted count)

@@ -1,70 +1,37 @@
--- A packed answer can be taken apart: what the calls give has numbers 1 to 36, so `r % 64` is the number and `r / 64` the
--- place or the count, and different answers are different numbers.
+-- A packed answer can be taken apart (`link_values`, `Unpacked`): what the calls give has numbers 1 to 36, so `r % 64` is the number and
+-- `r / 64` the place or the count, and different answers are different numbers.
 use Prim.Native.Nat.{ℕ, _+_, _*_, _/_, _%_, _≤_}
 use mathlib.Core.Path.{_≡_, refl, sym, ap, ap₂, _∙_, subst}
 use mathlib.Core.Logic.{_↔_}
-use mathlib.Core.Bool.{not}
 use mathlib.Core.List.{List}
 use native.Mathlib.Omega.{arith}
 use lib.ListN.{length}
-use lib.Dec.{eqb}
-use borrow.Author.Tests.{ne-eqb}
 use Rattle.words.specs.Limits.{Limits, longestCertificate}
 use Rattle.words.specs.LimitsLaws.{LimitsFit}
 use Rattle.words.specs.Word.{Bytes}
 use Rattle.words.specs.System.{SystemWithin, systemWords}
 use Rattle.words.specs.Bytes.{bytesOf}
 use Rattle.words.specs.TenFirst.{FileRefused}
-use Rattle.words.specs.Outcome.{Outcome, refuse}
+use Rattle.words.specs.Outcome.{Outcome}
 use Rattle.words.specs.Outcome.Outcome.{accepted, refused}
 use Rattle.solver.specs.Solving.{SolvesFile}
 use Rattle.solver.specs.RefusedLaws.{RoomLast, solve-file-refused-iff}
 use Rattle.verifier.specs.File.{fileVerdict}
 use Rattle.answers.specs.Packed.{packed, packedVerdict}
-use Rattle.link.specs.Packed.{SolvesPacked}
-use Rattle.link.specs.NumberLaws.{Refusals, refusals-wider, solver-numbers, check-numbers}
-
--- ---- taking apart, as include/yezsdolak.h does: the number is what is left by 64, the place or count what is above it
-
--- a refusal of this number, where it is not 0
-abbrev pub refusedUnless0 : {A : Type 0} → (number place : ℕ) → A → Outcome A
-refusedUnless0 number place a = refuse (not (eqb number 0)) number place (accepted a)
-
-abbrev pub unpacked : ℕ → Outcome ℕ
-unpacked r = refusedUnless0 (r % 64) (r / 64) (r / 64)
-
-abbrev pub unpackedVerdict : ℕ → Outcome (Unit {0})
-unpackedVerdict r = refusedUnless0 (r % 64) (r / 64) tt
-
-refused-by : {A : Type 0} (number place : ℕ) (a : A) → 1 ≤ number → refusedUnless0 number place a ≡ refused number place
-refused-by number place a h =
-    ap (λ b. refuse (not b) number place (accepted a)) (ne-eqb number 0 (λ e. omega arith))
-
-module _ (number place : ℕ) (small : number ≤ 63) where
-  pub packed-number : (64 * place + number) % 64 ≡ number
-  packed-number = omega arith
-
-  pub packed-place : (64 * place + number) / 64 ≡ place
-  packed-place = omega arith
+use Rattle.link_values.specs.Refusals.{Numbers, numbers-wider}
+use Rattle.link_values.specs.Unpacked.{refusedUnless0, unpacked, refused-by, packed-number, packed-place, unpacked-packed}
+use Rattle.link.specs.Packed.{SolvesPacked, ReportsPacked}
+use Rattle.link.specs.NumberLaws.{solver-numbers, check-numbers}
+use Rattle.report.specs.Reporting.{ReportsFile}
 
 -- ---- the solver
-
-pub unpacked-packed : (answer : Outcome ℕ) → Refusals 1 63 answer → unpacked (packed answer) ≡ answer
-unpacked-packed (accepted count) h =
-    let number : 64 * count % 64 ≡ 0 = omega arith in
-    let above : 64 * count / 64 ≡ count = omega arith in
-    ap₂ (λ n k. refusedUnless0 n k k) number above
-unpacked-packed (refused number place) h =
-    let between = h .numbers number place refl in
-    ap₂ (λ n k. refusedUnless0 n k k) (packed-number number place (between .1)) (packed-place number place (between .1))
-    ∙ refused-by number place place (between .0)
 
 -- what the solver gives, taken apart, is its answer
 pub solver-unpacked : {limits : Limits} {file entry exit : List ℕ} {r : ℕ} (h : SolvesPacked limits file entry exit r)
     → unpacked r ≡ h .answer
 solver-unpacked {limits} {file} {entry} {exit} h =
     let numbers = solver-numbers limits file entry exit (h .answer) (h .solves) in
-    ap unpacked (h .packs) ∙ unpacked-packed (h .answer) (refusals-wider 1 11 (omega arith) (omega arith) numbers)
+    ap unpacked (h .packs) ∙ unpacked-packed (h .answer) (numbers-wider 1 11 (omega arith) (omega arith) numbers)
 
 pub solves-unpacked : {limits : Limits} {file entry exit : List ℕ} {r : ℕ} → SolvesPacked limits file entry exit r
     → SolvesFile limits file entry exit (unpacked r)
@@ -95,10 +62,13 @@ solver-packs-apart h k = sym (solver-unpacked h) ∙ solver-unpacked k
 
 -- ---- the check
 
-unpacked-packedVerdict : (v : Outcome (Unit {0})) → Refusals 1 63 v → unpackedVerdict (packedVerdict v) ≡ v
+abbrev pub unpackedVerdict : ℕ → Outcome (Unit {0})
+unpackedVerdict r = refusedUnless0 (r % 64) (r / 64) tt
+
+unpacked-packedVerdict : (v : Outcome (Unit {0})) → Numbers 1 63 v → unpackedVerdict (packedVerdict v) ≡ v
 unpacked-packedVerdict (accepted tt) h = refl
 unpacked-packedVerdict (refused number place) h =
-    let between = h .numbers number place refl in
+    let between = h .each number place refl in
     ap₂ (λ n k. refusedUnless0 n k tt) (packed-number number place (between .1)) (packed-place number place (between .1))
     ∙ refused-by number place tt (between .0)
 
@@ -107,7 +77,7 @@ pub check-unpacked : (limits : Limits) → LimitsFit limits → (system certific
     → unpackedVerdict (packedVerdict (fileVerdict limits system certificate)) ≡ fileVerdict limits system certificate
 check-unpacked limits fit system certificate =
     unpacked-packedVerdict (fileVerdict limits system certificate)
-    (refusals-wider 1 36 (omega arith) (omega arith) (check-numbers limits fit system certificate))
+    (numbers-wider 1 36 (omega arith) (omega arith) (check-numbers limits fit system certificate))
 
 pub check-packs-apart : (limits limits′ : Limits) → LimitsFit limits → LimitsFit limits′
     → (system certificate system′ certificate′ : List ℕ)
@@ -115,3 +85,11 @@ pub check-packs-apart : (limits limits′ : Limits) → LimitsFit limits → Lim
     → fileVerdict limits system certificate ≡ fileVerdict limits′ system′ certificate′
 check-packs-apart limits limits′ fit fit′ system certificate system′ certificate′ e =
     sym (check-unpacked limits fit system certificate) ∙ ap unpackedVerdict e ∙ check-unpacked limits′ fit′ system′ certificate′
+
+-- ---- the report: it refuses nothing, and the count is above 64
+
+pub report-unpacked : {limits : Limits} {file entry exit : List ℕ} {r : ℕ} → ReportsPacked limits file entry exit r
+    → (r % 64 ≡ 0) × ReportsFile limits file entry exit (r / 64)
+report-unpacked {limits} {file} {entry} {exit} {r} h =
+    let count : h .count ≡ r / 64 = omega (arith, h .packs) in
+    (omega (arith, h .packs), subst (ReportsFile limits file entry exit) count (h .reports))

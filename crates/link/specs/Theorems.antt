@@ -47,7 +47,8 @@ use Rattle.values.specs.RoundTrip.{system-reads-back, system-loads-back, certif
 use Rattle.solver.specs.RefusedLaws.{RoomLast}
 use Rattle.solver.specs.OneCertificate.{Call, file-solved-same}
 use Rattle.link.specs.Packed.{SolvesPacked}
-use Rattle.link.specs.PackedLaws.{unpacked, unpacked-0, solves-unpacked, solver-refused-iff}
+use Rattle.link_values.specs.Unpacked.{unpacked}
+use Rattle.link.specs.PackedLaws.{unpacked-0, solves-unpacked, solver-refused-iff}
 use Rattle.link.specs.Checked.{checkGives, checked-iff, checked-says, checked-refused-iff, checked-agree}
 use Rattle.link.specs.Together.{checkedAfter, every-system-checked, refused-unchanged}
 

@@ -17,7 +17,8 @@ use Rattle.solver.specs.SolvingLaws as solver
 use Rattle.link.specs.FileLaws.{solved-file-accepted, every-file-solved}
 use Rattle.answers.specs.Packed.{packed, packedVerdict}
 use Rattle.link.specs.Packed.{SolvesPacked}
-use Rattle.link.specs.PackedLaws.{refusedUnless0, unpacked, solves-unpacked}
+use Rattle.link_values.specs.Unpacked.{refusedUnless0, unpacked}
+use Rattle.link.specs.PackedLaws.{solves-unpacked}
 
 -- what the check is handed: the system's file, and as many of the lent bytes as the solver counted
 abbrev pub checkedAfter : (file exit : List ℕ) (r : ℕ) → ℕ

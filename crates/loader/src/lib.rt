@@ -16,7 +16,7 @@ ghost use Rattle.polynomial.specs.Value.{Represents};
 ghost use Rattle.loader.specs.Slot.{slot, FramedForSlots, InSlots, SlotFilled};
 
 // Stores the payload of words[a + j] at area[d + j] for j below n.
-fn copy_payloads(area: &mut [u64], d: usize, words: &[u32], a: usize, n: usize)
+pub fn copy_payloads(area: &mut [u64], d: usize, words: &[u32], a: usize, n: usize)
     requires { ⌜ (d + n ≤ length (now area)) × (a + n ≤ length (now words)) ⌝ }
     ensures { λ _. ⌜ now (area .exit) ≡ stored (λ j. payload (getD (now (words .entry)) (a + j) 0)) (now (area .entry)) d n ⌝ }
 {

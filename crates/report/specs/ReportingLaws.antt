@@ -1,23 +1,31 @@
--- Every file has a report, and one only, which is written in one way.
-use mathlib.Core.Path.{_≡_, refl, sym, ap, _∙_}
-use mathlib.Core.Bool.{Bool, true, false}
+-- Every file has a report, and one only, which is written in one way and is short.
+use mathlib.Core.Path.{_≡_, refl, sym, ap, _∙_, subst}
+use mathlib.Core.Logic.{_⊎_, inl, inr}
+use mathlib.Core.Bool.{Bool, true, false, _||_}
 use mathlib.Core.List.{List, _++_}
-use Prim.Native.Nat.{ℕ, _≤_}
+use Prim.Native.Nat.{ℕ, _≤_, _<_}
 use native.Mathlib.Omega.{arith}
 use lib.ListN.{length, drop, length-append}
 use lib.Dec.{ltb}
-use Rattle.words.specs.Limits.{Limits, office}
+use Rattle.words.specs.Limits.{Limits, office, largestModulus}
 use Rattle.words.specs.LimitsLaws.{LimitsFit, office-fits}
 use Rattle.words.specs.Outcome.{Outcome}
 use Rattle.words.specs.Outcome.Outcome.{accepted, refused}
-use Rattle.words.specs.System.{System}
-use Rattle.words.specs.Bytes.{readSystemFile}
+use Rattle.words.specs.System.{System, Shape, SystemWithin, shape}
+use Rattle.words.specs.Certificate.{Certificate, CertificateWithin}
+use Rattle.words.specs.Certificate.Certificate.{solution, absence}
+use Rattle.words.specs.Table.{ByTable, systemTable}
+use Rattle.words.specs.RefusedLaws.{system-refused-iff, file-refused-iff, system-numbers}
+use Rattle.words.specs.FaultLaws.{file-place}
+use Rattle.words.specs.Bytes.{wordsOf, broken, tooLong, readSystemFile}
 use Rattle.words.specs.BytesLaws.{file-within}
+use Rattle.truth.specs.Solution.{Answer, Answers}
 use Rattle.truth.specs.Accepted.{proper}
 use Rattle.truth.specs.Truth.{answer-unique}
-use Rattle.solve_meaning.specs.Existence.{office-answer-exists}
+use Rattle.solve_meaning.specs.Answers.{answerOf, right-answers}
+use Rattle.solve_meaning.specs.Existence.{office-certificate-exists, office-answer-exists}
 use Rattle.report_text.specs.Text.{reportText}
-use Rattle.report_text.specs.Longest.{reportSpace}
+use Rattle.report_text.specs.Longest.{ReportWithin, reportSpace, report-fits}
 use Rattle.report.specs.Reporting.{Reports, ReportOf, GivenUnless, ReportsFile}
 
 module _ (limits : Limits) (fit : LimitsFit limits) (file : List ℕ) where
@@ -58,6 +66,56 @@ module _ (file : List ℕ) where
 
   pub report-exists : (text : List ℕ) × ReportOf office file text
   report-exists = exists-by (readSystemFile office file) refl
+
+-- no report is longer than the bytes that suffice: of the denominators of a system's certificates all are the same, and one keeps the limits
+certificate-reported : (h : Shape) → h .modulus ≤ largestModulus → (c : Certificate) → CertificateWithin office h c
+    → ReportWithin office (accepted (answerOf c))
+unfolding ReportWithin CertificateWithin answerOf
+certificate-reported h most (solution d N w Z) k = record { modulus = h .modulus; most = most; within = k .denominator }
+certificate-reported h most (absence q) k = tt
+
+answer-reported : (s : System) → SystemWithin office s → (a : Answer) → Answers s a → ReportWithin office (accepted a)
+answer-reported s h a answers =
+    let R = office-certificate-exists s h in
+    let c = R .certificate in
+    let same = answer-unique s (proper office s h) (answerOf c) a (right-answers office s h c (R .within) (R .right)) answers in
+    subst (λ b. ReportWithin office (accepted b)) same (certificate-reported (shape s) (h .shape .modulus) c (R .within))
+
+module _ (file : List ℕ) where
+  number-small : (number place : ℕ) → readSystemFile office file ≡ refused number place → number < 256
+  number-small number place e = by (file-refused-iff office file number place .0 e)
+    where
+      by : ((broken file || tooLong office file ≡ true) × (number ≡ 10) × (place ≡ 0))
+          ⊎ ((broken file || tooLong office file ≡ false) × ByTable (systemTable office) 0 (wordsOf file) number place) → number < 256
+      by (inl t) = omega (arith, t .1)
+      by (inr t) = omega (arith, system-numbers office (wordsOf file) (system-refused-iff office (wordsOf file) number place .1 (t .1)))
+
+  short-by : (o : Outcome System) → readSystemFile office file ≡ o → (text : List ℕ) → Reports o text → length text ≤ reportSpace
+  unfolding Reports ReportWithin
+  short-by (refused number place) e text r =
+      omega (
+        arith,
+        ap length r,
+        report-fits (refused number place) (number-small number place e, omega (arith, file-place office file e)),
+      )
+  short-by (accepted s) e text r =
+      omega (
+        arith,
+        ap length (r .2),
+        report-fits (accepted (r .0)) (answer-reported s (file-within office office-fits s file e) (r .0) (r .1)),
+      )
+
+  pub report-short : (text : List ℕ) → ReportOf office file text → length text ≤ reportSpace
+  report-short = short-by (readSystemFile office file) refl
+
+  module _ (entry exit : List ℕ) {count : ℕ} where
+    count-by : (b : Bool) → GivenUnless b (readSystemFile office file) entry exit count → count ≤ reportSpace
+    unfolding GivenUnless
+    count-by true g = omega (arith, g .0)
+    count-by false g = omega (arith, g .written .count, report-short (g .text) (g .reports))
+
+    pub reports-short : ReportsFile office file entry exit count → count ≤ reportSpace
+    reports-short = count-by (ltb (length entry) reportSpace)
 
 -- the report is among the lent bytes
 module _ (entry exit : List ℕ) {count : ℕ} where

@@ -1,0 +1,5 @@
+pub mod Opens
+pub mod Reading
+pub mod Looking
+pub mod Small
+pub mod Written

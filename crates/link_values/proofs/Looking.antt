@@ -1,0 +1,168 @@
+-- A polynomial that is looked up: what is left in the lent numbers.
+use mathlib.Core.Path.{_≡_, refl, sym, ap, _∙_, subst}
+use mathlib.Core.Bool.{Bool, true, false}
+use mathlib.Core.List.{List, [], append-nil}
+use mathlib.Core.Logic.{⊎-elim}
+use Prim.Native.Nat.{ℕ, suc, _+_, _-_, _≤_, _<_}
+use native.Mathlib.Omega.{arith}
+use lib.ListN.{length, getD, drop, length-append, length-drop, List·getD-append}
+use lib.Seq.{ext-getD, getD-append-add, getD-drop}
+use lib.Dec.{leb}
+use borrow.Author.Tests.{lt-leb}
+use Rattle.modular.specs.Canonical.{Canonical}
+use Rattle.words.specs.Limits.{Limits, office}
+use Rattle.words.specs.LimitsLaws.{office-fits}
+use Rattle.words.specs.Outcome.{Outcome, refuse, followedBy, mapped}
+use Rattle.words.specs.Outcome.Outcome.{accepted, refused}
+use Rattle.words.specs.OutcomeLaws.{mapped-accepted, mapped-refused, refused-accepted}
+use Rattle.words.specs.Word.{payload}
+use Rattle.words.specs.Polynomial.{polynomialWords}
+use Rattle.words.specs.PolynomialLaws.{length-polynomialWords}
+use Rattle.words.specs.PlaceLaws.{coefficient-at}
+use Rattle.words.specs.VectorLaws.{all-at}
+use Rattle.words.specs.System.{System, shape, readSystem}
+use Rattle.words.specs.SystemLaws.{system-written-of-read}
+use Rattle.words.specs.Certificate.{Certificate, readCertificate}
+use Rattle.lookup.specs.Lookup.{Side, Part, entriesOn, shown, polynomialLookup, wordsShown, companion}
+use Rattle.lookup.specs.Lookup.Side.{system, certificate}
+use Rattle.lookup.specs.FramedLaws.{system-framed, certificate-framed}
+use Rattle.lookup.specs.LookupLaws.{Shows, lookup-shown}
+use Rattle.vector.specs.Stored.{stored, length-stored, stored-first, stored-outside, below-or-not}
+use Rattle.write_frame.specs.Overwriting.{overwritten}
+use Rattle.link_values.specs.Files.{Both, readBoth, polynomialOf, lookupOf}
+use Rattle.link_values.specs.FilesLaws.{ReadAs, both-accepted, lookup-size}
+use Rattle.link_values.specs.Giving.{Gives}
+use Rattle.link_values.specs.GivingLaws.{gives-list}
+
+-- ---- numbers stored one after another, as a list over the first of those lent
+
+module _ (f lent : List ℕ) (numbers : ℕ → ℕ) (same : (i : ℕ) → i < length f → numbers i ≡ getD f i 0) (room : length f ≤ length lent) where
+  stored-over : stored numbers lent 0 (length f) ≡ overwritten f lent
+  stored-over = ext-getD 0 _ _ lengths each
+    where
+      rest : List ℕ
+      rest = drop (length f) lent
+
+      lengths : length (stored numbers lent 0 (length f)) ≡ length (overwritten f lent)
+      lengths = omega (
+        arith,
+        length-stored numbers lent 0 (length f),
+        length-append f (drop (length f) lent),
+        length-drop (length f) lent,
+      )
+
+      behind : (i : ℕ) → length f ≤ i → getD (overwritten f lent) i 0 ≡ getD lent i 0
+      behind i h =
+          let e : length f + (i - length f) ≡ i = omega arith in
+          ap (λ (j : ℕ). getD (overwritten f lent) j 0) (sym e)
+          ∙ getD-append-add f (drop (length f) lent) (i - length f) 0
+          ∙ getD-drop (length f) lent (i - length f) 0
+          ∙ ap (λ (j : ℕ). getD lent j 0) e
+
+      each : (i : ℕ) → i < length (stored numbers lent 0 (length f))
+          → getD (stored numbers lent 0 (length f)) i 0 ≡ getD (overwritten f lent) i 0
+      each i _ =
+          ⊎-elim
+          (λ lt.
+          stored-first numbers lent (length f) i room lt ∙ same i lt
+          ∙ sym (List·getD-append f (drop (length f) lent) 0 i lt))
+          (λ ge. stored-outside numbers lent 0 (length f) i (mathlib.Core.Logic.inr (omega arith)) ∙ sym (behind i ge))
+          (below-or-not i (length f))
+
+-- ---- what is looked up, by the words that the lookup shows
+
+module _ (ws cs : List ℕ) (side : Side) (k : ℕ) where
+  abbrev Told : Limits → Outcome Part
+  Told limits = polynomialLookup limits ws cs side k
+
+  -- the coefficients that are due
+  abbrev pub Sought : Outcome (List ℕ)
+  Sought = lookupOf side k (readBoth office ws cs)
+
+  by-row : {A B : Type 0} (t : Bool) (a : A) (b : B) {number place : ℕ} → refuse t 12 0 (accepted a) ≡ refused number place
+      → refuse t 12 0 (accepted b) ≡ refused number place
+  by-row true a b e = cc
+  by-row false a b e = absurd (refused-accepted (sym e))
+
+  by-values : (o : Outcome System) {number place : ℕ}
+      → followedBy o (λ s. followedBy (readCertificate office (shape s) cs) (λ c. shown k (entriesOn side s c))) ≡ refused number place
+      → lookupOf side k (followedBy o (λ s. mapped (λ c. record { system = s; certificate = c }) (readCertificate office (shape s) cs)))
+      ≡ refused number place
+  by-values (refused n p) e = cc
+  by-values (accepted s) {number} {place} e = by (readCertificate office (shape s) cs) e
+    where
+      by : (o : Outcome Certificate) → followedBy o (λ c. shown k (entriesOn side s c)) ≡ refused number place
+          → lookupOf side k (mapped (λ c. record { system = s; certificate = c }) o) ≡ refused number place
+      by (accepted c) r = by-row (leb (length (entriesOn side s c)) k) _ _ r
+      by (refused n p) r = cc
+
+  -- words that stand for a polynomial: its size, then its coefficients
+  pub record Found (words : List ℕ) : Type 0 where
+    pub coefficients : List ℕ
+    pub sought : Sought ≡ accepted coefficients
+    pub size : length words ≡ 1 + length coefficients
+    pub few : length coefficients ≤ 121
+    pub each : (i : ℕ) → i < length coefficients → payload (getD words (1 + i) 0) ≡ getD coefficients i 0
+
+  small-canonical : (v : Both) → ReadAs office ws cs v → (side : Side)
+      → Canonical (v .system .modulus) (getD (entriesOn side (v .system) (v .certificate)) k [])
+  small-canonical v r system =
+      all-at (v .system .modulus) 16 _ (system-framed office ws (v .system) (r .system) .entries .entries) k .canonical
+  small-canonical v r certificate =
+      all-at (v .system .modulus) 121 _
+      (certificate-framed office cs (shape (v .system)) (v .certificate) (r .certificate) .entries .entries) k .canonical
+
+  found : {words : List ℕ} (part : Part) → Shows office ws cs side k part → words ≡ part .words → Found words
+  found {words} part s same =
+      let v : Both = record { system = s .system; certificate = s .certificate } in
+      let r : ReadAs office ws cs v = record { system = s .read-system; certificate = s .read-certificate } in
+      let f = getD (entriesOn side (s .system) (s .certificate)) k [] in
+      let p = system-written-of-read office office-fits ws (s .system) (s .read-system) .1 .shape .modulus in
+      let is : words ≡ polynomialWords f = same ∙ s .words in
+      record {
+        coefficients = f;
+        sought =
+            ap (lookupOf side k) (both-accepted office ws cs (s .read-system) (s .read-certificate))
+            ∙ simp (lt-leb (length (entriesOn side (s .system) (s .certificate))) k (s .number));
+        size = ap length is ∙ length-polynomialWords f ∙ omega arith;
+        few = lookup-size office (omega arith) ws cs v r side k;
+        each = λ i lt.
+            let next : 1 + i ≡ suc i = omega arith in
+            ap (λ (j : ℕ). payload (getD words j 0)) next
+            ∙ ap (λ (l : List ℕ). payload (getD l (suc i) 0)) (is ∙ sym (append-nil (polynomialWords f)))
+            ∙ coefficient-at (s .system .modulus) (omega arith) f [] (small-canonical v r side) i lt;
+      }
+
+  -- the limits as the code has them
+  module _ (limits : Limits) (is : limits ≡ office) where
+    pub sought-refused : {number place : ℕ} → refused number place ≡ companion (Told limits) → Sought ≡ refused number place
+    unfolding polynomialLookup readBoth
+    sought-refused e =
+        by-values (readSystem office ws)
+        (ap Told (sym is) ∙ mapped-refused (λ part. tt) (Told limits) (sym e))
+
+    -- the words that are shown
+    module _ {words : List ℕ} (shows : words ≡ wordsShown (Told limits)) where
+      pub none-shown : length words ≡ 0 → (limits′ : Limits) → limits′ ≡ office → accepted tt ≡ companion (Told limits′) → ⊥
+      none-shown none limits′ is′ passed =
+          let same = ap (λ l. companion (Told l)) (is ∙ sym is′) in
+          let part = mapped-accepted (λ part. tt) (Told limits) (same ∙ sym passed) in
+          let s = lookup-shown limits ws cs side k (part .0) (part .1) in
+          omega (arith, none, ap length (shows ∙ ap wordsShown (part .1) ∙ s .words), length-polynomialWords (getD (entriesOn side (s .system) (s .certificate)) k []))
+
+      pub some-shown : ¬ (length words ≡ 0) → Found words
+      some-shown some = by (Told limits) refl
+        where
+          by : (o : Outcome Part) → Told limits ≡ o → Found words
+          by (refused number place) e = absurd (some (ap length (shows ∙ ap wordsShown e)))
+          by (accepted part) e =
+              found part (lookup-shown office ws cs side k part (ap Told (sym is) ∙ e)) (shows ∙ ap wordsShown e)
+
+  -- ---- what is left
+
+  pub gives-found : {words : List ℕ} → Found words → (lent exit : List ℕ) → 121 ≤ length lent → {n : ℕ} → n ≡ length words - 1
+      → exit ≡ stored (λ j. payload (getD words (1 + j) 0)) lent 0 n → Gives Sought lent exit (accepted n)
+  gives-found F lent exit room {n} count stores =
+      let size : n ≡ length (F .coefficients) = omega (arith, F .size) in
+      gives-list (F .sought) size
+      (stores ∙ ap (stored _ lent 0) size ∙ stored-over (F .coefficients) lent _ (F .each) (omega (arith, F .few)))

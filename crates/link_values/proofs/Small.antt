@@ -1,0 +1,67 @@
+-- Counts and places of what is told are small, so that they can be packed.
+use Prim.Native.Nat.{ℕ, _≤_}
+use mathlib.Core.Path.{_≡_, sym, ap, _∙_}
+use mathlib.Core.List.{List, []}
+use native.Mathlib.Omega.{arith}
+use lib.ListN.{length, getD}
+use lib.Dec.{leb}
+use Rattle.words.specs.Limits.{office}
+use Rattle.words.specs.LimitsLaws.{office-fits}
+use Rattle.words.specs.Outcome.{Outcome, mapped}
+use Rattle.words.specs.Outcome.Outcome.{accepted, refused}
+use Rattle.words.specs.OutcomeLaws.{refused-accepted, mapped-accepted, followedBy-accepted, refuse-passed}
+use Rattle.words.specs.System.{Shape}
+use Rattle.words.specs.Certificate.{Form, certificateForm}
+use Rattle.words.specs.Certificate.Form.{solving, absent}
+use Rattle.answers.specs.Packed.{packedMost, AnswerMost}
+use Rattle.lookup.specs.Lookup.{Side, entriesOn}
+use Rattle.link_values.specs.Refusals.{Places, refusals-mapped}
+use Rattle.writer.specs.Values.{systemInArrays}
+use Rattle.link_values.specs.Files.{kindNumber, readFiles, fileKind, fileLookup, writeSystemFile}
+use Rattle.link_values.specs.FilesLaws.{files-read, lookup-size, kind-places, lookup-places}
+use Rattle.link_values.specs.WritingLaws.{write-places, write-count}
+
+pub refusal-small : {A : Type 0} {o : Outcome A} {number place : ℕ} → Places packedMost o → o ≡ refused number place
+    → AnswerMost packedMost packedMost (refused number place)
+refusal-small {number = number} {place} small e = record {
+  counts = λ n r. absurd (refused-accepted r);
+  places = λ i k r.
+      let same : place ≡ k = cc in
+      omega (arith, small .each number place e);
+}
+
+kind-most : (form : Form) → kindNumber form ≤ 2
+kind-most solving = omega arith
+kind-most absent = omega arith
+
+pub kind-small : (f g : List ℕ) → AnswerMost packedMost packedMost (fileKind office f g)
+kind-small f g = record {
+  counts = λ n e.
+      let v = mapped-accepted (λ v. kindNumber (certificateForm (v .certificate))) (readFiles office f g) e in
+      omega (arith, kind-most (certificateForm (v .0 .certificate)), v .2);
+  places = kind-places office office-fits packedMost (omega arith) (omega arith) f g .each;
+}
+
+pub lookup-small : (f g : List ℕ) (side : Side) (k : ℕ) → AnswerMost packedMost packedMost (mapped length (fileLookup office f g side k))
+lookup-small f g side k = record {
+  counts = λ n e.
+      let f′ = mapped-accepted length (fileLookup office f g side k) e in
+      let v = followedBy-accepted (readFiles office f g) _ (f′ .1) in
+      let fs = entriesOn side (v .0 .system) (v .0 .certificate) in
+      let t = refuse-passed (leb (length fs) k) 12 0 (accepted (getD fs k [])) (v .2) in
+      let same : getD fs k [] ≡ f′ .0 = (let p = t .1 in cc) in
+      let size = lookup-size office (omega arith) _ _ (v .0) (files-read office f g (v .0) (v .1)) side k in
+      omega (arith, size, ap length same, f′ .2);
+  places = refusals-mapped length (fileLookup office f g side k)
+      (lookup-places office office-fits packedMost (omega arith) (omega arith) f g side k) .each;
+}
+
+pub write-small : (lent : ℕ) (h : Shape) (sizes coefficients : List ℕ)
+    → AnswerMost packedMost packedMost (mapped length (writeSystemFile office lent (systemInArrays office h sizes coefficients)))
+write-small lent h sizes coefficients = record {
+  counts = λ n e.
+      let bytes = mapped-accepted length (writeSystemFile office lent (systemInArrays office h sizes coefficients)) e in
+      omega (arith, write-count office lent h sizes coefficients office-fits (bytes .0) (bytes .1), bytes .2);
+  places = refusals-mapped length (writeSystemFile office lent (systemInArrays office h sizes coefficients))
+      (write-places office lent h sizes coefficients packedMost (omega arith)) .each;
+}

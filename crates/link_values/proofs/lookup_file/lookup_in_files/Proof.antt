@@ -1,0 +1,116 @@
+-- What is told of the words that are left is told of the files.
+use mathlib.Core.Path.{_≡_, sym, ap, ap₂, _∙_, subst}
+use mathlib.Core.List.{List}
+use Prim.Native.Nat.{ℕ}
+use native.Mathlib.Omega.{arith}
+use lib.ListN.{length}
+use lib.Seq.{length-take-le}
+use Rattle.words.specs.Limits.{office}
+use Rattle.words.specs.Outcome.{Outcome, mapped}
+use Rattle.answers.specs.Answer.{refusedBy, countedOutcome}
+use Rattle.answers.specs.Packed.{packed, packedMost, AnswerMost}
+use Rattle.link_values.specs.Files.{sideOf, lookupOf, fileLookup}
+use Rattle.link_values.specs.Giving.{Gives}
+use Rattle.link_values.specs.GivingLaws.{gives-as, gives-refusal, gives-packed}
+use Rattle.link_values.specs.Opening.{OpensWords, OpensBoth}
+use Rattle.link_values.proofs.Small.{lookup-small}
+use borrow.Author.Needs.{needs}
+use Rattle.link_values.proofs.lookup_file.lookup_in_files.Statement.{statement}
+use Rattle.link_values.proofs.lookup_file.lookup_in_files.Tie as tie
+
+-- what is asked for
+module _ (call : tie.After-open-both) where
+  abbrev start : tie.Start
+  start = call .before .before .before .before .before
+
+  abbrev f : List ℕ
+  f = start .args .system .now
+
+  abbrev g : List ℕ
+  g = start .args .certificate .now
+
+  abbrev sought : Outcome (List ℕ)
+  sought = fileLookup office f g (sideOf (start .args .side)) (start .args .number)
+
+  small : AnswerMost packedMost packedMost (mapped length sought)
+  small = lookup-small f g (sideOf (start .args .side)) (start .args .number)
+
+-- both files are opened
+module _ (c : tie.After-opened) where
+  abbrev call : tie.After-open-both
+  call = c .before .before .before .before
+
+  opens : OpensWords office (f call) (g call) (call .open-both .last .0) (call .open-both .last .1 .0)
+      (c .opened .given .0 .0) (c .opened .given .0 .1 .0)
+  opens = subst (OpensBoth office _ _ _ _) (c .opened .given .1) (call .open-both .ensures)
+
+-- the words are asked
+module _ (c : tie.After-lookup-words) where
+  abbrev told : tie.After-opened
+  told = c .before .before .before .before .before .before
+
+  given : Gives (sought (call told)) (start (call told) .args .coefficients .now) (c .lookup-words .last .0) (countedOutcome (c .lookup-words .result))
+  given = gives-as
+      (ap₂ (λ s o. lookupOf s (start (call told) .args .number) o) (sym (c .before .side-of .ensures)) (opens told .read))
+      (c .lookup-words .ensures)
+
+-- one of the files is not opened
+module _ (c : tie.After-opened2) where
+  abbrev call2 : tie.After-open-both
+  call2 = c .before .before .before .before
+
+  stops : sought call2 ≡ refusedBy (c .opened2 .given .0 .0)
+  stops =
+      ap (lookupOf (sideOf (start call2 .args .side)) (start call2 .args .number))
+      (subst (OpensBoth office _ _ _ _) (c .opened2 .given .1) (call2 .open-both .ensures))
+
+array-share-prefix-system-words : tie.Need-array-share-prefix-system-words
+array-share-prefix-system-words c =
+    let o = c .before .before in
+    let room : length (call o .open-both .last .0) ≡ 1226 = search needs in
+    omega (arith, opens o .system-room)
+
+slice-aggregate-lookup-words : tie.Need-slice-aggregate-lookup-words
+slice-aggregate-lookup-words c = sym (length-take-le _ _ (opens (c .before .before .before) .system-room))
+
+array-share-prefix-certificate-words : tie.Need-array-share-prefix-certificate-words
+array-share-prefix-certificate-words c =
+    let o = c .before .before .before in
+    let room : length (call o .open-both .last .1 .0) ≡ 2199 = search needs in
+    omega (arith, opens o .certificate-room)
+
+slice-aggregate-lookup-words-2 : tie.Need-slice-aggregate-lookup-words-2
+slice-aggregate-lookup-words-2 c = sym (length-take-le _ _ (opens (c .before .before .before .before) .certificate-room))
+
+pack-counted-requires : tie.Need-pack-counted-requires
+pack-counted-requires c κs = subst (AnswerMost packedMost packedMost) (sym (given c .told)) (small (call (told c)))
+
+pack-counted-requires-2 : tie.Need-pack-counted-requires-2
+pack-counted-requires-2 c κs =
+    subst (AnswerMost packedMost packedMost) (ap (mapped length) (stops (c .before))) (small (call2 (c .before)))
+
+returns : tie.Need-returns
+returns c = gives-packed (given (c .before)) (c .pack-counted .ensures)
+
+returns-2 : tie.Need-returns-2
+returns-2 c = gives-packed (gives-refusal (stops (c .before .before)) _) (c .pack-counted2 .ensures)
+
+pub lookup-in-files-spec : {M : Type 1} → statement M
+lookup-in-files-spec =
+    tie.close
+    (tie.spec
+    (λ c. search needs)
+    (λ c. search needs)
+    (λ c κs. search needs)
+    (λ c. search needs)
+    array-share-prefix-system-words
+    slice-aggregate-lookup-words
+    array-share-prefix-certificate-words
+    slice-aggregate-lookup-words-2
+    (λ c κs. search needs)
+    (λ c κs. search needs)
+    pack-counted-requires
+    (λ c. search needs)
+    pack-counted-requires-2
+    returns
+    returns-2)

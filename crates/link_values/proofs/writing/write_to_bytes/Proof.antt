@@ -1,0 +1,101 @@
+-- What `write_system` gave on words of its own is written as bytes.
+use mathlib.Core.Path.{_≡_, sym, ap, _∙_, subst}
+use mathlib.Core.List.{List}
+use Prim.Native.Nat.{ℕ}
+use native.Mathlib.Omega.{arith}
+use lib.ListN.{length, replicate, take}
+use borrow.Author.Needs.{needs}
+use Rattle.words.specs.Limits.{office, longestSystem}
+use Rattle.words.specs.Outcome.Outcome.{accepted}
+use Rattle.words.specs.System.{System}
+use Rattle.words.specs.BytesLaws.{length-bytesOf}
+use Rattle.answers.specs.declared.answer.Counted.{Counted}
+use Rattle.answers.specs.declared.answer.Counted.the-variants.{Count}
+use Rattle.writer.specs.Writing.{writeSystem, Writes}
+use Rattle.writer.specs.Values.{shapeWith, systemInArrays}
+use Rattle.writer.specs.WrittenLaws.{count-words}
+use Rattle.link_values.specs.GivingLaws.{gives-refusal, gives-list}
+use Rattle.link_values.specs.WritingLaws.{write-refused, write-short, write-whole}
+use Rattle.link_values.proofs.Written.{was-refused, counted-length, counted-fits}
+use Rattle.link_values.proofs.writing.write_to_bytes.Statement.{statement}
+use Rattle.link_values.proofs.writing.write_to_bytes.Tie as tie
+
+-- the values, and the words of one's own
+module _ (call : tie.After-write-system) where
+  abbrev system : System
+  system =
+      let a = call .before .before .before .args in
+      systemInArrays office (shapeWith (a .modulus) (a .rows) (a .columns)) (a .sizes .now) (a .coefficients .now)
+
+  abbrev words : List ℕ
+  words = call .write-system .last .0
+
+  writes : (answer : Counted) → call .write-system .result ≡ answer
+      → Writes (writeSystem office (longestSystem office) system) (replicate 1226 0) answer words
+  writes answer e = subst (λ a. Writes (writeSystem office (longestSystem office) system) (replicate 1226 0) a words) e
+      (call .write-system .ensures)
+
+-- so many words are written
+module _ (c : tie.After-written) where
+  abbrev call : tie.After-write-system
+  call = c .before .before .before
+
+  counted : Writes (writeSystem office (longestSystem office) (system call)) (replicate 1226 0) (Count (c .written .given .0 .0)) (words call)
+  counted = writes call _ (c .written .given .1)
+
+  are : writeSystem office (longestSystem office) (system call) ≡ accepted (take (c .written .given .0 .0) (words call))
+  are = count-words _ counted
+
+  room : length (words call) ≡ 1226
+  room = search needs
+
+returns : tie.Need-returns
+returns c = gives-refusal (write-short office (system (call (c .before .before))) _ (are (c .before .before)) (c .if1 .taken)) _
+
+array-share-prefix-words : tie.Need-array-share-prefix-words
+array-share-prefix-words c =
+    let w = c .before .before .before in
+    omega (arith, counted-fits (counted w), room w)
+
+slice-aggregate-write-bytes : tie.Need-slice-aggregate-write-bytes
+slice-aggregate-write-bytes c = counted-length (counted (c .before .before .before .before))
+
+write-bytes-requires : tie.Need-write-bytes-requires
+write-bytes-requires c κs =
+    let w = c .before .before .before .before in
+    omega (arith, counted-length (counted w), counted-fits (counted w), room w, c .before .before .if1 .left)
+
+mul-t15 : tie.Need-mul-t15
+mul-t15 c =
+    let w = c .before .before .before .before .before .before .before in
+    omega (arith, counted-fits (counted w), room w)
+
+returns-2 : tie.Need-returns-2
+returns-2 c =
+    let w = c .before .before .before .before .before .before .before in
+    gives-list (write-whole office (system (call w)) _ (are w) (c .before .before .before .before .before .if1 .left))
+    (omega (arith, length-bytesOf (take (w .written .given .0 .0) (words (call w))), counted-length (counted w)))
+    (c .before .before .write-bytes .ensures)
+
+returns-3 : tie.Need-returns-3
+returns-3 c =
+    let w = c .before in
+    let call = w .before .before .before in
+    gives-refusal (write-refused office (system call) _ (was-refused (writes call _ (w .written2 .given .1)))) _
+
+pub write-to-bytes-spec : {M : Type 1} → statement M
+write-to-bytes-spec =
+    tie.close
+    (tie.spec
+    (λ c. search needs)
+    (λ c κs. search needs)
+    (λ c. search needs)
+    returns
+    array-share-prefix-words
+    slice-aggregate-write-bytes
+    write-bytes-requires
+    mul-t15
+    (λ c. search needs)
+    (λ c. search needs)
+    returns-2
+    returns-3)

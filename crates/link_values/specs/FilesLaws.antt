@@ -1,0 +1,222 @@
+-- Laws of what is told of files: the first words of a certificate's decide; numbers and places of refusals; sizes.
+use Prim.Native.Nat.{ℕ, zero, suc, _+_, _*_, _/_, _≤_, _<_, min}
+use native.Mathlib.Nat.{min-eq-left, min-eq-right, min-le-left, min-le-right}
+use mathlib.Core.Path.{_≡_, refl, sym, ap, _∙_, subst}
+use mathlib.Core.Logic.{_⊎_, inl, inr}
+use mathlib.Core.Bool.{Bool, true, false, not, _&&_, _||_}
+use mathlib.Core.List.{List, []}
+use native.Mathlib.Omega.{arith}
+use lib.ListN.{length, getD, take, length-take}
+use lib.Seq.{take-length}
+use lib.Dec.{leb, ltb}
+use borrow.Author.Tests.{leb-true, leb-false, ltb-false}
+use Rattle.words.specs.Limits.{Limits, longestSystem, longestCertificate}
+use Rattle.words.specs.LimitsLaws.{LimitsFit}
+use Rattle.words.specs.Outcome.{Outcome, refuse, followedBy, mapped}
+use Rattle.words.specs.Outcome.Outcome.{accepted, refused}
+use Rattle.words.specs.OutcomeLaws.{followedBy-accepted, mapped-accepted, refuse-passed}
+use Rattle.words.specs.System.{System, Shape, ShapeWithin, shape, readSystem}
+use Rattle.words.specs.SystemLaws.{system-written-of-read}
+use Rattle.words.specs.Certificate.{Certificate, readCertificate}
+use Rattle.words.specs.PrefixLaws.{certificate-prefix}
+use Rattle.words.specs.RefusedLaws as reading
+use Rattle.words.specs.FaultLaws.{system-place, certificate-place, file-place}
+use Rattle.words.specs.Bytes.{wordsOf, broken, tooLong, readSystemFile}
+use Rattle.words.specs.BytesLaws.{length-wordsOf}
+use Rattle.lookup.specs.Lookup.{Side, entriesOn}
+use Rattle.lookup.specs.Lookup.Side.{system, certificate}
+use Rattle.lookup.specs.FramedLaws.{system-framed, certificate-framed, framed-size}
+use Rattle.truth.specs.Verdict.{verdict, certificateVerdict}
+use Rattle.verifier.specs.File.{filesBroken, fileVerdict}
+use Rattle.link_values.specs.Refusals.{Numbers, Places, refusals-row, refusals-refused, refusals-followed, refusals-mapped}
+use Rattle.link_values.specs.Refusals.{refusals-accepted, refusals-same, numbers-wider, places-wider}
+use Rattle.link_values.specs.Files.{Both, shapeNumber, fileShape, readBoth, readFiles, fileKind, polynomialOf, fileLookup}
+
+-- ---- the check reads the same, and then judges
+
+pub verdict-of-files : (limits : Limits) (f g : List ℕ)
+    → fileVerdict limits f g ≡ followedBy (readFiles limits f g) (λ v. certificateVerdict (v .system) (v .certificate))
+unfolding fileVerdict verdict readFiles readBoth
+verdict-of-files limits f g = by-files (filesBroken limits f g)
+  where
+    judge : Both → Outcome (Unit {0})
+    judge v = certificateVerdict (v .system) (v .certificate)
+
+    by-certificate : (s : System) (o : Outcome Certificate)
+        → followedBy o (certificateVerdict s) ≡ followedBy (mapped (λ c. record { system = s; certificate = c }) o) judge
+    by-certificate s (accepted c) = refl
+    by-certificate s (refused number place) = refl
+
+    by-system : (o : Outcome System)
+        → followedBy o (λ s. followedBy (readCertificate limits (shape s) (wordsOf g)) (certificateVerdict s))
+        ≡ followedBy (followedBy o (λ s.
+        mapped (λ c. record { system = s; certificate = c }) (readCertificate limits (shape s) (wordsOf g)))) judge
+    by-system (accepted s) = by-certificate s (readCertificate limits (shape s) (wordsOf g))
+    by-system (refused number place) = refl
+
+    by-files : (b : Bool) → refuse b 10 0 (verdict limits (wordsOf f) (wordsOf g))
+        ≡ followedBy (refuse b 10 0 (readBoth limits (wordsOf f) (wordsOf g))) judge
+    by-files true = refl
+    by-files false = by-system (readSystem limits (wordsOf f))
+
+-- ---- the first words of a certificate decide, so many that none has as many
+
+-- at most so many
+abbrev pub firstWords : ℕ → List ℕ → List ℕ
+firstWords count cs = take (min (length cs) count) cs
+
+few-words : (count : ℕ) (cs : List ℕ) → length (firstWords count cs) ≤ count
+few-words count cs =
+    let n = min (length cs) count in
+    omega (arith, length-take n cs, min-le-right (length cs) count, min-le-left n (length cs))
+
+module _ (limits : Limits) (fit : LimitsFit limits) (cs : List ℕ) (count : ℕ) (long : longestCertificate limits < count) where
+  certificate-room : (h : Shape) → ShapeWithin limits h
+      → readCertificate limits h (firstWords count cs) ≡ readCertificate limits h cs
+  certificate-room h within = by (leb (length cs) count) refl
+    where
+      by : (b : Bool) → leb (length cs) count ≡ b → readCertificate limits h (firstWords count cs) ≡ readCertificate limits h cs
+      by true e =
+          ap (λ (n : ℕ). readCertificate limits h (take n cs)) (min-eq-left (leb-true (length cs) count e))
+          ∙ ap (readCertificate limits h) (take-length cs)
+      by false e =
+          let more : count ≤ length cs = omega (arith, leb-false (length cs) count e) in
+          ap (λ (n : ℕ). readCertificate limits h (take n cs)) (min-eq-right more)
+          ∙ certificate-prefix limits fit h within count long cs more
+
+  pub both-room : (ws : List ℕ) → readBoth limits ws (firstWords count cs) ≡ readBoth limits ws cs
+  unfolding readBoth
+  both-room ws = by (readSystem limits ws) refl
+    where
+      paired : System → Outcome Certificate → Outcome Both
+      paired s = mapped (λ c. record { system = s; certificate = c })
+
+      by : (o : Outcome System) → readSystem limits ws ≡ o
+          → followedBy o (λ s. paired s (readCertificate limits (shape s) (firstWords count cs)))
+          ≡ followedBy o (λ s. paired s (readCertificate limits (shape s) cs))
+      by (accepted s) e = ap (paired s) (certificate-room (shape s) (system-written-of-read limits fit ws s e .1 .shape))
+      by (refused number place) e = refl
+
+-- ---- the system first, then the certificate for it
+
+module _ (limits : Limits) (ws cs : List ℕ) where
+  pub both-system-refused : {number place : ℕ} → readSystem limits ws ≡ refused number place → readBoth limits ws cs ≡ refused number place
+  unfolding readBoth
+  both-system-refused e = rw e refl
+
+  module _ {s : System} (e : readSystem limits ws ≡ accepted s) where
+    pub both-certificate-refused : {number place : ℕ} → readCertificate limits (shape s) cs ≡ refused number place
+        → readBoth limits ws cs ≡ refused number place
+    unfolding readBoth
+    both-certificate-refused r = rw (e, r) refl
+
+    pub both-accepted : {c : Certificate} → readCertificate limits (shape s) cs ≡ accepted c
+        → readBoth limits ws cs ≡ accepted (record { system = s; certificate = c })
+    unfolding readBoth
+    both-accepted r = rw (e, r) refl
+
+-- ---- values that were read
+
+module _ (limits : Limits) where
+  pub record ReadAs (ws cs : List ℕ) (v : Both) : Type 0 where
+    pub system : readSystem limits ws ≡ accepted (v .system)
+    pub certificate : readCertificate limits (shape (v .system)) cs ≡ accepted (v .certificate)
+
+  pub both-read : (ws cs : List ℕ) (v : Both) → readBoth limits ws cs ≡ accepted v → ReadAs ws cs v
+  unfolding readBoth
+  both-read ws cs v e =
+      let s = followedBy-accepted (readSystem limits ws) _ e in
+      let c = mapped-accepted (λ c. record { system = s .0; certificate = c }) (readCertificate limits (shape (s .0)) cs) (s .2) in
+      subst (ReadAs ws cs) (c .2) (record { system = s .1; certificate = c .1 })
+
+  pub files-read : (f g : List ℕ) (v : Both) → readFiles limits f g ≡ accepted v → ReadAs (wordsOf f) (wordsOf g) v
+  unfolding readFiles
+  files-read f g v e = both-read (wordsOf f) (wordsOf g) v (refuse-passed (filesBroken limits f g) 10 0 _ e .1)
+
+  -- no polynomial is longer than one of a certificate may be
+  pub lookup-size : limits .systemCoefficients ≤ limits .certificateCoefficients → (ws cs : List ℕ) (v : Both) → ReadAs ws cs v
+      → (side : Side) (k : ℕ) → length (getD (entriesOn side (v .system) (v .certificate)) k []) ≤ limits .certificateCoefficients
+  lookup-size more ws cs v r system k =
+      let size = framed-size (system-framed limits ws (v .system) (r .system)) k in omega arith
+  lookup-size more ws cs v r certificate k =
+      framed-size (certificate-framed limits cs (shape (v .system)) (v .certificate) (r .certificate)) k
+
+-- ---- numbers of refusals
+
+module _ (limits : Limits) where
+  pub system-numbers : (ws : List ℕ) → Numbers 1 9 (readSystem limits ws)
+  system-numbers ws = record { each = λ number place e. reading.system-numbers limits ws e }
+
+  pub certificate-numbers : (h : Shape) (cs : List ℕ) → Numbers 21 29 (readCertificate limits h cs)
+  certificate-numbers h cs = record { each = λ number place e. within (reading.certificate-numbers limits h cs e) }
+    where
+      within : {n : ℕ} → (n ≡ 21) ⊎ ((24 ≤ n) × (n ≤ 29)) → (21 ≤ n) × (n ≤ 29)
+      within (inl e) = (omega arith, omega arith)
+      within (inr b) = (omega arith, omega arith)
+
+  -- 10 of the file, before all others
+  pub file-numbers : (f : List ℕ) → Numbers 1 10 (readSystemFile limits f)
+  unfolding readSystemFile
+  file-numbers f =
+      refusals-row (broken f || tooLong limits f) 10 0 _ (omega arith, omega arith)
+      (λ _. numbers-wider 1 9 (omega arith) (omega arith) (system-numbers (wordsOf f)))
+
+  pub shape-numbers : (f : List ℕ) → Numbers 1 10 (fileShape limits f)
+  shape-numbers f = refusals-mapped shapeNumber _ (refusals-mapped shape (readSystemFile limits f) (file-numbers f))
+
+  pub files-numbers : (f g : List ℕ) → Numbers 1 29 (readFiles limits f g)
+  unfolding readFiles readBoth
+  files-numbers f g =
+      refusals-row (filesBroken limits f g) 10 0 _ (omega arith, omega arith) (λ _.
+      refusals-followed (readSystem limits (wordsOf f)) _
+      (numbers-wider 1 9 (omega arith) (omega arith) (system-numbers (wordsOf f))) (λ s _.
+      refusals-mapped _ (readCertificate limits (shape s) (wordsOf g))
+      (numbers-wider 21 29 (omega arith) (omega arith) (certificate-numbers (shape s) (wordsOf g)))))
+
+  pub kind-numbers : (f g : List ℕ) → Numbers 1 29 (fileKind limits f g)
+  kind-numbers f g = refusals-mapped _ (readFiles limits f g) (files-numbers f g)
+
+  -- 12 comes last
+  pub lookup-numbers : (f g : List ℕ) (side : Side) (k : ℕ) → Numbers 1 29 (fileLookup limits f g side k)
+  lookup-numbers f g side k =
+      refusals-followed (readFiles limits f g) _ (files-numbers f g) (λ v _.
+      refusals-row (leb (length (entriesOn side (v .system) (v .certificate))) k) 12 0 _ (omega arith, omega arith) (λ _.
+      refusals-accepted _))
+
+-- ---- places of refusals
+
+not-either : (a b : Bool) → a || b ≡ false → (a ≡ false) × (b ≡ false)
+not-either true b e = absurd (let z : _≡_ {A = ℕ} 0 1 = cc in omega arith)
+not-either false b e = (refl, e)
+
+module _ (limits : Limits) (fit : LimitsFit limits) (most : ℕ) (system-words : longestSystem limits ≤ most)
+    (certificate-words : longestCertificate limits + 1 ≤ most) where
+  -- of files that are opened no more words are read
+  words-places : (f g : List ℕ) → filesBroken limits f g ≡ false → Places most (readBoth limits (wordsOf f) (wordsOf g))
+  unfolding readBoth
+  words-places f g e =
+      let whole = not-either (broken f || tooLong limits f) (broken g) e .0 in
+      let short = ltb-false (4 * longestSystem limits) (length f) (not-either (broken f) (tooLong limits f) whole .1) in
+      let count = longestCertificate limits + 1 in
+      let cs = firstWords count (wordsOf g) in
+      refusals-same (sym (both-room limits fit (wordsOf g) count (omega arith) (wordsOf f)))
+      (refusals-followed (readSystem limits (wordsOf f)) _
+      (record { each = λ number place r. omega (arith, system-place limits (wordsOf f) r, length-wordsOf f, short) }) (λ s _.
+      refusals-mapped _ (readCertificate limits (shape s) cs)
+      (record { each = λ number place r. omega (arith, certificate-place limits (shape s) cs r, few-words count (wordsOf g)) })))
+
+  pub files-places : (f g : List ℕ) → Places most (readFiles limits f g)
+  unfolding readFiles
+  files-places f g = refusals-row (filesBroken limits f g) 10 0 _ (omega arith) (words-places f g)
+
+  pub kind-places : (f g : List ℕ) → Places most (fileKind limits f g)
+  kind-places f g = refusals-mapped _ (readFiles limits f g) (files-places f g)
+
+  pub lookup-places : (f g : List ℕ) (side : Side) (k : ℕ) → Places most (fileLookup limits f g side k)
+  lookup-places f g side k =
+      refusals-followed (readFiles limits f g) _ (files-places f g) (λ v _.
+      refusals-row (leb (length (entriesOn side (v .system) (v .certificate))) k) 12 0 _ (omega arith) (λ _. refusals-accepted _))
+
+  pub shape-places : (f : List ℕ) → Places most (fileShape limits f)
+  shape-places f = refusals-mapped shapeNumber _ (refusals-mapped shape (readSystemFile limits f)
+      (record { each = λ number place r. omega (arith, file-place limits f r) }))

@@ -1,0 +1,68 @@
+-- A packed answer taken apart, as include/yezsdolak.h does: the number is what is left by 64, the place or the count what is above it.
+use Prim.Native.Nat.{ℕ, _+_, _*_, _/_, _%_, _≤_}
+use mathlib.Core.Path.{_≡_, refl, sym, ap, ap₂, _∙_}
+use mathlib.Core.Bool.{not}
+use mathlib.Core.List.{List}
+use native.Mathlib.Omega.{arith}
+use lib.ListN.{length, take, drop}
+use lib.Seq.{take-at}
+use lib.Dec.{eqb}
+use borrow.Author.Tests.{ne-eqb}
+use Rattle.words.specs.Outcome.{Outcome, refuse, mapped}
+use Rattle.words.specs.Outcome.Outcome.{accepted, refused}
+use Rattle.answers.specs.Packed.{packed}
+use Rattle.writer.specs.Writing.{lentAfter}
+use Rattle.link_values.specs.Refusals.{Numbers}
+use Rattle.link_values.specs.Giving.{GivesPacked}
+
+-- a refusal of this number, where it is not 0
+abbrev pub refusedUnless0 : {A : Type 0} → (number place : ℕ) → A → Outcome A
+refusedUnless0 number place a = refuse (not (eqb number 0)) number place (accepted a)
+
+abbrev pub unpacked : ℕ → Outcome ℕ
+unpacked r = refusedUnless0 (r % 64) (r / 64) (r / 64)
+
+pub refused-by : {A : Type 0} (number place : ℕ) (a : A) → 1 ≤ number → refusedUnless0 number place a ≡ refused number place
+refused-by number place a h =
+    ap (λ b. refuse (not b) number place (accepted a)) (ne-eqb number 0 (λ e. omega arith))
+
+module _ (number place : ℕ) (small : number ≤ 63) where
+  pub packed-number : (64 * place + number) % 64 ≡ number
+  packed-number = omega arith
+
+  pub packed-place : (64 * place + number) / 64 ≡ place
+  packed-place = omega arith
+
+pub unpacked-packed : (answer : Outcome ℕ) → Numbers 1 63 answer → unpacked (packed answer) ≡ answer
+unpacked-packed (accepted count) h =
+    let number : 64 * count % 64 ≡ 0 = omega arith in
+    let above : 64 * count / 64 ≡ count = omega arith in
+    ap₂ (λ n k. refusedUnless0 n k k) number above
+unpacked-packed (refused number place) h =
+    let between = h .each number place refl in
+    ap₂ (λ n k. refusedUnless0 n k k) (packed-number number place (between .1)) (packed-place number place (between .1))
+    ∙ refused-by number place place (between .0)
+
+-- ---- what a call leaves that is to give a list of numbers
+
+-- where it counts: the first so many of the lent numbers are the list
+pub given-counted : (outcome : Outcome (List ℕ)) {entry exit : List ℕ} {r : ℕ} → Numbers 1 63 outcome
+    → GivesPacked outcome entry exit r → r % 64 ≡ 0 → outcome ≡ accepted (take (r / 64) exit)
+unfolding lentAfter
+given-counted (accepted xs) {entry} {exit} {r} h g none =
+    let count : r / 64 ≡ length xs = omega (arith, g .result) in
+    ap accepted (sym (ap (take (r / 64)) (g .lent) ∙ take-at xs (drop (length xs) entry) (r / 64) (sym count)))
+given-counted (refused number place) h g none =
+    let between = h .each number place refl in
+    absurd (omega (arith, g .result))
+
+-- where it refuses: that is the refusal, and the lent numbers stand as before
+pub given-refused : (outcome : Outcome (List ℕ)) {entry exit : List ℕ} {r : ℕ} → Numbers 1 63 outcome
+    → GivesPacked outcome entry exit r → ¬ (r % 64 ≡ 0) → (outcome ≡ refused (r % 64) (r / 64)) × (exit ≡ entry)
+unfolding lentAfter
+given-refused (accepted xs) h g some = absurd (some (omega (arith, g .result)))
+given-refused (refused number place) {r = r} h g some =
+    let between = h .each number place refl in
+    let same : number ≡ r % 64 = omega (arith, g .result) in
+    let here : place ≡ r / 64 = omega (arith, g .result) in
+    (ap₂ refused same here, g .lent)

@@ -1,0 +1,64 @@
+// The kind of the certificate in a file.
+use crate::opening::CERTIFICATE_SPACE;
+use crate::opening::Opened;
+use crate::opening::open_both;
+use answers::CertificateRead;
+use answers::Counted;
+use answers::Form;
+use answers::SystemRead;
+use answers::packed::pack_counted;
+use limits::Office;
+use reader::certificate::read_certificate;
+use reader::system::read_system;
+ghost use mathlib.Core.Path.{_≡_};
+ghost use Rattle.words.specs.Limits.{office};
+ghost use Rattle.answers.specs.Answer.{formOf, countedOutcome};
+ghost use Rattle.answers.specs.Packed.{packed};
+ghost use Rattle.link_values.specs.Files.{kindNumber, kindOf, readBoth, fileKind};
+
+// Returns the number of a form, as the head of a certificate has it.
+fn number_of(form: Form) -> usize
+    ensures { λ r. ⌜ r ≡ kindNumber (formOf form) ⌝ }
+{
+    match form {
+        Form::Solution => 1,
+        Form::Absence => 2,
+    }
+}
+
+// Reads the kind of a certificate for a system.
+fn kind_of_words(system: &[u32], certificate: &[u32]) -> Counted
+    ensures { λ r. ⌜ countedOutcome r ≡ kindOf (readBoth office (now (system .entry)) (now (certificate .entry))) ⌝ }
+{
+    let read = read_system(system, Office::limits());
+    match read {
+        SystemRead::Accepted(shape) => {
+            let found = read_certificate(certificate, shape, Office::limits());
+            match found {
+                CertificateRead::Accepted(form) => Counted::Count(number_of(form)),
+                CertificateRead::Refused(refusal) => Counted::Refused(refusal),
+            }
+        }
+        SystemRead::Refused(refusal) => Counted::Refused(refusal),
+    }
+}
+
+// Reads the kind of the certificate in a file, for the system in a file.
+pub fn kind_of_files(system: &[u8], certificate: &[u8]) -> u64
+    ensures { λ r. ⌜ r ≡ packed (fileKind office (now (system .entry)) (now (certificate .entry))) ⌝ }
+{
+    let mut system_words = [0u32; Office::SYSTEM_WORDS];
+    let mut certificate_words = [0u32; CERTIFICATE_SPACE];
+    let opened = open_both(
+        &mut system_words,
+        &mut certificate_words,
+        system,
+        certificate,
+    );
+    match opened {
+        Opened::Words(n, m) => {
+            pack_counted(kind_of_words(&system_words[..n], &certificate_words[..m]))
+        }
+        Opened::Refused(refusal) => pack_counted(Counted::Refused(refusal)),
+    }
+}

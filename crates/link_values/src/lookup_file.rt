@@ -1,0 +1,89 @@
+// One polynomial of the system or of the certificate in two files.
+use crate::opening::CERTIFICATE_SPACE;
+use crate::opening::Opened;
+use crate::opening::open_both;
+use answers::Counted;
+use answers::Verdict;
+use answers::packed::pack_counted;
+use limits::Office;
+use loader::copy_payloads;
+use lookup::Side;
+use lookup::lookup;
+use lookup::lookup_refusal;
+ghost use mathlib.Core.Path.{_≡_};
+ghost use Rattle.words.specs.Limits.{office};
+ghost use Rattle.lookup.specs.Answer.{sideAsked};
+ghost use Rattle.answers.specs.Answer.{countedOutcome};
+ghost use Rattle.link_values.specs.Files.{sideOf, lookupOf, readBoth, fileLookup};
+ghost use Rattle.link_values.specs.Giving.{Gives, GivesPacked};
+
+// The most coefficients of a polynomial of a certificate.
+pub const COEFFICIENTS: usize = Office::CERTIFICATE_COEFFICIENTS as usize;
+
+// Returns the side of a number: 0 is the system's.
+fn side_of(number: u64) -> Side
+    ensures { λ r. ⌜ sideAsked r ≡ sideOf number ⌝ }
+{
+    if number == 0 {
+        Side::System
+    } else {
+        Side::Certificate
+    }
+}
+
+// Writes the coefficients of polynomial `number` of the side that is asked for over the first of the lent numbers. Returns how many
+// there are.
+fn lookup_words<'a>(
+    coefficients: &mut [u64; COEFFICIENTS],
+    system: &'a [u32],
+    certificate: &'a [u32],
+    side: Side,
+    number: usize,
+) -> Counted
+    ensures { λ r. ⌜ Gives (lookupOf (sideAsked side) number (readBoth office (now (system .entry)) (now (certificate .entry))))
+        (now (coefficients .entry)) (now (coefficients .exit)) (countedOutcome r) ⌝ }
+{
+    let words = lookup(system, certificate, side, number, Office::limits());
+    if words.len() == 0 {
+        let refusal = lookup_refusal(system, certificate, side, number, Office::limits());
+        match refusal {
+            Verdict::Accepted => Counted::Count(0),
+            Verdict::Refused(refusal) => Counted::Refused(refusal),
+        }
+    } else {
+        let count = words.len() - 1;
+        copy_payloads(coefficients, 0, words, 1, count);
+        Counted::Count(count)
+    }
+}
+
+// Looks up a polynomial of the system in a file or of the certificate in another, and writes its coefficients.
+pub fn lookup_in_files(
+    coefficients: &mut [u64; COEFFICIENTS],
+    system: &[u8],
+    certificate: &[u8],
+    side: u64,
+    number: u64,
+) -> u64
+    ensures { λ r. ⌜ GivesPacked (fileLookup office (now (system .entry)) (now (certificate .entry)) (sideOf side) number)
+        (now (coefficients .entry)) (now (coefficients .exit)) r ⌝ }
+{
+    let mut system_words = [0u32; Office::SYSTEM_WORDS];
+    let mut certificate_words = [0u32; CERTIFICATE_SPACE];
+    let opened = open_both(
+        &mut system_words,
+        &mut certificate_words,
+        system,
+        certificate,
+    );
+    match opened {
+        Opened::Words(n, m) => pack_counted(lookup_words(
+            coefficients,
+            &system_words[..n],
+            &certificate_words[..m],
+            side_of(side),
+            number as usize,
+        )),
+        Opened::Refused(refusal) => pack_counted(Counted::Refused(refusal)),
+    }
+}

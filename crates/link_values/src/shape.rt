@@ -1,0 +1,22 @@
+// The shape of the system in a file.
+use answers::Counted;
+use answers::SystemRead;
+use answers::packed::pack_counted;
+use reader::file::read_system_file;
+ghost use mathlib.Core.Path.{_≡_};
+ghost use Rattle.words.specs.Limits.{office};
+ghost use Rattle.answers.specs.Packed.{packed};
+ghost use Rattle.link_values.specs.Files.{fileShape};
+
+// Reads the modulus, the rows and the columns of the system in a file.
+pub fn shape_of_file(system: &[u8]) -> u64
+    ensures { λ r. ⌜ r ≡ packed (fileShape office (now (system .entry))) ⌝ }
+{
+    let read = read_system_file(system);
+    match read {
+        SystemRead::Accepted(shape) => {
+            64 * (shape.modulus as u64 + shape.rows as u64 * 65536 + shape.columns as u64 * 1048576)
+        }
+        SystemRead::Refused(refusal) => pack_counted(Counted::Refused(refusal)),
+    }
+}

@@ -1,0 +1,16 @@
+// The version of the library, as the file VERSION has it.
+ghost use mathlib.Core.Path.{_≡_};
+ghost use Rattle.link_values.specs.Version.{version};
+
+const MAJOR: u64 = 0;
+
+const MINOR: u64 = 9;
+
+const PATCH: u64 = 0;
+
+// Returns the version as one number.
+pub fn library_version() -> u64
+    ensures { λ r. ⌜ r ≡ version ⌝ }
+{
+    10000 * MAJOR + 100 * MINOR + PATCH
+}

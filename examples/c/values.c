@@ -1,0 +1,86 @@
+// Makes a system from numbers, solves it on a thread with just the stack that the header says, and prints the solution: no file, no
+// bit is shifted. The system is document 01's case 7, modulo 3: x^2*y1 + (x^2 + x)*y2 = 1.
+#include <pthread.h>
+#include <stdio.h>
+#include <stdlib.h>
+#include "yezsdolak.h"
+
+static uint8_t system_file[YEZSDOLAK_SYSTEM_BYTES], certificate[YEZSDOLAK_CERTIFICATE_BYTES];
+static size_t system_bytes, certificate_bytes;
+
+static void refused(const char *what, uint64_t result)
+{
+    unsigned number = yezsdolak_number(result);
+    fprintf(stderr, "%s: refused %u at %llu: %s\n", what, number, (unsigned long long)yezsdolak_place(result), yezsdolak_message(number));
+    exit(1);
+}
+
+static void *solve(void *result)
+{
+    *(uint64_t *)result = yezsdolak_solve(system_file, system_bytes, certificate, sizeof certificate);
+    return NULL;
+}
+
+// Solves on a thread of its own.
+static uint64_t solve_on_thread(void)
+{
+    pthread_t thread;
+    pthread_attr_t attributes;
+    uint64_t result = 0;
+    // the thread's own needs come on top
+    if (pthread_attr_init(&attributes) != 0 || pthread_attr_setstacksize(&attributes, YEZSDOLAK_SOLVE_STACK + 64 * 1024) != 0
+        || pthread_create(&thread, &attributes, solve, &result) != 0 || pthread_join(thread, NULL) != 0) {
+        fputs("values: no thread\n", stderr);
+        exit(2);
+    }
+    pthread_attr_destroy(&attributes);
+    return result;
+}
+
+// Prints one polynomial of the certificate, lowest power first.
+static void show(const char *name, uint64_t number)
+{
+    uint64_t coefficients[YEZSDOLAK_MOST_COEFFICIENTS];
+    uint64_t found = yezsdolak_lookup(system_file, system_bytes, certificate, certificate_bytes, YEZSDOLAK_OF_CERTIFICATE, number,
+                                      coefficients);
+    if (yezsdolak_number(found) != 0)
+        refused(name, found);
+    printf("%s", name);
+    for (uint64_t j = 0; j < yezsdolak_count(found); j++)
+        printf(" %llu", (unsigned long long)coefficients[j]);
+    puts("");
+}
+
+int main(void)
+{
+    // polynomials 0 and 1 are A's row, 2 is b
+    static const uint64_t sizes[YEZSDOLAK_POLYNOMIALS] = {3, 3, 1};
+    static const uint64_t coefficients[YEZSDOLAK_POLYNOMIALS * YEZSDOLAK_COEFFICIENTS] = {
+        [0 * YEZSDOLAK_COEFFICIENTS + 2] = 1,
+        [1 * YEZSDOLAK_COEFFICIENTS + 1] = 1,
+        [1 * YEZSDOLAK_COEFFICIENTS + 2] = 1,
+        [2 * YEZSDOLAK_COEFFICIENTS + 0] = 1,
+    };
+    if (yezsdolak_version() != YEZSDOLAK_VERSION_NUMBER)
+        fputs("values: header and library are of different versions\n", stderr);
+
+    uint64_t written = yezsdolak_write_system(3, 1, 2, sizes, coefficients, system_file, sizeof system_file);
+    if (yezsdolak_number(written) != 0)
+        refused("system", written);
+    system_bytes = (size_t)yezsdolak_count(written);
+
+    uint64_t solved = solve_on_thread();
+    if (yezsdolak_number(solved) != 0)
+        refused("system", solved);
+    certificate_bytes = (size_t)yezsdolak_count(solved);
+
+    uint64_t kind = yezsdolak_kind(system_file, system_bytes, certificate, certificate_bytes);
+    if (yezsdolak_count(kind) == YEZSDOLAK_ABSENCE) {
+        puts("no solution");
+        return 0;
+    }
+    show("d", 0);
+    show("N1", 1);
+    show("N2", 2);
+    return fflush(stdout) == 0 ? 0 : 2;
+}
