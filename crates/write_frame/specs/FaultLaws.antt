@@ -3,16 +3,19 @@ use mathlib.Core.Path.{_≡_, refl, sym, ap, ap₂, _∙_}
 use mathlib.Core.Bool.{Bool, true, false, _&&_}
 use mathlib.Core.Logic.{_⊎_, inl, inr, ⊎-elim, _↔_}
 use mathlib.Core.List.{List, [], _∷_, _++_}
-use Prim.Native.Nat.{ℕ, zero, suc, _+_, _<_}
+use Prim.Native.Nat.{ℕ, zero, suc, _+_, _*_, _≤_, _<_}
+use native.Mathlib.Nat.{mul-le-mul-right}
 use native.Mathlib.Omega.{arith}
 use lib.ListN.{length, getD, take, length-append}
+use lib.Seq.{length-take-le}
 use lib.Dec.{eqb, leb, ltb}
 use borrow.Author.Tests.{ltb-true, ltb-false, leb-true, leb-false, eqb-true, lt-ltb, le-ltb, le-leb, lt-leb, eq-eqb}
 use Rattle.modular.specs.Canonical.{Canonical}
+use Rattle.words.specs.Limits.{wordsFor}
 use Rattle.words.specs.Outcome.{Outcome, refuse}
 use Rattle.words.specs.Outcome.Outcome.{refused}
 use Rattle.words.specs.Polynomial.{Within, AllWithin, polynomialWords, polynomialsWords}
-use Rattle.words.specs.PolynomialLaws.{length-polynomialWords}
+use Rattle.words.specs.PolynomialLaws.{length-polynomialWords, length-polynomialsWords}
 use Rattle.words.specs.Frame.{entryPlace}
 use Rattle.write_frame.specs.Trial.{last?, refuseCoefficients, refusePolynomials}
 use Rattle.write_frame.specs.TrialLaws.{ends-passed, coefficients-within, polynomials-within}
@@ -174,3 +177,28 @@ module _ {A : Type 0} (p limit by : ℕ) (next : Outcome A) (n k : ℕ) where
         (λ f. fault-polynomials 1 fs (f .k) (f .some) (f .before) (f .fault))
         (λ t. polynomials-within p limit by next 1 fs (t .0) ∙ t .1),
   )
+
+-- the place is that of a word of a form of so many polynomials
+coefficient-place : {p by at : ℕ} {f : List ℕ} {n k : ℕ} → CoefficientFault p by at f n k → k < at + length f
+coefficient-place (large j some before over number place) = omega arith
+coefficient-place (last-zero j all each none number place) = omega arith
+
+polynomial-place : {p limit by at : ℕ} {f : List ℕ} {n k : ℕ} → PolynomialFault p limit by at f n k → k ≤ at + limit
+polynomial-place (many over number place) = omega arith
+polynomial-place (coefficient few found) = omega (arith, coefficient-place found)
+
+pub value-place : {p limit by : ℕ} {fs : List (List ℕ)} {n k : ℕ} → ValueFault p limit by fs n k → k < wordsFor (length fs) limit
+unfolding entryPlace
+value-place {p} {limit} {by} {fs} v =
+    let i = v .k in
+    let some = v .some in
+    let more : i + 1 ≤ length fs = omega arith in
+    let first = take i fs in
+    let before = length-polynomialsWords p limit first (v .before) in
+    omega (
+      arith,
+      polynomial-place (v .fault),
+      before,
+      ap (λ (m : ℕ). m * (1 + limit)) (length-take-le i fs (omega arith)),
+      mul-le-mul-right (1 + limit) more,
+    )

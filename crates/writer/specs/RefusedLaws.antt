@@ -3,14 +3,14 @@ use mathlib.Core.Path.{_≡_, refl, sym, ap, _∙_}
 use mathlib.Core.Bool.{Bool, true, false, not, _&&_, _||_}
 use mathlib.Core.Logic.{_⊎_, inl, inr, ⊎-elim, _↔_}
 use mathlib.Core.List.{List}
-use Prim.Native.Nat.{ℕ, _+_, _≤_}
+use Prim.Native.Nat.{ℕ, _+_, _≤_, _<_}
 use native.Mathlib.Omega.{arith}
 use lib.ListN.{length}
 use lib.Dec.{ltb}
 use borrow.Author.Tests.{ltb-true, ltb-false, lt-ltb, le-ltb, not-false}
 use Rattle.modular.specs.Prime.{prime?}
 use Rattle.modular.specs.Primality.{prime-of-true, true-of-prime}
-use Rattle.words.specs.Limits.{Limits, largestModulus, longestSystem, longestCertificate}
+use Rattle.words.specs.Limits.{Limits, largestModulus, wordsFor, longestSystem, longestCertificate}
 use Rattle.words.specs.Outcome.{Outcome, refuse}
 use Rattle.words.specs.Outcome.Outcome.{accepted, refused}
 use Rattle.words.specs.OutcomeLaws.{refused-accepted, mapped-refused}
@@ -24,7 +24,7 @@ use Rattle.write_frame.specs.Trial.{refusePolynomials}
 use Rattle.write_frame.specs.Fault.{PolynomialFault}
 use Rattle.write_frame.specs.Fault.CoefficientFault.{large, last-zero}
 use Rattle.write_frame.specs.Fault.PolynomialFault.{many, coefficient}
-use Rattle.write_frame.specs.FaultLaws.{refuse-iff, polynomials-refused-iff}
+use Rattle.write_frame.specs.FaultLaws.{refuse-iff, polynomials-refused-iff, value-place}
 use Rattle.writer.specs.Writing.{refuseShape, refuseRoom, writeSystem, writeCertificate, lentAfter, Writes}
 use Rattle.writer.specs.WritingLaws.{or-passed, shape-within}
 use Rattle.writer.specs.Refused.{MayBeModulus, MayBeSizes, WriterFault, SystemFault, CertificateFault}
@@ -154,6 +154,14 @@ system-writer-numbers limits lent s {n} {k} e = fault-number (system-refused-iff
 pub certificate-writer-numbers : (limits : Limits) (lent : ℕ) (h : Shape) (c : Certificate) {n k : ℕ}
     → writeCertificate limits lent h c ≡ refused n k → WriterNumber 20 n
 certificate-writer-numbers limits lent h c {n} {k} e = fault-number (certificate-refused-iff-fault limits lent h c n k .0 e)
+
+-- no place lies behind the form that was to be written
+pub fault-place : {limits : Limits} {h : Shape} {limit by longest lent : ℕ} {fs : List (List ℕ)} {n k : ℕ}
+    → WriterFault limits h limit by longest lent fs n k → k < wordsFor (length fs) limit
+fault-place (modulus bad number place) = omega arith
+fault-place (sizes good bad number place) = omega arith
+fault-place (value within fault) = value-place fault
+fault-place (room within all short number place) = omega arith
 
 -- ---- calls
 
