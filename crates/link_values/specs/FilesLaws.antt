@@ -19,8 +19,9 @@ use Rattle.words.specs.System.{System, Shape, ShapeWithin, shape, readSystem}
 use Rattle.words.specs.SystemLaws.{system-written-of-read}
 use Rattle.words.specs.Certificate.{Certificate, readCertificate}
 use Rattle.words.specs.PrefixLaws.{certificate-prefix}
-use Rattle.words.specs.RefusedLaws as reading
-use Rattle.words.specs.FaultLaws.{system-place, certificate-place, file-place}
+use Rattle.words.specs.Rows.{systemRows, certificateRows, fileRows}
+use Rattle.words.specs.RowLaws.{numbers-between, places-below}
+use Rattle.words.specs.RefusedLaws.{system-rows, certificate-rows, file-rows, file-place}
 use Rattle.words.specs.Bytes.{wordsOf, broken, tooLong, readSystemFile}
 use Rattle.words.specs.BytesLaws.{length-wordsOf}
 use Rattle.lookup.specs.Lookup.{Side, entriesOn}
@@ -145,21 +146,21 @@ module _ (limits : Limits) where
 
 module _ (limits : Limits) where
   pub system-numbers : (ws : List ℕ) → Numbers 1 9 (readSystem limits ws)
-  system-numbers ws = record { each = λ number place e. reading.system-numbers limits ws e }
+  system-numbers ws =
+      record { each = λ number place e. numbers-between number place 1 9 (systemRows ws) refl (system-rows limits ws .in-rows number place e) }
 
   pub certificate-numbers : (h : Shape) (cs : List ℕ) → Numbers 21 29 (readCertificate limits h cs)
-  certificate-numbers h cs = record { each = λ number place e. within (reading.certificate-numbers limits h cs e) }
-    where
-      within : {n : ℕ} → (n ≡ 21) ⊎ ((24 ≤ n) × (n ≤ 29)) → (21 ≤ n) × (n ≤ 29)
-      within (inl e) = (omega arith, omega arith)
-      within (inr b) = (omega arith, omega arith)
+  certificate-numbers h cs = record {
+    each = λ number place e.
+        numbers-between number place 21 29 (certificateRows cs) refl (certificate-rows limits h cs .in-rows number place e);
+  }
 
   -- 10 of the file, before all others
   pub file-numbers : (f : List ℕ) → Numbers 1 10 (readSystemFile limits f)
-  unfolding readSystemFile
-  file-numbers f =
-      refusals-row (broken f || tooLong limits f) 10 0 _ (omega arith, omega arith)
-      (λ _. numbers-wider 1 9 (omega arith) (omega arith) (system-numbers (wordsOf f)))
+  file-numbers f = record {
+    each = λ number place e.
+        numbers-between number place 1 10 (fileRows (wordsOf f)) refl (file-rows limits f .in-rows number place e);
+  }
 
   pub shape-numbers : (f : List ℕ) → Numbers 1 10 (fileShape limits f)
   shape-numbers f = refusals-mapped shapeNumber _ (refusals-mapped shape (readSystemFile limits f) (file-numbers f))
@@ -188,6 +189,18 @@ module _ (limits : Limits) where
 not-either : (a b : Bool) → a || b ≡ false → (a ≡ false) × (b ≡ false)
 not-either true b e = absurd (let z : _≡_ {A = ℕ} 0 1 = cc in omega arith)
 not-either false b e = (refl, e)
+
+-- no place is behind the words
+system-place : (limits : Limits) (ws : List ℕ) {number place : ℕ} → readSystem limits ws ≡ refused number place → place < suc (length ws)
+system-place limits ws {number} {place} e =
+    places-below number place (suc (length ws)) (systemRows ws) (omega arith, (omega arith, (omega arith, tt)))
+    (system-rows limits ws .in-rows number place e)
+
+certificate-place : (limits : Limits) (h : Shape) (cs : List ℕ) {number place : ℕ} → readCertificate limits h cs ≡ refused number place
+    → place < suc (length cs)
+certificate-place limits h cs {number} {place} e =
+    places-below number place (suc (length cs)) (certificateRows cs) (omega arith, (omega arith, (omega arith, tt)))
+    (certificate-rows limits h cs .in-rows number place e)
 
 module _ (limits : Limits) (fit : LimitsFit limits) (most : ℕ) (system-words : longestSystem limits ≤ most)
     (certificate-words : longestCertificate limits + 1 ≤ most) where

@@ -1,7 +1,6 @@
 -- Every file has a report, and one only, which is written in one way and is short.
 use mathlib.Core.Path.{_≡_, refl, sym, ap, _∙_, subst}
-use mathlib.Core.Logic.{_⊎_, inl, inr}
-use mathlib.Core.Bool.{Bool, true, false, _||_}
+use mathlib.Core.Bool.{Bool, true, false}
 use mathlib.Core.List.{List, _++_}
 use Prim.Native.Nat.{ℕ, _≤_, _<_}
 use native.Mathlib.Omega.{arith}
@@ -14,12 +13,13 @@ use Rattle.words.specs.Outcome.Outcome.{accepted, refused}
 use Rattle.words.specs.System.{System, Shape, SystemWithin, shape}
 use Rattle.words.specs.Certificate.{Certificate, CertificateWithin}
 use Rattle.words.specs.Certificate.Certificate.{solution, absence}
-use Rattle.words.specs.Table.{ByTable, systemTable}
-use Rattle.words.specs.RefusedLaws.{system-refused-iff, file-refused-iff, system-numbers}
-use Rattle.words.specs.FaultLaws.{file-place}
-use Rattle.words.specs.Bytes.{wordsOf, broken, tooLong, readSystemFile}
+use Rattle.words.specs.Rows.{fileRows}
+use Rattle.words.specs.RowLaws.{numbers-between}
+use Rattle.words.specs.RefusedLaws.{file-rows, file-place}
+use Rattle.words.specs.Bytes.{wordsOf, readSystemFile}
 use Rattle.words.specs.BytesLaws.{file-within}
 use Rattle.truth.specs.Solution.{Answer, Answers}
+use Rattle.truth.specs.Chosen.{chosen-right}
 use Rattle.truth.specs.Accepted.{proper}
 use Rattle.truth.specs.Truth.{answer-unique}
 use Rattle.solve_meaning.specs.Answers.{answerOf, right-answers}
@@ -78,17 +78,13 @@ answer-reported : (s : System) → SystemWithin office s → (a : Answer) → An
 answer-reported s h a answers =
     let R = office-certificate-exists s h in
     let c = R .certificate in
-    let same = answer-unique s (proper office s h) (answerOf c) a (right-answers office s h c (R .within) (R .right)) answers in
+    let same = answer-unique s (proper office s h) (answerOf c) a (right-answers office s h c (R .within) (chosen-right s c (R .chosen))) answers in
     subst (λ b. ReportWithin office (accepted b)) same (certificate-reported (shape s) (h .shape .modulus) c (R .within))
 
 module _ (file : List ℕ) where
   number-small : (number place : ℕ) → readSystemFile office file ≡ refused number place → number < 256
-  number-small number place e = by (file-refused-iff office file number place .0 e)
-    where
-      by : ((broken file || tooLong office file ≡ true) × (number ≡ 10) × (place ≡ 0))
-          ⊎ ((broken file || tooLong office file ≡ false) × ByTable (systemTable office) 0 (wordsOf file) number place) → number < 256
-      by (inl t) = omega (arith, t .1)
-      by (inr t) = omega (arith, system-numbers office (wordsOf file) (system-refused-iff office (wordsOf file) number place .1 (t .1)))
+  number-small number place e =
+      omega (arith, numbers-between number place 1 10 (fileRows (wordsOf file)) refl (file-rows office file .in-rows number place e))
 
   short-by : (o : Outcome System) → readSystemFile office file ≡ o → (text : List ℕ) → Reports o text → length text ≤ reportSpace
   unfolding Reports ReportWithin

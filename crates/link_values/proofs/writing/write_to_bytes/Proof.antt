@@ -14,6 +14,7 @@ use Rattle.answers.specs.declared.answer.Counted.the-variants.{Count}
 use Rattle.writer.specs.Writing.{writeSystem, Writes}
 use Rattle.writer.specs.Values.{shapeWith, systemInArrays}
 use Rattle.writer.specs.WrittenLaws.{count-words}
+use Rattle.writer.specs.PackingLaws.{packed-all}
 use Rattle.link_values.specs.GivingLaws.{gives-refusal, gives-list}
 use Rattle.link_values.specs.WritingLaws.{write-refused, write-short, write-whole}
 use Rattle.link_values.proofs.Written.{was-refused, counted-length, counted-fits}
@@ -60,11 +61,6 @@ array-share-prefix-words c =
 slice-aggregate-write-bytes : tie.Need-slice-aggregate-write-bytes
 slice-aggregate-write-bytes c = counted-length (counted (c .before .before .before .before))
 
-write-bytes-requires : tie.Need-write-bytes-requires
-write-bytes-requires c κs =
-    let w = c .before .before .before .before in
-    omega (arith, counted-length (counted w), counted-fits (counted w), room w, c .before .before .if1 .left)
-
 mul-t15 : tie.Need-mul-t15
 mul-t15 c =
     let w = c .before .before .before .before .before .before .before in
@@ -75,7 +71,8 @@ returns-2 c =
     let w = c .before .before .before .before .before .before .before in
     gives-list (write-whole office (system (call w)) _ (are w) (c .before .before .before .before .before .if1 .left))
     (omega (arith, length-bytesOf (take (w .written .given .0 .0) (words (call w))), counted-length (counted w)))
-    (c .before .before .write-bytes .ensures)
+    (packed-all (c .before .before .write-bytes .ensures)
+    (omega (arith, counted-length (counted w), counted-fits (counted w), room w, c .before .before .before .before .before .if1 .left)))
 
 returns-3 : tie.Need-returns-3
 returns-3 c =
@@ -93,7 +90,7 @@ write-to-bytes-spec =
     returns
     array-share-prefix-words
     slice-aggregate-write-bytes
-    write-bytes-requires
+    (λ c κs. search needs)
     mul-t15
     (λ c. search needs)
     (λ c. search needs)
