@@ -34,13 +34,20 @@ static bool refused(uint64_t result)
 static void print_solution(const struct certificate *c)
 {
     if (c->kind == ABSENCE) {
-        puts("answer none");
+        printf("answer none;");
         return;
     }
     printf("answer solution; denominator");
     for (uint32_t i = 0; i < c->d.size; i++)
         printf(" %u", c->d.coefficient[i]);
-    printf("; feedback %u\n", c->d.size - 1);
+    printf("; feedback %u;", c->d.size - 1);
+}
+
+static void print_words(const uint8_t *bytes, uint64_t words)
+{
+    for (const uint8_t *b = bytes; b < bytes + 4 * words; b += 4)
+        printf(" %02X%02X%02X%02X", b[3], b[2], b[1], b[0]);
+    puts("");
 }
 
 static void answer_solution(struct list system)
@@ -57,6 +64,7 @@ static void answer_solution(struct list system)
     read_system(&s, system.bytes, system.count);
     read_certificate(&c, &s, lent, 4 * (result / 64));
     print_solution(&c);
+    print_words(lent, result / 64);
 }
 
 static void answer_system(struct list system)

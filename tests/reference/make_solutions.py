@@ -1,7 +1,8 @@
-"""The stored set `solutions`: a case is one list, the bytes of a system's file; the answer is the report on one line.
+"""The stored set `solutions`: a case is one list, the bytes of a system's file; the answer is the report and the chosen certificate's
+words on one line.
 
-The lines of the report are joined by `; `. Every certificate behind an answer has passed the check, and its denominator agrees
-with the formula by minors.
+The lines of the report and the words are joined by `; `. Every certificate has passed the check, and its denominator agrees with the
+formula by minors.
 """
 
 import examples
@@ -15,7 +16,7 @@ from minors import least_denominator
 from reading import read_certificate
 from report import report_on
 from samples import STRUCTURES, chain, common_factor, generic, low_rank, of_rank, outside, powers_of_x, prime, shapes
-from says import says_report
+from says import says_solved
 from searched import with_denominator
 from words import Absence, System, bytes_of_words
 from writing import write_system
@@ -29,12 +30,12 @@ def add(cases, system):
     certificate = read_certificate(certificate_words, system)
     if least_denominator(system) != (None if isinstance(certificate, Absence) else certificate.d):
         raise SystemExit(f"two answers for {system}")
-    cases.add([words], "; ".join(report_on(certificate)))
+    cases.add([words], "; ".join(report_on(certificate) + [form.hexadecimal(certificate_words)]))
 
 
 def add_bytes(cases, data):
     """A case on bytes, mostly one that is refused."""
-    cases.add([data], says_report(data))
+    cases.add([data], says_solved(data))
 
 
 def from_document(cases):

@@ -1,10 +1,11 @@
 """One line of text for what each call gives: the form of the expected lines of all stored sets."""
 
 from check import check_words
+from chosen import solve_words
 from lookup import look_up
 from reading import read_both, read_system
 from report import report
-from words import Refusal, Solution, hexadecimal, words_of_file
+from words import LONGEST_CERTIFICATE, Refusal, Solution, hexadecimal, words_of_file
 
 
 def answer(call, *values):
@@ -55,6 +56,9 @@ def says_check(system_words, certificate_words):
     return answer(call)
 
 
-def says_report(data):
-    """The report on a system's bytes, its lines joined."""
-    return "; ".join(report(data))
+def says_solved(data):
+    """The report on a system's bytes and, where nothing is refused, the words of the certificate, its lines joined."""
+    def call():
+        return hexadecimal(solve_words(words_of_file(data), LONGEST_CERTIFICATE))
+    lines = report(data)
+    return "; ".join(lines if lines[0].startswith("refused") else lines + [answer(call)])

@@ -1,7 +1,7 @@
-// The report, the solver and the check on a system's file: the lines of the report joined by `; `, or `not accepted` where the
-// check does not accept what the solver gives for a system that was read.
-use crate::output::line;
+// The report, the solver and the check on a system's file: the lines of the report joined by `; `, and behind them, for a system that was
+// read, the words of the solver's certificate, or `not accepted` where the check does not accept it.
 use crate::output::text;
+use crate::output::words;
 use answers::Counted;
 use answers::SystemRead;
 use answers::Verdict;
@@ -20,37 +20,47 @@ fn is_accepted(verdict: Verdict) -> bool {
     }
 }
 
-// Tells whether the solver gives a certificate for these words, and the check accepts it.
-fn is_certified(system: &[u32]) -> bool {
+// Prints a certificate for these words, if the check accepts it.
+fn show_accepted(system: &[u32], certificate: &[u32]) {
+    if is_accepted(check(system, certificate)) {
+        words(certificate);
+    } else {
+        text(b"not accepted");
+    }
+}
+
+// Prints the certificate that the solver gives for these words.
+fn show_certificate(system: &[u32]) {
     let mut certificate = [0u32; Office::CERTIFICATE_WORDS];
     let solved = solve(&mut certificate, system);
     match solved {
-        Counted::Count(n) => is_accepted(check(system, &certificate[0..n])),
-        Counted::Refused(_) => false,
+        Counted::Count(n) => show_accepted(system, &certificate[0..n]),
+        Counted::Refused(_) => text(b"not accepted"),
     }
 }
 
-// Tells whether the file holds no system, or one that is certified.
-fn is_settled(file: &[u8]) -> bool {
+// Prints the certificate of the system that the file holds, if it holds one.
+fn show_solved(file: &[u8]) {
     let read = read_system_file(file);
     match read {
         SystemRead::Accepted(_) => {
-            let mut words = [0u32; Office::SYSTEM_WORDS];
-            let n = unpack(&mut words, file);
-            is_certified(&words[0..n])
+            let mut system = [0u32; Office::SYSTEM_WORDS];
+            let n = unpack(&mut system, file);
+            text(b"; ");
+            show_certificate(&system[0..n]);
         }
-        SystemRead::Refused(_) => true,
+        SystemRead::Refused(_) => {}
     }
 }
 
-// Prints a report as one line: `; ` stands for every line end but the last.
+// Prints a report as one line without its end: `; ` stands for every line end but the last.
 fn show(report: &[u8]) {
     let mut i: usize = 0;
     while i < report.len() {
-        if report[i] == 10 && i + 1 < report.len() {
-            text(b"; ");
-        } else {
+        if report[i] != 10 {
             text(&report[i..i + 1]);
+        } else if i + 1 < report.len() {
+            text(b"; ");
         }
         i = i + 1;
     }
@@ -60,9 +70,7 @@ fn show(report: &[u8]) {
 pub fn answer(file: &[u8]) {
     let mut report = [0u8; SPACE];
     let n = write_report(&mut report, file);
-    if is_settled(file) {
-        show(&report[0..n]);
-    } else {
-        line(b"not accepted");
-    }
+    show(&report[0..n]);
+    show_solved(file);
+    text(b"\n");
 }

@@ -8,7 +8,7 @@ use Rattle.stored_cases.proofs.solution.answer.Tie as tie
 
 part-show-end : tie.Need-part-show-end
 part-show-end c =
-    let report = c .before .before .before .before .write-report in
+    let report = c .before .before .write-report in
     reports-most (replicate 1024 0) _ office _ (report .ensures)
 
 pub answer-spec : {M : Type 1} → statement M
@@ -17,12 +17,11 @@ answer-spec =
     (tie.spec
     (λ c. search needs)
     (λ c κs. search needs)
-    (λ c κs. search needs)
     (λ c. search needs)
     (λ c. search needs)
     part-show-end
     (λ c κs. search needs)
-    (λ c. search needs)
     (λ c κs. search needs)
     (λ c. search needs)
+    (λ c κs. search needs)
     (λ c. search needs))
