@@ -32,7 +32,8 @@ static void write_file(const char *name, const uint8_t *bytes, size_t count)
 
 static void refused(const char *what, uint64_t result)
 {
-    fprintf(stderr, "%s: refused %u at %llu\n", what, yezsdolak_number(result), (unsigned long long)yezsdolak_place(result));
+    unsigned number = yezsdolak_number(result);
+    fprintf(stderr, "%s: refused %u at %llu: %s\n", what, number, (unsigned long long)yezsdolak_place(result), yezsdolak_message(number));
     exit(1);
 }
 
@@ -48,14 +49,18 @@ int main(int count, char **argument)
     uint64_t solved = yezsdolak_solve(system, system_bytes, certificate, sizeof certificate);
     if (yezsdolak_number(solved) != 0)
         refused(argument[1], solved);
-    size_t certificate_bytes = (size_t)(solved / 64);
+    size_t certificate_bytes = (size_t)yezsdolak_count(solved);
 
     // It is proved that this accepts; a program that was given a certificate by others would ask the same.
     uint64_t verdict = yezsdolak_check(system, system_bytes, certificate, certificate_bytes);
-    if (verdict != 0)
+    if (yezsdolak_number(verdict) != 0)
         refused("certificate", verdict);
 
-    fwrite(text, 1, (size_t)yezsdolak_report(system, system_bytes, text, sizeof text), stdout);
+    size_t text_bytes = (size_t)yezsdolak_count(yezsdolak_report(system, system_bytes, text, sizeof text));
+    if (fwrite(text, 1, text_bytes, stdout) != text_bytes || fflush(stdout) != 0) {
+        perror("standard output");
+        return 2;
+    }
     if (count == 3)
         write_file(argument[2], certificate, certificate_bytes);
     return 0;

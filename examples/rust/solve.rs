@@ -3,6 +3,8 @@
 
 use std::env;
 use std::fs;
+use std::io;
+use std::io::Write;
 use std::process::exit;
 
 /// The calls of include/yezsdolak.h, on slices.
@@ -48,8 +50,8 @@ mod yezsdolak {
     /// The report, written over the first of the lent bytes.
     pub fn report<'a>(system: &[u8], lent: &'a mut [u8; REPORT_BYTES]) -> &'a [u8] {
         // SAFETY: as in `solve`.
-        let count = unsafe { c::yezsdolak_report(system.as_ptr(), system.len(), lent.as_mut_ptr(), lent.len()) };
-        &lent[..count as usize]
+        let result = unsafe { c::yezsdolak_report(system.as_ptr(), system.len(), lent.as_mut_ptr(), lent.len()) };
+        &lent[..(result / 64) as usize]
     }
 }
 
@@ -76,7 +78,9 @@ fn main() {
     yezsdolak::check(&system, certificate).unwrap_or_else(|refusal| refused("certificate", refusal));
 
     let mut text = [0; yezsdolak::REPORT_BYTES];
-    print!("{}", String::from_utf8_lossy(yezsdolak::report(&system, &mut text)));
+    let mut output = io::stdout();
+    let printed = output.write_all(yezsdolak::report(&system, &mut text)).and_then(|_| output.flush());
+    printed.unwrap_or_else(|error| fail(2, format!("standard output: {error}")));
     if let Some(name) = names.get(1) {
         fs::write(name, certificate).unwrap_or_else(|error| fail(2, format!("{name}: {error}")));
     }

@@ -121,7 +121,7 @@ struct refusal compare_solve(struct draws *g, const struct answer *a, size_t len
             differ("solve has written in spite of its refusal");
         return r;
     }
-    uint64_t count = result / 64;
+    uint64_t count = yezsdolak_count(result);
     if (count == 0 || count % 4 != 0 || count > 4 * LONGEST_CERTIFICATE)
         differ("solve: no count of a certificate's bytes: %lu", (unsigned long)count);
     certificate->count = (size_t)count;
@@ -180,8 +180,8 @@ void compare_report(struct draws *g, const struct answer *a, size_t lent)
     char text[REPORT_ROOM];
     size_t count = lent < REPORT_ROOM ? 0 : report_text(text, a);
     uint64_t result = call_lending(g, "report", yezsdolak_report, lent);
-    if (result != count)
-        differ("report: %zu bytes expected, %lu found", count, (unsigned long)result);
+    if (result != 64 * (uint64_t)count)
+        differ("report: %zu bytes expected, %lu found, number %u", count, (unsigned long)yezsdolak_count(result), yezsdolak_number(result));
     if (memcmp(lent_result.bytes, text, count) != 0)
         differ("report: \"%.*s\" expected, \"%.*s\" found", (int)count, text, (int)count, (const char *)lent_result.bytes);
     if (!untouched(&lent_result, count))
