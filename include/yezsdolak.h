@@ -12,8 +12,8 @@
 //   stack that the constants below say.
 //
 // Every call but yezsdolak_version gives one number, and the functions below take it apart. yezsdolak_number is 0 where nothing is
-// refused; then yezsdolak_count says how much was written. Else it is the number of a refusal, yezsdolak_place says where it is, and
-// nothing that was lent has changed. The table of refusals, their names and their sentences are in yezsdolak_refusals.h.
+// refused; then yezsdolak_count is the count of what was written. Else it is the number of a refusal, yezsdolak_place says where it
+// is, and nothing that was lent has changed. The numbers of refusals and a sentence for each are in yezsdolak_refusals.h.
 #ifndef YEZSDOLAK_H
 #define YEZSDOLAK_H
 #include <stddef.h>
@@ -34,11 +34,11 @@ enum {
     YEZSDOLAK_CERTIFICATE_BYTES = 8792, // no certificate's file is longer: to be lent to yezsdolak_solve
     YEZSDOLAK_REPORT_BYTES = 1024,      // no report is longer: to be lent to yezsdolak_report
 
-    YEZSDOLAK_POLYNOMIALS = 72,      // no system has more: 8 rows of A with 8 columns, and b
-    YEZSDOLAK_COEFFICIENTS = 16,     // no polynomial of a system has more
+    YEZSDOLAK_POLYNOMIALS = 72,        // no system has more: 8 rows of A with 8 columns, and b
+    YEZSDOLAK_COEFFICIENTS = 16,       // no polynomial of a system has more
     YEZSDOLAK_MOST_COEFFICIENTS = 121, // no polynomial of a certificate has more
 
-    // bytes of stack that a call needs at most, as measured, and a tenth more
+    // bytes of stack that a call needs, more than a tenth above what was measured
     YEZSDOLAK_SOLVE_STACK = 448 * 1024, // also yezsdolak_report
     YEZSDOLAK_CHECK_STACK = 96 * 1024,  // all others
 };
@@ -55,7 +55,7 @@ static inline uint64_t yezsdolak_place(uint64_t result)
     return result / 64;
 }
 
-// The count of what was written, where nothing is refused.
+// Where nothing is refused: the count of what was written, or the kind of a certificate.
 static inline uint64_t yezsdolak_count(uint64_t result)
 {
     return result / 64;
@@ -90,7 +90,7 @@ uint64_t yezsdolak_write_system(uint32_t modulus, uint32_t rows, uint32_t column
                                 const uint64_t coefficients[YEZSDOLAK_POLYNOMIALS * YEZSDOLAK_COEFFICIENTS],
                                 uint8_t *system, size_t lent_bytes);
 
-// Reads the shape of a system: its modulus, its rows, its columns, where nothing is refused.
+// Reads the shape of a system. Where nothing is refused, the functions behind it take the shape apart.
 uint64_t yezsdolak_shape(const uint8_t *system, size_t system_bytes);
 
 static inline unsigned yezsdolak_modulus(uint64_t shape)
@@ -113,7 +113,7 @@ enum {
     YEZSDOLAK_ABSENCE = 2,  // q
 };
 
-// Reads the kind of a certificate for the system, where nothing is refused; whether it is right is not asked.
+// Reads the kind of a certificate for the system, which is the count; whether the certificate is right is not asked.
 uint64_t yezsdolak_kind(const uint8_t *system, size_t system_bytes, const uint8_t *certificate, size_t certificate_bytes);
 
 enum {
@@ -123,7 +123,8 @@ enum {
 
 // Writes the coefficients of polynomial `number` of the system or of the certificate, counted from 0, that of x^0 first, over the
 // first of `coefficients`; those behind keep their values. The count is that of the coefficients, 0 for zero. Both files are read
-// first; where there is no polynomial of that number, that is refused (12). Any `side` but 0 is the certificate.
+// first, whichever side is asked for; where there is no polynomial of that number, that is refused (12). Any `side` but 0 is the
+// certificate.
 uint64_t yezsdolak_lookup(const uint8_t *system, size_t system_bytes, const uint8_t *certificate, size_t certificate_bytes,
                           uint64_t side, uint64_t number, uint64_t coefficients[YEZSDOLAK_MOST_COEFFICIENTS]);
 
