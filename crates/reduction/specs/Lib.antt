@@ -1,6 +1,6 @@
 -- interface, what contracts, other crates and PROVED.md cite: Replace, Total, Pivot, Slots, Span, Independence, Euclidean,
 --   Moves, Tails, Trace, Kept, Insert, Inserting, Division, System, Link, Column, Filling, Levels, Descent, Numerators,
---   Reduced, Dual, Transpose, Second, Certificate, Certifying, Killing, LessTail, Solution, Unfinished, Absence, Existence,
+--   Reduced, Dual, Transpose, Second, Popov, Certificate, Certifying, Killing, LessTail, Solution, Unfinished, Absence, Existence,
 --   Polynomials, Holds, Rounds, Flat, Held
 -- inside: Step, Row, Least, Dependence, Lowering, Clearing, LowerBounds, Retailed, Round, Run, RunSecond, RunLevels,
 --   RunDescent, RunRounds, Square, Joint, Lines, Units, Gathering, Shortening
@@ -43,6 +43,7 @@ pub mod Reduced
 pub mod Dual
 pub mod Transpose
 pub mod Second
+pub mod Popov
 -- certificates: L7, L9
 pub mod Certificate
 pub mod Clearing

@@ -7,7 +7,8 @@ use mathlib.Core.Logic.{_⊎_, inl, inr}
 use native.Mathlib.Omega.{arith}
 use native.Mathlib.Decide.{ℕ-discrete, decLt, decLe}
 use Rattle.ring.specs.Ring.{Ring, mul-zero}
-use Rattle.algebra.specs.Sized.{Sized, size-of-zero, size-mul-le, size-longer}
+use Rattle.ring.specs.Sum.{sum}
+use Rattle.algebra.specs.Sized.{Sized, size-of-zero, size-mul-le, size-longer, size-sum}
 use Rattle.reduction.specs.Replace.{below-suc}
 
 -- the block is zero
@@ -41,11 +42,12 @@ before-decided q d q′ d′ ne = go (decLt d d′) (decLt d′ d) (decLt q q′
     go (no h) (no k) (no l) = inl (inr (omega arith, omega arith))
 
 module _ {A : Type 0} {R : Ring A} {S : Sized R} {n : ℕ} {ω : ℕ → ℕ} where
-  open Ring R using (add as _+_, mul as _*_)
-  open Sized S using (size, size-none, size-mul, size-add)
+  open Ring R using (add as _+_, mul as _*_, neg as -_)
+  open Sized S using (size, size-none, size-mul, size-add, size-neg)
 
   infixl 65 _+_
   infixl 70 _*_
+  infix 75 -_
   pub pivot-low : {v : ℕ → A} {q d q′ d′ : ℕ} → Pivot S n ω v q d → Before q d q′ d′ → Low S n ω v q′ d′
   pivot-low P (inl h) = record {
     upto = λ i l k. omega (arith, P .all i l);
@@ -63,6 +65,38 @@ module _ {A : Type 0} {R : Ring A} {S : Sized R} {n : ℕ} {ω : ℕ → ℕ} wh
       go h (yes k) = inl k
       go (yes h) (no k) = inr (omega (arith, L .all q′ (P .inside)), h)
       go (no h) (no k) = absurd (omega (arith, L .upto q′ (P .inside) (omega arith)))
+
+  -- what comes before is closed under sums
+  pub low-none : {v : ℕ → A} (q d : ℕ) → Vanishes R n v → Low S n ω v q d
+  low-none {v} q d z = record {
+    upto = λ i l k. omega (arith, size-of-zero S (v i) (z i l));
+    all = λ i l. omega (arith, size-of-zero S (v i) (z i l));
+  }
+
+  pub low-ext : {u v : ℕ → A} {q d : ℕ} → ((i : ℕ) → i < n → u i ≡ v i) → Low S n ω u q d → Low S n ω v q d
+  low-ext {u} {v} {q} {d} e L = record {
+    upto = λ i l k. subst (λ x. size x ≤ (d - 1) - ω i) (e i l) (L .upto i l k);
+    all = λ i l. subst (λ x. size x ≤ d - ω i) (e i l) (L .all i l);
+  }
+
+  pub low-neg : {v : ℕ → A} {q d : ℕ} → Low S n ω v q d → Low S n ω (λ i. - v i) q d
+  low-neg {v} {q} {d} L = record {
+    upto = λ i l k. size-neg ((d - 1) - ω i) (v i) (L .upto i l k);
+    all = λ i l. size-neg (d - ω i) (v i) (L .all i l);
+  }
+
+  pub low-add : {u v : ℕ → A} {q d : ℕ} → Low S n ω u q d → Low S n ω v q d → Low S n ω (λ i. u i + v i) q d
+  low-add {u} {v} {q} {d} K L = record {
+    upto = λ i l k. size-add ((d - 1) - ω i) (u i) (v i) (K .upto i l k) (L .upto i l k);
+    all = λ i l. size-add (d - ω i) (u i) (v i) (K .all i l) (L .all i l);
+  }
+
+  pub low-sum : (m : ℕ) (f : ℕ → ℕ → A) {q d : ℕ} → ((k : ℕ) → k < m → Low S n ω (f k) q d)
+      → Low S n ω (λ i. sum R m (λ k. f k i)) q d
+  low-sum m f {q} {d} L = record {
+    upto = λ i l h. size-sum S ((d - 1) - ω i) m (λ k. f k i) (λ k g. L k g .upto i l h);
+    all = λ i l. size-sum S (d - ω i) m (λ k. f k i) (λ k g. L k g .all i l);
+  }
 
   -- what comes before does not move the pivot
   pub pivot-add : {u v : ℕ → A} {q d : ℕ} → Pivot S n ω u q d → Low S n ω v q d → Pivot S n ω (λ i. u i + v i) q d
