@@ -1,5 +1,5 @@
 -- The Popov form of slots: each vector reduced by the others without moving its pivot, its tail modulo d. Vectors are brought into
--- it one by one; with a hand (0 | h) where h divides d the slots span what they did. The second system of such slots has short rows.
+-- it one by one; with a hand (0 | h) where h divides d they span what they did. The second system of such slots has short rows.
 use Prim.Native.Nat.{ℕ, suc, _<_, _≤_}
 use Prim.Native.Nat.{_+_ as _+ₙ_, _-_ as _-ₙ_}
 use mathlib.Core.Path.{_≡_, refl, sym, _∙_, ap, subst}

@@ -10,18 +10,21 @@ use native.Mathlib.Nat.{mul-le-mul-right}
 use native.Mathlib.Decide.{ℕ-discrete, decLt, decLe}
 use Rattle.ring.specs.Ring.{Ring}
 use Rattle.ring.specs.Identity.{quotes, identity}
+use Rattle.ring.specs.Combination.{given, combination}
 use Rattle.algebra.specs.Sized.{Sized, size-neg-equal, size-positive, positive-nonzero, size-mul-nonzero}
 use Rattle.reduction.specs.Replace.{below-suc}
 use Rattle.ring.specs.Total.{total}
 use Rattle.reduction.specs.Total.{total-term, degrees, degrees-ext}
 use Rattle.reduction.specs.Pivot.{Pivot, Vanishes}
-use Rattle.reduction.specs.Slots.{Slots, unweighted}
+use Rattle.reduction.specs.Slots.{Slots, unweighted, filled-blocks}
 use Rattle.reduction.specs.Euclidean.{Euclidean, Associate, Cancelling, associate-nonzero}
 use Rattle.reduction.specs.Inserting.{Inserting}
 use Rattle.reduction.specs.System.{LinearSystem}
 use Rattle.reduction.specs.Levels.{LevelKnown}
 use Rattle.reduction.specs.Transpose.{Tops}
 use Rattle.reduction.specs.LessTail.{lessTail, LessMultiples, less-none, less-more}
+use Rattle.reduction.specs.Retailed.{retailed}
+use Rattle.reduction.specs.Popov.{Reworked}
 use Rattle.reduction.specs.Rounds.{round-tops, round-before}
 use Rattle.reduction.specs.Solution.{solution-positive, solution-tops}
 use Rattle.reduction.specs.Unfinished.{Unfinished, unfinished}
@@ -258,6 +261,17 @@ module _ {A : Type 0} {R : Ring A} {S : Sized R} (E : Euclidean S) (T : LinearSy
       let k : over first i ≤ suc B +ₙ most = omega (arith, solved first .dual .row-small i l) in
       omega (arith, mul-le-mul-right n k, l))
 
+  -- as a rework
+  reworked : {G : Slots A} → LessMultiples R n d (X .now .slots) G → Reworked S n d (X .now .slots) G
+  reworked {G} less = record {
+    sizes = less .blocks .sizes;
+    filled = filled-blocks (less .blocks);
+    into = λ h y c m. retailed R (less .blocks) y (λ q. less .multiple q * c) (λ q l f. less .tails q l f
+        ∙ combination R (X .now .slots .at q n - less .multiple q * d) (X .now .slots .at q n - less .multiple q * c * h n)
+        (given (- less .multiple q) m ∷ [])
+        (identity R (X .now .slots .at q n ∷ less .multiple q ∷ d ∷ c ∷ h n ∷ []) (λ ρ q1 q2 q3 q4 q5. search quotes depth 16) refl));
+  }
+
   -- w and Z of a solution certificate, the chosen ones
   pub record ShortRows : Type 0 where
     pub w : A
@@ -268,7 +282,7 @@ module _ {A : Type 0} {R : Ring A} {S : Sized R} (E : Euclidean S) (T : LinearSy
   short-rows = record {
     w = wOf r;
     Z = row r;
-    unfinished = unfinished E T L X z μ (r .less) (solved r .w) (row r) (solved r .monic) (solved r .dual)
+    unfinished = unfinished E T L X z μ (reworked (r .less)) (solved r .w) (row r) (solved r .monic) (solved r .dual)
         (λ i h some. fits i h some (decLt (size (wOf r)) (size (row r i) +ₙ r .slots .size i)));
   }
     where

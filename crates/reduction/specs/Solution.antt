@@ -72,6 +72,10 @@ module _ {A : Type 0} {R : Ring A} {S : Sized R} (E : Euclidean S) (T : LinearSy
       d-size : size d ≡ size e
       d-size = associate-size S μ solution-positive
 
+      -- L4 for d, made from e
+      pub solution-room : size (μ .unit * X .now .hand n) +ₙ degrees n (X .now .slots .size) ≤ suc (degrees n (U .size))
+      solution-room = omega (arith, d-size, e-small)
+
       -- d·b is in the span of the last level: the way down starts there
       pub solution-span : InSpan R n n U (λ k. d * b k)
       solution-span = span-scale R (- μ .unit) (inserting-hand (L .filled) X) (λ k. d * b k)

@@ -3,12 +3,10 @@
 use Prim.Native.Nat.{ℕ, suc, _<_, _≤_, min}
 use Prim.Native.Nat.{_+_ as _+ₙ_, _*_ as _*ₙ_}
 use mathlib.Core.Path.{_≡_, refl, sym, _∙_, ap, subst}
-use mathlib.Core.List.{[], _∷_}
 use native.Mathlib.Omega.{arith}
 use native.Mathlib.Decide.{ℕ-discrete}
 use Rattle.ring.specs.Ring.{Ring}
 use Rattle.ring.specs.Sum.{sum}
-use Rattle.ring.specs.Identity.{quotes, identity}
 use Rattle.algebra.specs.Sized.{Sized, size-positive}
 use Rattle.reduction.specs.Total.{rank, degrees, rank-ext, degrees-ext}
 use Rattle.reduction.specs.Pivot.{Vanishes}
@@ -19,10 +17,9 @@ use Rattle.reduction.specs.Inserting.{Inserting}
 use Rattle.reduction.specs.System.{LinearSystem}
 use Rattle.reduction.specs.Levels.{LevelKnown}
 use Rattle.reduction.specs.Dual.{Dual}
+use Rattle.reduction.specs.Popov.{Reworked}
 use Rattle.reduction.specs.Certificate.{RightSolutionIn, SmallSolution}
 use Rattle.reduction.specs.Certifying.{Short, Certifying}
-use Rattle.reduction.specs.Retailed.{retailed}
-use Rattle.reduction.specs.LessTail.{LessMultiples}
 use Rattle.reduction.specs.Solution.{solution-span, solution-small, solution-right, solution-sizes}
 use Rattle.reduction.specs.Solution.{solution-short, solution-certifying}
 
@@ -43,32 +40,30 @@ module _ {A : Type 0} {R : Ring A} {S : Sized R} (E : Euclidean S) (T : LinearSy
     -- w and Z are the ones that are chosen
     pub certifying : Certifying S n m M b d w Z
 
-  -- L7 and L8, of slots G with multiples of d off the tails, where the rows are short
+  -- L7 and L8, of slots G that came from those after the insertion, where the rows are short
   module _ {U : Slots A} (L : LevelKnown T m U) (X : Inserting S n unweighted U b) (z : Vanishes R n (X .now .hand))
-      (μ : Associate S (E .Monic) (X .now .hand n)) {G : Slots A} (less : LessMultiples R n (μ .unit * X .now .hand n) (X .now .slots) G)
+      (μ : Associate S (E .Monic) (X .now .hand n)) {G : Slots A}
+      (rework : Reworked S n (μ .unit * X .now .hand n) (X .now .slots) G)
       (w′ : A) (Y : ℕ → A) (monic : E .Monic w′) (K : Dual S n (degrees n (U .size)) G w′ Y)
       (short : (i : ℕ) → i < n → 0 < size (Y i) → size (Y i) +ₙ X .now .slots .size i ≤ size (μ .unit * X .now .hand n * w′)) where
     into : (u : ℕ → A) → InSpanWith R n (suc n) (X .now .slots) (X .now .hand) u → InSpanWith R n (suc n) G (X .now .hand) u
-    into = retailed R (less .blocks) z (λ q. less .multiple q * μ .unit)
-        (λ q h f. less .tails q h f
-        ∙ identity R (X .now .slots .at q n ∷ less .multiple q ∷ μ .unit ∷ X .now .hand n ∷ [])
-        (λ ρ q1 q2 q3 q4. search quotes depth 16) refl)
+    into = rework .into (X .now .hand) z (μ .unit) refl
 
     row-short : (i : ℕ) → i < n → ¬ (Y i ≡ R .zero) → Short S n m M b (μ .unit * X .now .hand n * w′) Y i
     row-short i h some = go (ℕ-discrete (X .now .slots .size i) 0)
       where
         go : Dec (X .now .slots .size i ≡ 0) → Short S n m M b (μ .unit * X .now .hand n * w′) Y i
-        go (yes e) = absurd (some (K .empty i h (sym (less .blocks .sizes i h) ∙ e)))
-        go (no e) = solution-short E T L X z μ (less .blocks .sizes) into w′ Y monic K i h (omega arith)
+        go (yes e) = absurd (some (K .empty i h (sym (rework .sizes i h) ∙ e)))
+        go (no e) = solution-short E T L X z μ (rework .sizes) into w′ Y monic K i h (omega arith)
             (short i h (size-positive S (Y i) some))
 
     pub unfinished : Unfinished U (μ .unit * X .now .hand n) (μ .unit * X .now .hand n * w′) Y
     unfinished = record {
       span = solution-span E T L X z μ;
       vector-small = solution-small E T L X z μ;
-      right = λ N solves. solution-right E T L X z μ (less .blocks .sizes) into w′ Y monic K N solves;
-      small = λ N small. solution-sizes E T L X z μ (less .blocks .sizes) into w′ Y monic K N small;
-      certifying = solution-certifying E T L X z μ (less .blocks .sizes) into w′ Y monic K row-short;
+      right = λ N solves. solution-right E T L X z μ (rework .sizes) into w′ Y monic K N solves;
+      small = λ N small. solution-sizes E T L X z μ (rework .sizes) into w′ Y monic K N small;
+      certifying = solution-certifying E T L X z μ (rework .sizes) into w′ Y monic K row-short;
     }
 
   -- tails of U play no part
