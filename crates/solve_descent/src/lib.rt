@@ -13,6 +13,7 @@ pub mod product;
 pub mod tails;
 pub mod turn;
 
+pub use kernel::reduce_by_kernel;
 pub use lane::gather_lane;
 pub use lowering::lower_quotients;
 pub use negated::negate;

@@ -29,7 +29,7 @@ use Rattle.solve_lattice.specs.Memory.{row, height, Ends, Level, slotSiz
 use Rattle.solve_lattice.specs.Range.{words-same, words-zero}
 use Rattle.solve_lattice.specs.Sums.{sums-fewer}
 use Rattle.solve_lattice.specs.Reading.{ends-pivot, holds-filled}
-use Rattle.solve_lattice.specs.Step.{HasStep, TakesMultiple}
+use Rattle.solve_lattice.specs.Step.{HasMultiple, HasStep, TakesMultiple}
 use Rattle.solve_lattice.specs.Monomial.{holds-monomial}
 use Rattle.solve_lattice.specs.Quotients.{HoldsQuotient, DividedSoFar, Dividend, BlockDivided}
 use Rattle.solve_lattice.proofs.Stepping
@@ -81,18 +81,21 @@ module _ {p : ℕ} (prime₀ : Prime p) {L : Level} {block₀ quotients₀ : Lis
   pub dividing-step : {block quotients : List ℕ} {k value : ℕ} → Dividing p L block₀ quotients₀ block quotients k value
       → ValidLevel p L → 0 < k → 0 < slotSize L (row k) → slotSize L (row k) ≤ k → HasStep p L block k value
   dividing-step so-far level some filled fits = record {
-    level = level;
-    room = omega (arith, so-far .room, so-far .same-block);
-    ends = so-far .ends;
-    some = some;
-    leading = so-far .leading some;
-    filled = filled;
-    fits = fits;
+    multiple = record {
+      level = level;
+      room = omega (arith, so-far .room, so-far .same-block);
+      within = so-far .ends .within;
+      some = some;
+      leading = so-far .leading some;
+      filled = filled;
+      fits = fits;
+    };
+    behind = so-far .ends .behind;
   }
 
   -- a turn: the factor is added to the quotient of the slot, `shift` degrees up
   module _ {block quotients : List ℕ} {k value : ℕ} (so-far : Dividing p L block₀ quotients₀ block quotients k value)
-      (S : HasStep p L block k value) {block′ : List ℕ} {r : Remains} (T : TakesMultiple p L block k value block′ r) where
+      (S : HasMultiple p L block k value) {block′ : List ℕ} {r : Remains} (T : TakesMultiple p L block k value block′ r) where
     abbrev place : ℕ
     place = k - slotSize L (row k) + (lastLane - row k)
 
@@ -107,7 +110,7 @@ module _ {p : ℕ} (prime₀ : Prime p) {L : Level} {block₀ quotients₀ : Lis
     place-there = omega (arith, Stepping.place-inside S, so-far .places, so-far .same-quotients)
 
     place-inside : place < productWords
-    place-inside = omega (arith, Stepping.place-inside S, S .ends .within)
+    place-inside = omega (arith, Stepping.place-inside S, S .within)
 
     below-set : (i : ℕ) → getD quotients′ i 0 < p
     below-set i = go (ℕ-discrete i place)
@@ -206,7 +209,7 @@ module _ {p : ℕ} (prime₀ : Prime p) {L : Level} {block₀ quotients₀ : Lis
       leading = T .leading;
       sums = sums-fewer p block′ (slotPlaces + k - 1) (slotPlaces + r .size) (omega (arith, T .fewer))
           (Stepping.step-sums p prime₀ S (r .factor) (T .factor) block′ (T .words) (slotPlaces + k) (omega arith)
-          (omega (arith, S .ends .within)) (so-far .sums));
+          (omega (arith, S .within)) (so-far .sums));
       below = below-set;
       divides = divides;
     }

@@ -23,7 +23,7 @@ use Rattle.solve_lattice.specs.Word.{words, words-inside, words-first}
 use Rattle.solve_lattice.specs.Memory.{row, height, ZeroFrom, Level, slotSize, slotInverse, Sums, ValidSlot}
 use Rattle.residue.specs.Sum.{SmallSum, sum-fits}
 use Rattle.solve_lattice.specs.Sums.{sums-room, sums-step}
-use Rattle.solve_lattice.specs.Step.{factorOf, HasStep, Rest, Left}
+use Rattle.solve_lattice.specs.Step.{factorOf, HasMultiple, Rest, Left}
 use Rattle.solve_lattice.specs.Range.{zero-word, words-upper, words-lower, zero-kept}
 
 -- h - (h·i)·u is zero for u·i = 1
@@ -32,16 +32,16 @@ cancelled R h u i e = combination R (R .add h (R .neg (R .mul (R .mul h i) u))) 
     (identity R (h ∷ u ∷ i ∷ []) (λ ρ qh qu qi. search quotes depth 16) refl)
 
 -- the leading word and its slot's inverse are factors
-pub value-below : {p : ℕ} {L : Level} {block : List ℕ} {k value : ℕ} → 0 < p → HasStep p L block k value → value < p
+pub value-below : {p : ℕ} {L : Level} {block : List ℕ} {k value : ℕ} → 0 < p → HasMultiple p L block k value → value < p
 value-below {p} {L} {block} {k} positive S = subst (λ x. x < p) (sym (S .leading)) (mod-lt (getD block (k - 1) 0) positive)
 
-pub slot-inverse-below : {p : ℕ} {L : Level} {block : List ℕ} {k value : ℕ} → Prime p → HasStep p L block k value
+pub slot-inverse-below : {p : ℕ} {L : Level} {block : List ℕ} {k value : ℕ} → Prime p → HasMultiple p L block k value
     → slotInverse L (row k) < p
 slot-inverse-below {p} {L} {block} {k} prime S =
     subst (λ x. x < p) (sym (S .level .slot (row k) (omega arith) .inverse (S .filled))) (inverse-below p (prime .large) _)
 
 -- the place of the factor among the quotients
-pub place-inside : {p : ℕ} {L : Level} {block : List ℕ} {k value : ℕ} → HasStep p L block k value
+pub place-inside : {p : ℕ} {L : Level} {block : List ℕ} {k value : ℕ} → HasMultiple p L block k value
     → k - slotSize L (row k) + (lastLane - row k) < k
 place-inside {k = k} S = omega (arith, S .level .slot (row k) (omega arith) .pivot (S .filled), S .filled, S .fits)
 
@@ -75,7 +75,7 @@ pub minus-short : {p : ℕ} → p ≤ 65521 → (a : ℕ) → p - a < 4294967296
 minus-short limit a = omega arith
 
 -- a times the slot is taken off, `shift` degrees up
-module _ (p : ℕ) (prime : Prime p) {L : Level} {block : List ℕ} {k value : ℕ} (S : HasStep p L block k value) (a : ℕ)
+module _ (p : ℕ) (prime : Prime p) {L : Level} {block : List ℕ} {k value : ℕ} (S : HasMultiple p L block k value) (a : ℕ)
     (by : a ≡ factorOf p L k value) where
   abbrev pub pivot : ℕ
   pivot = row k
@@ -108,7 +108,7 @@ module _ (p : ℕ) (prime : Prime p) {L : Level} {block : List ℕ} {k value : �
 
   -- the places of the step are there, and the sums fit
   step-inside : k - slotSize L (row k) + taken ≤ productWords
-  step-inside = omega (arith, step-shift, S .fits, S .ends .within)
+  step-inside = omega (arith, step-shift, S .fits, S .within)
 
   pub step-room : k - slotSize L (row k) + height (slotSize L (row k)) * lanes ≤ length block
   step-room = omega (arith, step-shift, S .fits, S .room)
@@ -191,7 +191,7 @@ module _ (p : ℕ) (prime : Prime p) {L : Level} {block : List ℕ} {k value : �
     factor : residue p prime a ≡ F .ring .mul (words p prime block 0 productWords (k - 1)) (F .inverse (residue p prime last))
     unfolding modulo
     factor =
-        let inside : k - 1 < productWords = omega (arith, S .some, S .ends .within) in
+        let inside : k - 1 < productWords = omega (arith, S .some, S .within) in
         ap (residue p prime) by
         ∙ residue-mod p prime (value * slotInverse L (row k))
         ∙ residue-mul p prime value (slotInverse L (row k))
@@ -203,7 +203,7 @@ module _ (p : ℕ) (prime : Prime p) {L : Level} {block : List ℕ} {k value : �
         (ap (residue p prime) (slot .inverse (S .filled))
         ∙ residue-inverse p prime last (step-word _ (omega (arith, slot .block .within))))
 
-    leading-gone : words p prime block′ 0 productWords (k - 1) ≡ F .ring .zero
+    pub leading-gone : words p prime block′ 0 productWords (k - 1) ≡ F .ring .zero
     leading-gone =
         let place : d + (slotSize L (row k) - 1) ≡ k - 1 = omega (arith, S .filled, S .fits) in
         let inside : slotSize L (row k) - 1 < blockWords = omega (arith, S .filled, slot .block .within) in
@@ -215,22 +215,23 @@ module _ (p : ℕ) (prime : Prime p) {L : Level} {block : List ℕ} {k value : �
         ∙ cancelled (F .ring) (words p prime block 0 productWords (k - 1)) (residue p prime last) (F .inverse (residue p prime last))
         (F .mul-inverse (residue p prime last) last-nonzero)
 
-    pub step-behind : ZeroFrom p block′ 0 productWords (k - 1)
-    step-behind j h lt =
+    pub step-behind : ZeroFrom p block 0 productWords k → ZeroFrom p block′ 0 productWords (k - 1)
+    step-behind behind j h lt =
         ⊎-elim
         (λ less.
         let here : j ≡ k - 1 = omega (arith, S .some) in
         zero-word p prime block′ 0 productWords j lt (ap (words p prime block′ 0 productWords) here ∙ leading-gone))
         (λ more.
         zero-kept p prime block block′ L d (slotWords * row k) taken blockWords productWords a stores step-factor step-inside step-room
-        step-none step-fits size k (slot .block .behind) (omega (arith, S .fits)) (S .ends .behind) j more lt)
+        step-none step-fits size k (slot .block .behind) (omega (arith, S .fits)) behind j more lt)
         (below-or-not j k)
 
     -- what is left, where the step has seen the word before the leading one, or has no such place
     module _ (next : ℕ) (none : slotSize L (row k) < 2 → next ≡ 0)
         (before : 2 ≤ slotSize L (row k)
         → next ≡ sumAt block (k - slotSize L (row k)) L (slotWords * row k) (p - a) (slotSize L (row k) - 2) % p)
-        (unseen : ℕ) (all : slotSize L (row k) < 2 → unseen ≡ k - 1) (fewer : 2 ≤ slotSize L (row k) → unseen ≡ k - 1 - 1) where
+        (unseen : ℕ) (all : slotSize L (row k) < 2 → unseen ≡ k - 1) (fewer : 2 ≤ slotSize L (row k) → unseen ≡ k - 1 - 1)
+        (behind : ZeroFrom p block 0 productWords k) where
       step-next : 2 ≤ slotSize L (row k) → next ≡ getD block′ (k - 1 - 1) 0 % p
       step-next two =
           let place : d + (slotSize L (row k) - 2) ≡ k - 1 - 1 = omega (arith, two, S .fits) in
@@ -249,17 +250,17 @@ module _ (p : ℕ) (prime : Prime p) {L : Level} {block : List ℕ} {k value : �
       step-late : next ≡ 0 → ZeroFrom p block′ 0 productWords unseen
       step-late gone =
           ⊎-elim
-          (λ one. subst (ZeroFrom p block′ 0 productWords) (sym (all one)) step-behind)
+          (λ one. subst (ZeroFrom p block′ 0 productWords) (sym (all one)) (step-behind behind))
           (λ two.
           let none-there = sym (step-next two) ∙ gone in
-          subst (ZeroFrom p block′ 0 productWords) (sym (fewer two)) (zero-before p block′ (k - 1) step-behind none-there))
+          subst (ZeroFrom p block′ 0 productWords) (sym (fewer two)) (zero-before p block′ (k - 1) (step-behind behind) none-there))
           (below-or-not (slotSize L (row k)) 2)
 
       pub step-rest : Sums p 1 block → Rest p block′ (k - 1) next unseen
       step-rest sums = record {
         room = omega (arith, S .room, step-length);
-        within = omega (arith, S .ends .within);
-        behind = step-behind;
+        within = omega (arith, S .within);
+        behind = step-behind behind;
         reducible = step-reducible sums;
         early = step-early;
         fewer = ⊎-elim (λ one. omega (arith, all one)) (λ two. omega (arith, fewer two)) (below-or-not (slotSize L (row k)) 2);

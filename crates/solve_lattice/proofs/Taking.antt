@@ -27,7 +27,7 @@ use Rattle.solve_lattice.specs.Range.{words-upper, words-lower, zero-kep
 use Rattle.residue.specs.Sum.{sum-fits}
 use Rattle.solve_lattice.specs.Sums.{sums-room, sums-fewer, sums-step}
 use Rattle.solve_lattice.specs.Reading.{holds-pivot}
-use Rattle.solve_lattice.specs.Step.{HasStep, TakesMultiple}
+use Rattle.solve_lattice.specs.Step.{HasMultiple, HasStep, TakesMultiple}
 use Rattle.solve_lattice.specs.Moves.{Fits, Stepped}
 use Rattle.solve_lattice.proofs.Stepping
 
@@ -42,13 +42,16 @@ places-most {p} {M} valid = omega (
 
 pub fits-step : {p : ℕ} {M : Memory} → Valid p M → Fits M → HasStep p (M .level) (M .block) (M .hand .size) (M .hand .leading)
 fits-step valid fits = record {
-  level = valid .level;
-  room = valid .hand .degrees;
-  ends = valid .hand .block;
-  some = fits .some;
-  leading = valid .hand .leading (fits .some);
-  filled = fits .filled;
-  fits = fits .shorter;
+  multiple = record {
+    level = valid .level;
+    room = valid .hand .degrees;
+    within = valid .hand .block .within;
+    some = fits .some;
+    leading = valid .hand .leading (fits .some);
+    filled = fits .filled;
+    fits = fits .shorter;
+  };
+  behind = valid .hand .block .behind;
 }
 
 module _ {p : ℕ} (prime₀ : Prime p) {M : Memory} (valid : Valid p M) (fits : Fits M) {block′ : List ℕ} {r : Remains}
@@ -62,8 +65,8 @@ module _ {p : ℕ} (prime₀ : Prime p) {M : Memory} (valid : Valid p M) (fits :
   abbrev L : Level
   L = M .level
 
-  abbrev S : HasStep p (M .level) (M .block) (M .hand .size) (M .hand .leading)
-  S = fits-step valid fits
+  abbrev S : HasMultiple p (M .level) (M .block) (M .hand .size) (M .hand .leading)
+  S = fits-step valid fits .multiple
 
   -- how many degrees the slot is moved up, and the size of its tail
   abbrev pub shift : ℕ

@@ -1,5 +1,5 @@
 -- interface, what contracts, other crates and PROVED.md cite: Room, Word, Memory, Holding, Range, LaneStored, Sums, Found,
---   Reading, Step, Monomial, Quotients, Coefficients, Moves, Lanes, Insertion, Stage, Input, Output
+--   Reading, Step, Monomial, Quotients, Coefficients, Remainder, Moves, Lanes, Insertion, Stage, Input, Output
 -- inside: Noted, Leading
 -- what stands in memory
 pub mod Room
@@ -19,6 +19,8 @@ pub mod Step
 pub mod Monomial
 pub mod Quotients
 pub mod Coefficients
+-- reduce_words
+pub mod Remainder
 -- insert
 pub mod Moves
 pub mod Leading

@@ -13,15 +13,20 @@ use Rattle.solve_lattice.specs.Room.{productWords, slotWords, lanes}
 use Rattle.solve_lattice.specs.declared.step.Remains.{Remains}
 use Rattle.solve_lattice.specs.Memory.{row, height, ZeroFrom, Ends, Level, slotSize, slotInverse, ValidLevel}
 
--- k is the size of the block, value its leading word modulo p
-pub record HasStep (p : ℕ) (L : Level) (block : List ℕ) (k value : ℕ) : Type 0 where
+-- value is the k-th word of the block modulo p, and the slot of its row is filled and has at most k words
+pub record HasMultiple (p : ℕ) (L : Level) (block : List ℕ) (k value : ℕ) : Type 0 where
   pub level : ValidLevel p L
   pub room : height k * lanes ≤ length block
-  pub ends : Ends p block 0 productWords k
+  pub within : k ≤ productWords
   pub some : 0 < k
   pub leading : value ≡ getD block (k - 1) 0 % p
   pub filled : 0 < slotSize L (row k)
   pub fits : slotSize L (row k) ≤ k
+
+-- and it is the leading word
+pub record HasStep (p : ℕ) (L : Level) (block : List ℕ) (k value : ℕ) : Type 0 where
+  pub multiple : HasMultiple p L block k value
+  pub behind : ZeroFrom p block 0 productWords k
 
 -- the quotient of the leading words
 abbrev pub factorOf : (p : ℕ) → Level → (k value : ℕ) → ℕ

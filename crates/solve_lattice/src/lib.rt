@@ -1,8 +1,9 @@
-// The bottom of the solver: how levels, input and output lie in memory (room), and the two loops on them, insert and divide.
+// The bottom of the solver: how levels, input and output lie in memory (room), and the loops on them: insert, divide, reduce_words.
 pub mod division;
 pub mod hand;
 pub mod insertion;
 pub mod moves;
+pub mod remainder;
 pub mod room;
 pub mod stage;
 pub mod step;
@@ -10,6 +11,7 @@ pub mod step;
 pub use division::divide;
 pub use hand::Hand;
 pub use insertion::insert;
+pub use remainder::reduce_words;
 pub use room::BLOCK;
 pub use room::Block;
 pub use room::COEFFICIENTS;

@@ -75,7 +75,7 @@ slice-read-add c =
     let some = on .before .before .before .if1 .taken in
     let filled = pos-of-ne-zero (on .before .if2 .left) in
     let step = dividing-step (S .pre .0 .0 .prime) I (S .pre .0 .1) some filled (on .if3 .left) in
-    omega (arith, Stepping.place-inside step, I .places, I .same-quotients)
+    omega (arith, Stepping.place-inside (step .multiple), I .places, I .same-quotients)
 
 add-requires : tie.Need-add-requires Inv-loop μ-loop
 add-requires c κs =
@@ -87,7 +87,7 @@ add-requires c κs =
     let some = on .before .before .before .if1 .taken in
     let filled = pos-of-ne-zero (on .before .if2 .left) in
     let step = dividing-step (S .pre .0 .0 .prime) I (S .pre .0 .1) some filled (on .if3 .left) in
-    let small = Stepping.step-factor _ (S .pre .0 .0 .prime) step _ (T .take-multiple .ensures .factor) in
+    let small = Stepping.step-factor _ (S .pre .0 .0 .prime) (step .multiple) _ (T .take-multiple .ensures .factor) in
     (S .pre .0 .0, I .below _, small)
 
 slice-write-quotients : tie.Need-slice-write-quotients Inv-loop μ-loop
@@ -99,7 +99,7 @@ slice-write-quotients c =
     let some = on .before .before .before .if1 .taken in
     let filled = pos-of-ne-zero (on .before .if2 .left) in
     let step = dividing-step (S .pre .0 .0 .prime) I (S .pre .0 .1) some filled (on .if3 .left) in
-    omega (arith, Stepping.place-inside step, I .places, I .same-quotients)
+    omega (arith, Stepping.place-inside (step .multiple), I .places, I .same-quotients)
 
 find-rest-requires : tie.Need-find-rest-requires Inv-loop μ-loop
 find-rest-requires c κs =
@@ -123,8 +123,8 @@ loop-again c =
     let some = on .before .before .before .if1 .taken in
     let filled = pos-of-ne-zero (on .before .if2 .left) in
     let step = dividing-step (S .pre .0 .0 .prime) I (S .pre .0 .1) some filled (on .if3 .left) in
-    dividing-turn (S .pre .0 .0 .prime) I step (takes-left (step .some) (T .take-multiple .ensures) (c .find-rest .ensures))
-    _ (A .add .ensures)
+    dividing-turn (S .pre .0 .0 .prime) I (step .multiple)
+    (takes-left (step .multiple .some) (T .take-multiple .ensures) (c .find-rest .ensures)) _ (A .add .ensures)
 
 returns-3 : tie.Need-returns-3 Inv-loop μ-loop
 returns-3 c =

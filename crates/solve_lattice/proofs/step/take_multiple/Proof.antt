@@ -13,21 +13,21 @@ mul-requires : tie.Need-mul-requires
 mul-requires c κs =
     let S = c .before .before .before in
     let m : ValidModulus (S .args .modulus) = S .pre .0 in
-    let step = S .pre .1 .0 in
+    let step = S .pre .1 .0 .multiple in
     (m, Stepping.value-below (le-of-lt (m .prime .large)) step, Stepping.slot-inverse-below (m .prime) step)
 
 sub-minus : tie.Need-sub-minus
 sub-minus c =
     let A = c .before in
     let S = A .before .before .before .before in
-    le-of-lt (Stepping.step-factor _ (S .pre .0 .prime) (S .pre .1 .0) _ (A .mul .ensures))
+    le-of-lt (Stepping.step-factor _ (S .pre .0 .prime) (S .pre .1 .0 .multiple) _ (A .mul .ensures))
 
 word-before-requires : tie.Need-word-before-requires
 word-before-requires c κs =
     let A = c .before .before .before in
     let S = A .before .before .before .before in
     let m : ValidModulus (S .args .modulus) = S .pre .0 in
-    let step = S .pre .1 .0 in
+    let step = S .pre .1 .0 .multiple in
     let by = A .mul .ensures in
     let within = step .level .slot (row (S .args .found .size)) (omega arith) .block .within in (
       (m, omega (arith, step .fits, step .room), omega (arith, within, step .level .room)),
@@ -39,7 +39,7 @@ add-scaled-requires c κs =
     let A = c .before .before .before .before .before .before in
     let S = A .before .before .before .before in
     let m : ValidModulus (S .args .modulus) = S .pre .0 in
-    let step = S .pre .1 .0 in
+    let step = S .pre .1 .0 .multiple in
     let by = A .mul .ensures in (
       (
         Stepping.step-room _ (m .prime) step _ by,
@@ -55,12 +55,12 @@ add-scaled-requires c κs =
 words-unseen-requires : tie.Need-words-unseen-requires
 words-unseen-requires c κs =
     let S = c .before .before .before .before .before .before .before .before .before .before .before .before .before in
-    (S .pre .1 .0 .filled, S .pre .1 .0 .fits)
+    (S .pre .1 .0 .multiple .filled, S .pre .1 .0 .multiple .fits)
 
 sub-rest : tie.Need-sub-rest
 sub-rest c =
     let S = c .before .before .before .before .before .before .before .before .before .before .before .before .before .before in
-    S .pre .1 .0 .some
+    S .pre .1 .0 .multiple .some
 
 returns : tie.Need-returns
 returns c =
@@ -69,7 +69,7 @@ returns c =
     let A = N .before .before .before .before in
     let S = A .before .before .before .before in
     let m : ValidModulus (S .args .modulus) = S .pre .0 in
-    let step = S .pre .1 .0 in
+    let step = S .pre .1 .0 .multiple in
     let by = A .mul .ensures in
     let words = B .add-scaled .ensures .0 in
     let next = N .word-before .ensures in
@@ -77,14 +77,15 @@ returns c =
       factor = by;
       words = words;
       size = refl;
-      rest = Stepping.step-rest _ (m .prime) step _ by _ words _ (next .0) (next .1) _ (unseen .0) (unseen .1) (S .pre .1 .1);
+      rest = Stepping.step-rest _ (m .prime) step _ by _ words _ (next .0) (next .1) _ (unseen .0) (unseen .1)
+          (S .pre .1 .0 .behind) (S .pre .1 .1);
     }
 
 pub take-multiple-spec : {M : Type 1} → statement M
 take-multiple-spec =
     tie.close
     (tie.spec
-    (λ c. c .before .pre .1 .0 .some)
+    (λ c. c .before .pre .1 .0 .multiple .some)
     (λ c. Rows.lane-most _)
     (λ c. Rows.size-place _)
     (λ c. Rows.size-bytes _)
@@ -94,12 +95,12 @@ take-multiple-spec =
     (λ c. Rows.inverse-there _)
     mul-requires
     sub-minus
-    (λ c. Rows.rounded-size (c .before .before .before .before .before .pre .1 .0 .level) _)
-    (λ c. Rows.degree-words (c .before .before .before .before .before .pre .1 .0 .level) _)
-    (λ c. c .before .before .before .before .before .before .pre .1 .0 .fits)
+    (λ c. Rows.rounded-size (c .before .before .before .before .before .pre .1 .0 .multiple .level) _)
+    (λ c. Rows.degree-words (c .before .before .before .before .before .pre .1 .0 .multiple .level) _)
+    (λ c. c .before .before .before .before .before .before .pre .1 .0 .multiple .fits)
     (λ c. Rows.block-start _)
     word-before-requires
-    (λ c. c .before .before .before .before .before .before .before .before .before .pre .1 .0 .fits)
+    (λ c. c .before .before .before .before .before .before .before .before .before .pre .1 .0 .multiple .fits)
     (λ c. Rows.block-start _)
     add-scaled-requires
     words-unseen-requires
