@@ -1,8 +1,8 @@
 -- interface, what contracts, other crates and PROVED.md cite: Replace, Total, Pivot, Slots, Span, Independence, Euclidean,
 --   Moves, Tails, Trace, Kept, Insert, Inserting, Division, System, Link, Column, Filling, Levels, Descent, Numerators,
---   Reduced, Dual, Transpose, Second, Popov, Reducing, Certificate, Certifying, Killing, LessTail, Solution, Unfinished, Absence, Existence,
---   Polynomials, Holds, Rounds, Flat, Held
--- inside: Step, Row, Least, Dependence, Lowering, Clearing, LowerBounds, Round, Run, RunSecond, RunLevels,
+--   Reduced, Dual, Transpose, Second, Popov, Certificate, Certifying, Killing, LessTail, Solution, Unfinished, Absence,
+--   Existence, Polynomials, Holds, Rounds, Flat, Held
+-- inside: Step, Row, Least, Dependence, Lowering, Reducing, Clearing, LowerBounds, Round, Run, RunSecond, RunLevels,
 --   RunDescent, RunPopov, Square, Joint, Lines, Units, Gathering, Shortening
 -- Beside mathematics.md, from the bottom up.
 -- functions of an index, sums of numbers
