@@ -51,6 +51,7 @@ module _ {A : Type 0} {R : Ring A} (S : Sized R) (n : ℕ) (U : Slots A) (i : �
         go (no h) (yes b) = inl (omega (arith, P .before j b, P .reached, P .positive))
         go (no h) (no b) = inr (omega (arith, P .all j (F .inside)), omega (arith, F .reducible .other))
 
+    -- what can then be reduced comes before
     pub reducing-falls : {v′ : ℕ → A} → ((c : ℕ) → c < n → v′ c ≡ v c - a * U .at j c) → size (v′ j) < size (v j)
         → (k : ℕ) → k < n → Reducible v′ k → Before k (size (v′ k)) j (size (v j))
     reducing-falls {v′} e smaller k h r =

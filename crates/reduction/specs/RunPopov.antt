@@ -32,8 +32,8 @@ module _ {A : Type 0} {R : Ring A} {S : Sized R} (E : Euclidean S) (n : ℕ) (d 
   abbrev _-_ : A → A → A
   a - b = a + (- b)
 
-  -- a step
   module _ (U : Slots A) (full : Filled S n unweighted U) (i : ℕ) (h : i < n) (f : 0 < U .size i) where
+    -- a step: the leading coefficient of the coordinate is taken away
     module _ {v : ℕ → A} (X : SlotReduced S n d U i v) {j : ℕ} (F : FirstReducible S n U i v j) where
       pivot : Pivot S n unweighted (U .at j) j (U .size j)
       pivot = full j (F .inside) (F .reducible .filled)
@@ -55,7 +55,7 @@ module _ {A : Type 0} {R : Ring A} {S : Sized R} (E : Euclidean S) (n : ℕ) (d 
       less-falls k l r = place-before n k (size (less k)) j (size (v j)) l (F .inside)
           (reducing-falls S n U i full F (cancelling .factor) shift (λ c l. refl) (cancelling .smaller) k l r)
 
-    -- slot i with its block reduced
+    -- the vector of slot i with its block reduced
     record Turned : Type 0 where
       pub vector : ℕ → A
       pub reduced : SlotReduced S n d U i vector
