@@ -1,37 +1,42 @@
 -- certificate-exists: every system has a right certificate, the chosen one, of degrees at most r·δ for its rank r. The algorithm is
 -- that of mathematics.md, section 2.
-use Prim.Native.Nat.{ℕ, suc, _≤_, min}
+use Prim.Native.Nat.{ℕ, suc, _<_, _≤_, min}
 use Prim.Native.Nat.{_*_ as _*ₙ_}
 use mathlib.Core.Path.{sym, subst}
 use mathlib.Core.Logic.{_⊎_, inl, inr, ⊎-elim}
 use native.Mathlib.Omega.{arith}
 use native.Mathlib.Nat.{mul-le-mul-right}
 use Rattle.ring.specs.Ring.{Ring}
-use Rattle.algebra.specs.Sized.{Sized}
+use Rattle.algebra.specs.Sized.{Sized, positive-nonzero}
 use Rattle.ring.specs.Total.{total}
 use Rattle.reduction.specs.Total.{total-term, rank-le, degrees}
 use Rattle.reduction.specs.Total
 use Rattle.reduction.specs.Pivot.{Vanishes}
 use Rattle.reduction.specs.Slots.{Slots, unweighted, tailed}
-use Rattle.reduction.specs.Euclidean.{Euclidean, Associate}
+use Rattle.reduction.specs.Euclidean.{Euclidean, Associate, associate-size}
 use Rattle.reduction.specs.Insert.{Stop, Stuck}
+use Rattle.reduction.specs.Inserting.{kept}
 use Rattle.reduction.specs.System.{LinearSystem}
 use Rattle.reduction.specs.Levels.{LevelKnown, level-of}
+use Rattle.reduction.specs.Transpose.{Tops}
 use Rattle.reduction.specs.Certificate.{RightSolutionIn, RightAbsenceIn}
 use Rattle.reduction.specs.Certificate.{SmallSolution, small-solution-le, SmallAbsence, small-absence-le}
 use Rattle.reduction.specs.Numerators.{ReducedNumerators}
 use Rattle.reduction.specs.Certifying.{Certifying}
 use Rattle.reduction.specs.Killing.{Killing}
-use Rattle.reduction.specs.Solution.{solution-positive, solution-span, solution-small}
+use Rattle.reduction.specs.Popov.{popov-tops, popov-short}
+use Rattle.reduction.specs.Solution.{solution-positive, solution-room, solution-tops, solution-span, solution-small}
+use Rattle.reduction.specs.Unfinished.{Unfinished, unfinished}
 use Rattle.reduction.specs.Absence.{absence, absence-tops, absence-right, absence-sizes, absence-killing, absence-at}
 use Rattle.reduction.specs.Run.{Run, run}
 use Rattle.reduction.specs.RunSecond.{SecondSolution, second}
 use Rattle.reduction.specs.RunLevels.{level, kernel, levels}
 use Rattle.reduction.specs.RunDescent.{Numerators, numerators}
-use Rattle.reduction.specs.RunRounds.{ShortRows, short-rows}
+use Rattle.reduction.specs.RunPopov.{PopovForm, popov-form}
 
 module _ {A : Type 0} {R : Ring A} {S : Sized R} (E : Euclidean S) (T : LinearSystem S) where
   open LinearSystem T using (rows as n, columns as m, degree as δ, matrix as M, side as b)
+  open Sized S using (size)
 
   -- the chosen solution certificate, its sizes at most B
   pub record Solved (B : ℕ) : Type 0 where
@@ -85,20 +90,45 @@ module _ {A : Type 0} {R : Ring A} {S : Sized R} (E : Euclidean S) (T : LinearSy
     coordinates = numerators E T (level E T) (kernel E T) (levels E T) (λ k. R .mul d (b k))
         (solution-span E T L (X .inserting) z μ) (solution-small E T L (X .inserting) z μ)
 
-    rows : ShortRows E T L (X .inserting) z μ
-    rows = short-rows E T L (X .inserting) z μ
+    some : 0 < size d
+    some = omega (arith, associate-size S μ (solution-positive E T L (X .inserting) z), solution-positive E T L (X .inserting) z)
+
+    -- the slots after the insertion in Popov form, and their second system
+    form : PopovForm E n d some (X .inserting .now .slots) n
+    form = popov-form E n d some (X .inserting .now .slots) (kept (L .filled) (X .inserting) .filled)
+
+    abbrev G : Slots A
+    G = form .slots
+
+    tops : Tops S n (degrees n (U .size)) (total n (G .size)) G
+    tops = popov-tops S n d
+        (solution-tops E T L (X .inserting) z (total n (G .size))
+        (λ q h. omega (arith, total-term n (G .size) q h, form .rework .sizes q h)))
+        (solution-room E T L (X .inserting) z μ) (form .rework)
+        (λ q h f. inr (form .popov q h (omega (arith, form .rework .sizes q h)) .tail))
+
+    rows : SecondSolution E n (degrees n (U .size)) G
+    rows = second E n (degrees n (U .size)) G tops
+
+    done : Unfinished E T U d (R .mul d (rows .w)) (rows .Y)
+    done = unfinished E T L (X .inserting) z μ (form .rework) (rows .w) (rows .Y) (rows .monic) (rows .dual)
+        (λ i h p. omega (
+          arith,
+          popov-short S n d (tops .filled) (form .popov) (positive-nonzero S d some) (rows .dual) i h p,
+          form .rework .sizes i h,
+        ))
 
     solved : Solved (suc (r *ₙ δ))
     unfolding U
     solved = record {
       d = d;
       N = coordinates .N;
-      w = rows .w;
-      Z = rows .Z;
-      right = rows .unfinished .right (coordinates .N) (coordinates .solves);
-      small = rows .unfinished .small (coordinates .N) (coordinates .small);
+      w = R .mul d (rows .w);
+      Z = rows .Y;
+      right = done .right (coordinates .N) (coordinates .solves);
+      small = done .small (coordinates .N) (coordinates .small);
       reduced = coordinates .reduced;
-      certifying = rows .unfinished .certifying;
+      certifying = done .certifying;
     }
 
   -- stuck

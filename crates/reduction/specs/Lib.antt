@@ -1,9 +1,9 @@
 -- interface, what contracts, other crates and PROVED.md cite: Replace, Total, Pivot, Slots, Span, Independence, Euclidean,
 --   Moves, Tails, Trace, Kept, Insert, Inserting, Division, System, Link, Column, Filling, Levels, Descent, Numerators,
---   Reduced, Dual, Transpose, Second, Popov, Certificate, Certifying, Killing, LessTail, Solution, Unfinished, Absence, Existence,
---   Polynomials, Holds, Rounds, Flat, Held
--- inside: Step, Row, Least, Dependence, Lowering, Clearing, LowerBounds, Retailed, Round, Run, RunSecond, RunLevels,
---   RunDescent, RunRounds, Square, Joint, Lines, Units, Gathering, Shortening
+--   Reduced, Dual, Transpose, Second, Popov, Certificate, Certifying, Killing, LessTail, Solution, Unfinished, Absence,
+--   Existence, Polynomials, Holds, Rounds, Flat, Held
+-- inside: Step, Row, Least, Dependence, Lowering, Reducing, Clearing, LowerBounds, Round, Run, RunSecond, RunLevels,
+--   RunDescent, RunPopov, Square, Joint, Lines, Units, Gathering, Shortening
 -- Beside mathematics.md, from the bottom up.
 -- functions of an index, sums of numbers
 pub mod Replace
@@ -44,13 +44,13 @@ pub mod Dual
 pub mod Transpose
 pub mod Second
 pub mod Popov
+pub mod Reducing
 -- certificates: L7, L9
 pub mod Certificate
 pub mod Clearing
 pub mod Certifying
 pub mod LowerBounds
 pub mod Killing
-pub mod Retailed
 pub mod Round
 pub mod LessTail
 pub mod Solution
@@ -61,7 +61,7 @@ pub mod Run
 pub mod RunSecond
 pub mod RunLevels
 pub mod RunDescent
-pub mod RunRounds
+pub mod RunPopov
 pub mod Existence
 pub mod Square
 -- several right sides

@@ -14,9 +14,10 @@ use Rattle.ring.specs.Combination.{given, combination}
 use Rattle.algebra.specs.Sized.{Sized, positive-nonzero, size-of-zero, size-mul-le, size-mul-nonzero}
 use Rattle.reduction.specs.Total.{degrees, degrees-ext}
 use Rattle.reduction.specs.Replace.{replace, replace-here, replace-other, replace-elim, below-suc}
-use Rattle.reduction.specs.Pivot.{Vanishes, Pivot, Low, HasPivot, find-pivot, low-none, low-ext, low-neg, low-add, low-sum}
-use Rattle.reduction.specs.Pivot.{pivot-add, pivot-ext}
-use Rattle.reduction.specs.Slots.{Slots, Filled, unweighted, put, put-here, put-same, Same, filled-same, filled-but}
+use Rattle.reduction.specs.Pivot.{Vanishes, Pivot, pivot-add, pivot-ext, HasPivot, find-pivot}
+use Rattle.reduction.specs.Pivot.{Low, low-none, low-ext, low-neg, low-add, low-sum}
+use Rattle.reduction.specs.Slots.{Slots, Filled, unweighted, put, put-here, put-sizes, put-same}
+use Rattle.reduction.specs.Slots.{Same, filled-same, filled-but}
 use Rattle.reduction.specs.Span.{combined, InSpan, InSpanWith, span-combine, span-change}
 use Rattle.reduction.specs.Row.{size-sum-leading}
 use Rattle.reduction.specs.Moves.{with-same}
@@ -166,7 +167,7 @@ module _ {A : Type 0} {R : Ring A} (S : Sized R) (n : ℕ) (d : A) where
       P = put G i v (G .size i)
 
       sizes : (q : ℕ) → G .size q ≡ P .size q
-      sizes q = replace-elim (λ q x. G .size q ≡ x) (G .size) i (G .size i) refl q (λ r. refl)
+      sizes = put-sizes G i v
 
       -- what was taken off, of the slots as they are now
       off : ℕ → A
@@ -219,6 +220,17 @@ module _ {A : Type 0} {R : Ring A} (S : Sized R) (n : ℕ) (d : A) where
               (given (a * X .multiple) m ∷ given (- a) (put-here G i v (G .size i) n) ∷ given (- a) (X .tail) ∷ [])
               (identity R (u n ∷ s .multiple ∷ a ∷ X .multiple ∷ c ∷ hand n ∷ G .at i n ∷ P .at i n ∷ off n ∷ v n ∷ d ∷ [])
               (λ ρ q1 q2 q3 q4 q5 q6 q7 q8 q9 q10 q11. search quotes depth 24) refl)
+
+  -- a reduced vector put into slot i: what was reduced stays so, as the lengths stay
+  pub popov-put : (G : Slots A) (i : ℕ) {v : ℕ → A} → SlotPopov G i v → (q : ℕ) → (¬ (q ≡ i) → SlotPopov G q (G .at q))
+      → SlotPopov (put G i v (G .size i)) q (put G i v (G .size i) .at q)
+  popov-put G i {v} X q old = replace-elim (λ q x. SlotPopov (put G i v (G .size i)) q x) (G .at) i v (turn X) q (λ r. turn (old r))
+    where
+      turn : {q : ℕ} {x : ℕ → A} → SlotPopov G q x → SlotPopov (put G i v (G .size i)) q x
+      turn {q} {x} Y = record {
+        block = λ j h ne f. omega (arith, Y .block j h ne (omega (arith, put-sizes G i v j)), put-sizes G i v j);
+        tail = Y .tail;
+      }
 
   -- room for the tails: a tail that is smaller than d has any
   pub popov-tops : {B D : ℕ} {U G : Slots A} → Tops S n B D U → size d +ₙ degrees n (U .size) ≤ suc B → Reworked U G

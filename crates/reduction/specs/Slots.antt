@@ -6,7 +6,7 @@ use native.Mathlib.Omega.{arith}
 use native.Mathlib.Decide.{ℕ-discrete}
 use Rattle.ring.specs.Ring.{Ring}
 use Rattle.algebra.specs.Sized.{Sized}
-use Rattle.reduction.specs.Replace.{replace, replace-here, replace-other, extend, extend-below}
+use Rattle.reduction.specs.Replace.{replace, replace-here, replace-other, replace-elim, extend, extend-below}
 use Rattle.reduction.specs.Pivot.{Pivot, pivot-ext}
 
 pub record Slots (A : Type 0) : Type 0 where
@@ -48,6 +48,10 @@ pub record SameBut {A : Type 0} (n p : ℕ) (U U′ : Slots A) : Type 0 where
 
 pub put-here : {A : Type 0} (U : Slots A) (p : ℕ) (v : ℕ → A) (d k : ℕ) → put U p v d .at p k ≡ v k
 put-here U p v d k = ap (λ x. x k) (replace-here (U .at) p v)
+
+-- the new vector as long as the old one
+pub put-sizes : {A : Type 0} (U : Slots A) (p : ℕ) (v : ℕ → A) (q : ℕ) → U .size q ≡ put U p v (U .size p) .size q
+put-sizes U p v q = replace-elim (λ q x. U .size q ≡ x) (U .size) p (U .size p) refl q (λ r. refl)
 
 module _ {A : Type 0} {n : ℕ} where
   pub same-refl : (U : Slots A) → Same n U U
