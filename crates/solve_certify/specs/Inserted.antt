@@ -1,5 +1,5 @@
 -- The right side of a system inserted into its last level: what memory holds where its block became zero, and where it got stuck.
-use Prim.Native.Nat.{ℕ, _+_, _*_, _<_, _≤_}
+use Prim.Native.Nat.{ℕ, suc, _+_, _*_, _<_, _≤_}
 use mathlib.Core.Path.{_≡_, refl, sym, _∙_, ap}
 use mathlib.Core.List.{List}
 use native.Mathlib.Omega.{arith}
@@ -17,9 +17,9 @@ use Rattle.reduction.specs.Slots.{Slots, unweighted}
 use Rattle.reduction.specs.Transpose.{Tops}
 use Rattle.reduction.specs.Insert.{Stuck}
 use Rattle.reduction.specs.Inserting.{begin, Inserting}
-use Rattle.reduction.specs.Polynomials.{euclidean}
+use Rattle.reduction.specs.Polynomials.{associate, euclidean}
 use Rattle.reduction.specs.Levels as reduction
-use Rattle.reduction.specs.Solution.{solution-positive, solution-tops}
+use Rattle.reduction.specs.Solution.{solution-positive, solution-tops, solution-room}
 use Rattle.reduction.specs.Holds.{Holds}
 use Rattle.reduction.specs.Flat.{Flat}
 use Rattle.solve_lattice.specs.Word.{words}
@@ -97,6 +97,14 @@ module _ {p : ℕ} (prime : Prime p) {n m : ℕ} {X : Equations p prime n m} {U 
       → Tops (sized (residues p prime)) n (degrees n (U .size)) blockDegrees (Q .inserting .now .slots)
   vanished-tops valid Q = solution-tops (euclidean (residues p prime)) (inputSystem p prime n m X) (Q .last) (Q .inserting) (Q .vanishes)
       blockDegrees (slots-high prime few-rows valid (Q .slots))
+
+  -- d, made monic from what is left of the tail, has room among the slots' degrees
+  pub vanished-room : {input : List ℕ} {L : Level} {tail : List ℕ} (Q : HoldsVanished p prime n m X U input L tail)
+      → size (residues p prime) (polynomials (residues p prime) .mul
+      (associate (residues p prime) (Q .inserting .now .hand n) (vanished-some Q) .unit) (Q .inserting .now .hand n))
+      + degrees n (Q .inserting .now .slots .size) ≤ suc (degrees n (U .size))
+  vanished-room Q = solution-room (euclidean (residues p prime)) (inputSystem p prime n m X) (Q .last) (Q .inserting) (Q .vanishes)
+      (associate (residues p prime) (Q .inserting .now .hand n) (vanished-some Q))
 
 -- the right side inserted into a copy of L: the slots and the tail then, and how many words are left of the block
 pub record LastInserted (p m : ℕ) (input : List ℕ) (L L′ : Level) (tail : List ℕ) (size : ℕ) : Type 0 where

@@ -2,12 +2,11 @@
 pub mod Witnessed
 -- inside: laws on words
 pub mod Words
--- inside: rows that are too long
-pub mod LongRow
-pub mod LongSoFar
-pub mod Shortens
+-- inside: slots in Popov form, whose second system has short rows
+pub mod Rework
+pub mod Reduced
+pub mod SlotStored
 pub mod Short
-pub mod ShortRounds
 -- inside: the right side inserted
 pub mod Inserted
 -- inside: its two ends

@@ -31,7 +31,7 @@ use Rattle.solve_second.specs.Solved.{HoldsSecond}
 use Rattle.solve_lattice.specs.Room.{outputWords, blockWords, lanes}
 use Rattle.solve_certify.specs.Witnessed.{HoldsUnfinished}
 use Rattle.solve_certify.specs.Words.{stored-below, held-zero-from, held-fewer, words-copied}
-use Rattle.solve_certify.specs.Inserted.{HoldsVanished, HasVanished, last-degrees, vanished-some, vanished-tops}
+use Rattle.solve_certify.specs.Inserted.{HoldsVanished, HasVanished, last-degrees, vanished-some, vanished-tops, vanished-room}
 use Rattle.solve_certify.specs.Short.{HasMonicTops, HoldsShort, ShortSolved}
 use Rattle.solve_certify.specs.Denominator.{HasTail, HasDenominator, HoldsDenominator}
 
@@ -52,7 +52,7 @@ vanished-tail {n = n} few-rows has = record {
   holds = has .vanished .held;
 }
 
--- a second system whose tails may lose multiples of d
+-- a second system whose slots may be brought into Popov form
 pub vanished-monic : {p n m : ℕ} {input : List ℕ} {L : Level} {tail d t : List ℕ} {found : ℕ} → n ≤ lanes → ValidLevel p L
     → HasVanished p n m input L tail → HasDenominator p m input tail d t found → HasMonicTops p n L d
 vanished-monic {n = n} few-rows valid has denominator =
@@ -67,6 +67,7 @@ vanished-monic {n = n} few-rows valid has denominator =
       tops = vanished-tops (has .prime) few-rows valid Q;
       polynomial = polynomials _ .mul (associate (residues _ (has .prime)) e some .unit) e;
       monic = associate (residues _ (has .prime)) e some .monic;
+      room = vanished-room (has .prime) few-rows Q;
       holds-d = denominator .holds (has .prime) n e some (has .equations .side) (Q .held) (Q .side) .denominator;
     }
 
@@ -137,7 +138,8 @@ module _ {p n m : ℕ} {input : List ℕ} {L L′ : Level} {tail d t : List ℕ}
 
     H : HoldsShort p prime n (degrees n (U .size)) (Q .inserting .now .slots) x w rows
     H = solved .solved prime (degrees n (U .size)) (Q .inserting .now .slots) (omega (arith, last-degrees prime few-rows (Q .last) .1))
-        (Q .slots) (vanished-tops prime few-rows level Q) x (associate (residues p prime) e (vanished-some prime few-rows Q) .monic) (D .denominator)
+        (Q .slots) (vanished-tops prime few-rows level Q) x (associate (residues p prime) e (vanished-some prime few-rows Q) .monic)
+        (vanished-room prime few-rows Q) (D .denominator)
 
     abbrev S : HoldsSecond p prime n (degrees n (U .size)) (H .slots) w rows
     S = H .second
@@ -145,7 +147,7 @@ module _ {p n m : ℕ} {input : List ℕ} {L L′ : Level} {tail d t : List ℕ}
     made : Unfinished (euclidean (residues p prime)) (inputSystem p prime n m X) U x
         (polynomials (residues p prime) .mul x (S .polynomial)) (S .Y)
     made = unfinished (euclidean (residues p prime)) (inputSystem p prime n m X) (Q .last) (Q .inserting) (Q .vanishes)
-        (associate (residues p prime) e (vanished-some prime few-rows Q)) (H .less) (S .polynomial) (S .Y) (S .monic) (S .dual) (H .short)
+        (associate (residues p prime) e (vanished-some prime few-rows Q)) (H .reworked) (S .polynomial) (S .Y) (S .monic) (S .dual) (H .short)
 
     -- L8: d and w′ have together at most 122 coefficients, since their product has at most 121
     together : size (residues p prime) x + size (residues p prime) (S .polynomial) ≤ 122

@@ -1,5 +1,5 @@
 // Where there is a solution: all of its certificate but the numerators.
-use crate::shorten::solve_short;
+use crate::popov::solve_short;
 use residue::modulus::Modulus;
 use solve_lattice::BLOCK;
 use solve_lattice::Block;
@@ -66,7 +66,7 @@ fn store_solution(output: &mut Output, d: &Block, w: &Block, rows: &[u64; ROWS],
 }
 
 // Stores d, w and Z in `output`, and the coefficients of d b in the blocks of `level` in `quotients`, which are 0. `next` and
-// `tail` are what the insertion of the right side into a copy of `level` left, when its block became zero; the tails of `next` change.
+// `tail` are what the insertion of the right side into a copy of `level` left, when its block became zero; `next` changes.
 // By L8, d and the second system's w have together at most 122 coefficients.
 pub fn find_solution(
     output: &mut Output,
