@@ -20,7 +20,6 @@ static const double least_time = 1e-3;
 
 check_function check_O2, check_O3;
 solve_function solve_O3, solve_shared;
-extern uint32_t solve_O3_rounds;
 #ifdef FLINT
 solve_function flint_solve;
 #else
@@ -43,7 +42,6 @@ struct row {
     const char *load;
     uint32_t p;
     bool check, not_done[CONTESTANTS];
-    int again; // systems for which C solved the second system more than once
     double times[CONTESTANTS][PASSES * REPETITIONS], median[CONTESTANTS]; // 0 for those that do not take part
 };
 
@@ -183,8 +181,6 @@ static void compare_words(struct batch *b, int contestant, int i, uint64_t resul
     } else if (contestant <= SHARED &&
                (result != results[i] || memcmp(chosen[i], b->certificate[i], 4 * (result / 64)) != 0))
         fail(b, contestant, "gives another certificate");
-    if (contestant == C_O3)
-        b->row->again += solve_O3_rounds > 0;
 }
 
 // Every check accepts the certificates; every solver's certificate is right, which leaves no choice of kind and d.
@@ -331,16 +327,6 @@ static void print_rows(const struct row *rows)
             print_solver(first + i);
 }
 
-static void print_again(const struct row *rows)
-{
-    int count = 0;
-    printf("\nNote: The second system was solved again for");
-    for (const struct row *r = rows; r < rows + ROWS; r++)
-        if (r->again > 0)
-            printf("%s %d of %d systems of %s (p = %u)", count++ == 0 ? "" : ",", r->again, SYSTEMS, r->load, r->p);
-    puts(count == 0 ? " no system." : ".");
-}
-
 static void measure_rows(struct row *rows, const char *folder)
 {
     static struct batch b;
@@ -366,7 +352,6 @@ int main(int count, char **argument)
     list_rows(rows);
     measure_rows(rows, argument[1]);
     print_rows(rows);
-    print_again(rows);
     printf("\nMeanwhile other work kept %.2f cores busy.\n", (others_seconds() - others) / (seconds(CLOCK_MONOTONIC) - start));
     return 0;
 }

@@ -62,52 +62,46 @@ static void solve_second(struct work *w, const struct level *tops, uint32_t stuc
     divide(w->k, &w->second, &w->hand, &w->q);
 }
 
-static uint32_t size_of_w(const struct work *w)
+// Takes off one top what the others divide of it behind its pivot; the words above the hand's length are what none divides. Gives the
+// number of steps.
+static uint32_t reduce_block(struct work *w, const struct slot *top)
 {
-    return w->factor.size + w->d.size - 1;
-}
-
-// the number of coefficients of coordinate i's top at its pivot
-static uint32_t top_size(const struct work *w, uint32_t i)
-{
-    return whole_rows(w->right.slot[LANES - 1 - i].length) / LANES;
-}
-
-// The row of Z that is too long: of those that together with their top have more coefficients than w, one of the most, and of these the
-// last; n where there is none.
-static uint32_t find_long(const struct work *w)
-{
-    uint32_t found = w->s.n, most = 0;
-    for (uint32_t i = 0; i < w->s.n; i++) {
-        uint32_t size = w->q.size[i];
-        if (size > 0 && size >= most && size + top_size(w, i) > size_of_w(w))
-            found = i, most = size;
+    struct hand *hand = &w->hand;
+    uint32_t steps = 0;
+    memcpy(hand->block, top->block, whole_rows(top->length) * sizeof top->block[0]);
+    memset(hand->tail, 0, sizeof hand->tail);
+    memcpy(hand->tail, top->tail, top->tail_size * sizeof top->tail[0]);
+    hand->tail_size = top->tail_size;
+    for (hand->length = top->length - 1; hand->length > 0;) {
+        const struct slot *slot = &w->right.slot[(hand->length - 1) % LANES];
+        uint64_t a = hand->length < slot->length ? 0 : reduce_wide(w->k, hand->block[hand->length - 1] * slot->inverse);
+        if (a == 0) {
+            hand->length--;
+            continue;
+        }
+        step(hand, slot, 1, w->k.p - (uint32_t)a);
+        steps++;
     }
-    return found;
+    return steps;
 }
 
-// the multiple of d that takes the leading coefficient of row i away goes off the tail of its top
-static void shorten(struct work *w, uint32_t i)
+// Brings the tops into Popov form, tails modulo d: then the rows of Z are short.
+static void reduce_tops(struct work *w)
 {
-    struct slot *top = &w->right.slot[LANES - 1 - i];
-    uint32_t size = w->q.size[i], power = size + top_size(w, i) - size_of_w(w) - 1;
-    uint64_t c = negative(w->k, reduce(w->k, w->q.coefficient[i][size - 1] * top->block[top->length - 1]));
-    for (; top->tail_size < power + w->d.size; top->tail_size++)
-        top->tail[top->tail_size] = 0;
-    for (uint32_t e = 0; e < w->d.size; e++)
-        top->tail[power + e] = reduce(w->k, top->tail[power + e] + c * w->d.word[e]);
-}
-
-// Makes the rows of Z short; each round solves the second system once more. Gives the number of rounds.
-static uint32_t shorten_rows(struct work *w)
-{
-    uint32_t rounds = 0;
-    for (uint32_t i = find_long(w); i < w->s.n; i = find_long(w)) {
-        shorten(w, i);
-        solve_second(w, &w->right, LANES);
-        rounds++;
+    struct coefficients tail;
+    for (uint32_t lane = 0; lane < LANES; lane++) {
+        struct slot *top = &w->right.slot[lane];
+        if (top->length == 0)
+            continue;
+        if (reduce_block(w, top) > 0)
+            reduce_words(w->k, top->block, w->hand.block, whole_rows(top->length));
+        else if (top->tail_size < w->d.size)
+            continue;
+        remainder_by(w->k, &tail, w->hand.tail, w->hand.tail_size, &w->d);
+        top->tail_size = tail.size;
+        memset(top->tail, 0, sizeof top->tail);
+        memcpy(top->tail, tail.word, tail.size * sizeof tail.word[0]);
     }
-    return rounds;
 }
 
 // Z, or q with the factor in the stuck row and -Y elsewhere

@@ -8,12 +8,6 @@
 static void build_levels(struct work *w);
 static void find_numerators(struct work *w);
 
-// how often the last call solved a second system once more: the variable NAME_rounds
-#define JOINED(name, suffix) name##suffix
-#define JOIN(name, suffix) JOINED(name, suffix)
-#define ROUNDS JOIN(NAME, _rounds)
-uint32_t ROUNDS;
-
 static void put_coefficients(struct writer *o, const struct coefficients *f)
 {
     put_polynomial(o, f->word, f->size);
@@ -38,8 +32,9 @@ static uint64_t solve(struct work *w, struct writer *o)
         for (uint32_t j = 0; j < w->s.m; j++)
             put_coefficients(o, &w->numerator[j]);
     }
+    if (stuck == LANES)
+        reduce_tops(w);
     solve_second(w, stuck == LANES ? &w->right : last, stuck);
-    ROUNDS = stuck == LANES ? shorten_rows(w) : 0;
     if (stuck == LANES)
         put_denominator(w, o);
     put_rows(w, o, stuck);
