@@ -1,5 +1,5 @@
--- The numbers of the exported calls' refusals are those of the rows of document 01's table (`words`, `Rows`). Packing asks how large they
--- are.
+-- How large the numbers of the exported calls' refusals are: packing asks it. Which they are, at which places and when, is said in
+-- `words`, `Rows`, and in `Theorems`.
 use Prim.Native.Nat.{ℕ}
 use mathlib.Core.Path.{_≡_, refl}
 use mathlib.Core.Bool.{true}

@@ -1,8 +1,9 @@
 -- The customer's three demands, each sentence as a field, each proved from the laws below it. "Sheet" is a system here, "card" a
 -- certificate. What a call gives is what its contract says: `SolvesPacked` for the number and the bytes of `yezsdolak_solve`, `checkGives`
--- for the number of `yezsdolak_check`, `Writes` for the writers, `LoadsSystem` and `LoadsCertificate` for the calls that hand out values,
--- `polynomialLookup` for the lookup. Each of these has a contract without `requires`, so it is proved for all that is lent that the call
--- reads and writes nothing beside it and returns.
+-- for the number of `yezsdolak_check`, `GivesPacked` and `packed` for `yezsdolak_write_system`, `_lookup`, `_shape` and `_kind`,
+-- `Writes` for the writers, `LoadsSystem` and `LoadsCertificate` for the calls that hand out values, `polynomialLookup` for the
+-- lookup. Each of these has a contract without `requires`, so it is proved for all that is lent that the call reads and writes
+-- nothing beside it and returns.
 use Prim.Native.Nat.{ℕ, _+_, _*_, _/_, _%_, _≤_}
 use mathlib.Core.Path.{_≡_}
 use mathlib.Core.Logic.{_↔_}
@@ -19,7 +20,10 @@ use Rattle.words.specs.SystemLaws.{system-accepted-iff, systemWords-injective}
 use Rattle.words.specs.Certificate.{Certificate, Form, CertificateWithin, certificateForm, certificateWords, readCertificate}
 use Rattle.words.specs.CertificateLaws.{certificate-accepted-iff, certificateWords-injective}
 use Rattle.words.specs.Bytes.{bytesOf, readSystemFile}
-use Rattle.words.specs.Table.{ByTable, systemTable, certificateTable}
+use Rattle.words.specs.Table.{ByTable, systemTable, certificateTable, PolynomialsByTable}
+use Rattle.words.specs.Reading.{used}
+use Rattle.words.specs.Polynomial.{polynomialsFrom}
+use Rattle.words.specs.PolynomialsRefused.{polynomials-refused-iff}
 use Rattle.words.specs.TenFirst.{FileRefused}
 use Rattle.words.specs.Pair.{PairRefused}
 use Rattle.words.specs.RefusedLaws.{system-refused-iff, certificate-refused-iff, file-refused-iff}
@@ -34,6 +38,7 @@ use Rattle.answers.specs.declared.answer.Refusal.{Refusal}
 use Rattle.answers.specs.declared.shape.SystemRead.{SystemRead}
 use Rattle.answers.specs.declared.shape.CertificateRead.{CertificateRead}
 use Rattle.answers.specs.Answer.{systemOutcome, certificateOutcome}
+use Rattle.answers.specs.Packed.{packed}
 use Rattle.writer.specs.Writing.{writeSystem, writeCertificate, Writes}
 use Rattle.writer.specs.Values.{systemInArrays, certificateIn, certificateStride}
 use Rattle.writer.specs.Refused.{SystemFault, CertificateFault}
@@ -41,12 +46,17 @@ use Rattle.writer.specs.RefusedLaws.{system-refused-iff-fault, certificate-refu
 use Rattle.writer.specs.WrittenBackLaws.{WritesBack}
 use Rattle.values.specs.Loading.{LoadsSystem, LoadsCertificate}
 use Rattle.values.specs.LoadedLaws.{system-load-refused, certificate-load-refused}
+use Rattle.values.specs.RefusedLaws.{ShapeFirst, system-load-refused-iff, certificate-load-refused-iff}
 use Rattle.values.specs.HeldLaws.{InArrays, system-held, certificate-held}
 use Rattle.values.specs.RoundTrip.{SystemRoom, CertificateRoom, WritesSystem, WritesCertificate}
 use Rattle.values.specs.RoundTrip.{system-reads-back, system-loads-back, certificate-reads-back, certificate-loads-back}
 use Rattle.solver.specs.RefusedLaws.{RoomLast}
 use Rattle.solver.specs.OneCertificate.{Call, file-solved-same}
 use Rattle.link.specs.Packed.{SolvesPacked}
+use Rattle.link_values.specs.Files.{fileShape, fileKind, fileLookup, writeSystemFile}
+use Rattle.link_values.specs.Giving.{GivesPacked}
+use Rattle.link_values.specs.RefusedLaws.{FilesRefusedBy, NothingTried, shape-gives-iff, kind-gives-iff, lookup-gives-iff}
+use Rattle.link_values.specs.RefusedLaws.{write-gives-iff, unchanged-lookup, unchanged-write}
 use Rattle.link_values.specs.Unpacked.{unpacked}
 use Rattle.link.specs.PackedLaws.{unpacked-0, solves-unpacked, solver-refused-iff}
 use Rattle.link.specs.Checked.{checkGives, checked-iff, checked-says, checked-refused-iff, checked-agree}
@@ -55,7 +65,8 @@ use Rattle.link.specs.Together.{checkedAfter, every-system-checked, refu
 -- 1. "No words handed in, for sheet or card, can make a call read outside them, fail to end, or change a lent word when it refuses; each
 -- refusal has the number and place on the table, and is given under that condition only."
 pub record Demand1 : Type 0 where
-  -- a refusal of the solver, of the writers, of the calls that hand out values; the others lend nothing that they may change
+  -- a refusal of the solver, of the writers, of the calls that hand out values, on words and on files. What other calls are lent
+  -- they cannot change, but for `open_file` (`reader`, `opened-unchanged`) and the report, which refuses nothing.
   pub unchanged : {file entry exit : List ℕ} {r : ℕ} → SolvesPacked office file entry exit r → ¬ (r % 64 ≡ 0) → exit ≡ entry
   pub unchanged-writing : {o : Outcome (List ℕ)} {entry exit : List ℕ} {r : Refusal} → Writes o entry (Refused r) exit → exit ≡ entry
   pub unchanged-system : {ws sizes sizes′ values values′ : List ℕ} {answer : SystemRead}
@@ -64,6 +75,11 @@ pub record Demand1 : Type 0 where
   pub unchanged-certificate : {h : Shape} {cs sizes sizes′ values values′ : List ℕ} {answer : CertificateRead}
       → LoadsCertificate office h cs answer sizes sizes′ values values′ → {number place : ℕ}
       → certificateOutcome answer ≡ refused number place → (sizes′ ≡ sizes) × (values′ ≡ values)
+  pub unchanged-lookup : (f g : List ℕ) (side : Side) (k : ℕ) {entry exit : List ℕ} {r : ℕ}
+      → GivesPacked (fileLookup office f g side k) entry exit r → ¬ (r % 64 ≡ 0) → exit ≡ entry
+  pub unchanged-write-file : (h : Shape) (sizes values : List ℕ) {entry exit : List ℕ} {r : ℕ}
+      → GivesPacked (writeSystemFile office (length entry) (systemInArrays office h sizes values)) entry exit r → ¬ (r % 64 ≡ 0)
+      → exit ≡ entry
   -- rows 1 to 9, of a sheet's words; 21 and 24 to 29, of a card's; 10 before all others, of a file
   pub system : (ws : List ℕ) (number place : ℕ)
       → (readSystem office ws ≡ refused number place) ↔ ByTable (systemTable office) 0 ws number place
@@ -71,6 +87,23 @@ pub record Demand1 : Type 0 where
       → (readCertificate office h cs ≡ refused number place) ↔ ByTable (certificateTable office h) 20 cs number place
   pub file : (bytes : List ℕ) (number place : ℕ)
       → (readSystemFile office bytes ≡ refused number place) ↔ FileRefused office bytes number place
+  -- 4 to 8, of polynomials that are read alone
+  pub polynomials : (p limit count : ℕ) (ws : List ℕ) (number place : ℕ)
+      → (used (polynomialsFrom p limit count) ws ≡ refused number place) ↔ PolynomialsByTable p limit count ws number place
+  -- of the calls that hand out values: of a sheet those of its words; of a card 2 and 3 of the p, n and m that are given, and those
+  pub load-system : {ws sizes sizes′ values values′ : List ℕ} {answer : SystemRead}
+      → LoadsSystem office ws answer sizes sizes′ values values′ → (number place : ℕ)
+      → (systemOutcome answer ≡ refused number place) ↔ ByTable (systemTable office) 0 ws number place
+  pub load-certificate : {h : Shape} {cs sizes sizes′ values values′ : List ℕ} {answer : CertificateRead}
+      → LoadsCertificate office h cs answer sizes sizes′ values values′ → (number place : ℕ)
+      → (certificateOutcome answer ≡ refused number place)
+      ↔ ShapeFirst office h (ByTable (certificateTable office h) 20 cs) number place
+  -- of the number for the shape of a sheet's file
+  pub shape-of-file : (f : List ℕ) (number place : ℕ) → 1 ≤ number → number ≤ 63
+      → (packed (fileShape office f) ≡ 64 * place + number) ↔ FileRefused office f number place
+  -- of the number for a card's kind: 10 before all others, then the sheet's rows and the card's
+  pub kind-of-files : (f g : List ℕ) (number place : ℕ) → 1 ≤ number → number ≤ 63
+      → (packed (fileKind office f g) ≡ 64 * place + number) ↔ FilesRefusedBy office NothingTried f g number place
   -- of the check's number: 10 before all others, then the sheet's rows, the card's, and 31 to 36
   pub check : (f g : List ℕ) (number place : ℕ) → 1 ≤ number → number ≤ 63
       → (checkGives f g ≡ 64 * place + number) ↔ FilesRefused office f g number place
@@ -82,11 +115,20 @@ pub record Demand1 : Type 0 where
   -- of the lookup: the sheet's rows, the card's, and then 12
   pub lookup : (ws cs : List ℕ) (side : Side) (k number place : ℕ)
       → (polynomialLookup office ws cs side k ≡ refused number place) ↔ PairRefused office (NoPolynomial side k) ws cs number place
+  -- of its number on files: 10 before all others
+  pub lookup-in-files : (f g : List ℕ) (side : Side) (k : ℕ) {entry exit : List ℕ} {r : ℕ}
+      → GivesPacked (fileLookup office f g side k) entry exit r → (number place : ℕ) → 1 ≤ number → number ≤ 63
+      → (r ≡ 64 * place + number) ↔ FilesRefusedBy office (NoPolynomial side k) f g number place
   -- of the writers: 2, 3, then the first value at fault, then 11
   pub write-system : (lent : ℕ) (s : System) (number place : ℕ)
       → (writeSystem office lent s ≡ refused number place) ↔ SystemFault office lent s number place
   pub write-certificate : (lent : ℕ) (h : Shape) (c : Certificate) (number place : ℕ)
       → (writeCertificate office lent h c ≡ refused number place) ↔ CertificateFault office lent h c number place
+  -- of the number for a sheet's file: the same, on as many words as there are whole in the lent bytes
+  pub write-system-file : (h : Shape) (sizes values : List ℕ) {entry exit : List ℕ} {r : ℕ}
+      → GivesPacked (writeSystemFile office (length entry) (systemInArrays office h sizes values)) entry exit r → (number place : ℕ)
+      → 1 ≤ number → number ≤ 63
+      → (r ≡ 64 * place + number) ↔ SystemFault office (length entry / 4) (systemInArrays office h sizes values) number place
 
 pub demand-1 : Demand1
 demand-1 = record {
@@ -94,14 +136,23 @@ demand-1 = record {
   unchanged-writing = refused-lent;
   unchanged-system = system-load-refused;
   unchanged-certificate = certificate-load-refused;
+  unchanged-lookup = λ f g side k gives. unchanged-lookup office f g side k gives;
+  unchanged-write-file = λ h sizes values gives. unchanged-write office h sizes values gives;
   system = system-refused-iff office;
   certificate = certificate-refused-iff office;
   file = file-refused-iff office;
+  polynomials = polynomials-refused-iff;
+  load-system = λ loads. system-load-refused-iff loads;
+  load-certificate = λ loads. certificate-load-refused-iff loads;
+  shape-of-file = shape-gives-iff office;
+  kind-of-files = kind-gives-iff office office-fits;
   check = checked-refused-iff;
   solve = λ small h. solver-refused-iff office-fits small h;
   lookup = λ ws cs side k. lookup-refused-iff office ws cs side k office-fits;
+  lookup-in-files = λ f g side k gives. lookup-gives-iff office f g side k gives office-fits;
   write-system = system-refused-iff-fault office;
   write-certificate = certificate-refused-iff-fault office;
+  write-system-file = λ h sizes values gives. write-gives-iff office h sizes values gives;
 }
 
 -- 2. "The check accepts a card for a sheet exactly when the conditions for a certified solution, or for a certified absence of solutions,

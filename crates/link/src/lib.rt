@@ -20,7 +20,7 @@ ghost use Rattle.answers.specs.Packed.{packed, packedVerdict};
 ghost use Rattle.writer.specs.Values.{shapeWith, systemInArrays};
 ghost use Rattle.verifier.specs.File.{fileVerdict};
 ghost use Rattle.link_values.specs.Version.{version};
-ghost use Rattle.link_values.specs.Files.{fileShape, fileKind, sideOf, fileLookup, writeSystemFile};
+ghost use Rattle.link_values.specs.Files.{fileShape, fileKind, sideNumbered, fileLookup, writeSystemFile};
 ghost use Rattle.link_values.specs.Giving.{GivesPacked};
 ghost use Rattle.link.specs.Packed.{SolvesPacked, ReportsPacked};
 
@@ -102,7 +102,7 @@ pub extern "C" fn yezsdolak_lookup(
     number: u64,
     coefficients: &mut [u64; COEFFICIENTS],
 ) -> u64
-    ensures { λ r. ⌜ GivesPacked (fileLookup office (now (system .entry)) (now (certificate .entry)) (sideOf side) number)
+    ensures { λ r. ⌜ GivesPacked (fileLookup office (now (system .entry)) (now (certificate .entry)) (sideNumbered side) number)
         (now (coefficients .entry)) (now (coefficients .exit)) r ⌝ }
 {
     lookup_in_files(coefficients, system, certificate, side, number)

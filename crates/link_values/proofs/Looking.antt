@@ -9,7 +9,6 @@ use lib.ListN.{length, getD, drop, length-append, length-drop, List·getD-append
 use lib.Seq.{ext-getD, getD-append-add, getD-drop}
 use lib.Dec.{leb}
 use borrow.Author.Tests.{lt-leb}
-use Rattle.modular.specs.Canonical.{Canonical}
 use Rattle.words.specs.Limits.{Limits, office}
 use Rattle.words.specs.LimitsLaws.{office-fits}
 use Rattle.words.specs.Outcome.{Outcome, refuse, followedBy, mapped}
@@ -19,19 +18,16 @@ use Rattle.words.specs.Word.{payload}
 use Rattle.words.specs.Polynomial.{polynomialWords}
 use Rattle.words.specs.PolynomialLaws.{length-polynomialWords}
 use Rattle.words.specs.PlaceLaws.{coefficient-at}
-use Rattle.words.specs.VectorLaws.{all-at}
 use Rattle.words.specs.System.{System, shape, readSystem}
 use Rattle.words.specs.SystemLaws.{system-written-of-read}
 use Rattle.words.specs.Certificate.{Certificate, readCertificate}
 use Rattle.lookup.specs.Lookup.{Side, Part, entriesOn, shown, polynomialLookup, wordsShown, companion}
-use Rattle.lookup.specs.Lookup.Side.{system, certificate}
-use Rattle.lookup.specs.FramedLaws.{system-framed, certificate-framed}
 use Rattle.lookup.specs.LookupLaws.{Shows, lookup-shown}
 use Rattle.vector.specs.Stored.{stored, length-stored, stored-first, stored-outside, below-or-not}
 use Rattle.write_frame.specs.Overwriting.{overwritten}
-use Rattle.link_values.specs.Files.{Both, readBoth, polynomialOf, lookupOf}
-use Rattle.link_values.specs.FilesLaws.{ReadAs, both-accepted, lookup-size}
-use Rattle.link_values.specs.Giving.{Gives}
+use Rattle.link_values.specs.Files.{Pair, readBoth, polynomialLooked, lookupOf}
+use Rattle.link_values.specs.FilesLaws.{ReadAs, both-accepted, lookup-size, lookup-canonical}
+use Rattle.link_values.specs.Giving.{GivesList}
 use Rattle.link_values.specs.GivingLaws.{gives-list}
 
 -- ---- numbers stored one after another, as a list over the first of those lent
@@ -104,17 +100,9 @@ module _ (ws cs : List ℕ) (side : Side) (k : ℕ) where
     pub few : length coefficients ≤ 121
     pub each : (i : ℕ) → i < length coefficients → payload (getD words (1 + i) 0) ≡ getD coefficients i 0
 
-  small-canonical : (v : Both) → ReadAs office ws cs v → (side : Side)
-      → Canonical (v .system .modulus) (getD (entriesOn side (v .system) (v .certificate)) k [])
-  small-canonical v r system =
-      all-at (v .system .modulus) 16 _ (system-framed office ws (v .system) (r .system) .entries .entries) k .canonical
-  small-canonical v r certificate =
-      all-at (v .system .modulus) 121 _
-      (certificate-framed office cs (shape (v .system)) (v .certificate) (r .certificate) .entries .entries) k .canonical
-
   found : {words : List ℕ} (part : Part) → Shows office ws cs side k part → words ≡ part .words → Found words
   found {words} part s same =
-      let v : Both = record { system = s .system; certificate = s .certificate } in
+      let v : Pair = record { system = s .system; certificate = s .certificate } in
       let r : ReadAs office ws cs v = record { system = s .read-system; certificate = s .read-certificate } in
       let f = getD (entriesOn side (s .system) (s .certificate)) k [] in
       let p = system-written-of-read office office-fits ws (s .system) (s .read-system) .1 .shape .modulus in
@@ -130,7 +118,7 @@ module _ (ws cs : List ℕ) (side : Side) (k : ℕ) where
             let next : 1 + i ≡ suc i = omega arith in
             ap (λ (j : ℕ). payload (getD words j 0)) next
             ∙ ap (λ (l : List ℕ). payload (getD l (suc i) 0)) (is ∙ sym (append-nil (polynomialWords f)))
-            ∙ coefficient-at (s .system .modulus) (omega arith) f [] (small-canonical v r side) i lt;
+            ∙ coefficient-at (s .system .modulus) (omega arith) f [] (lookup-canonical office ws cs v r side k) i lt;
       }
 
   -- the limits as the code has them
@@ -161,7 +149,7 @@ module _ (ws cs : List ℕ) (side : Side) (k : ℕ) where
   -- ---- what is left
 
   pub gives-found : {words : List ℕ} → Found words → (lent exit : List ℕ) → 121 ≤ length lent → {n : ℕ} → n ≡ length words - 1
-      → exit ≡ stored (λ j. payload (getD words (1 + j) 0)) lent 0 n → Gives Sought lent exit (accepted n)
+      → exit ≡ stored (λ j. payload (getD words (1 + j) 0)) lent 0 n → GivesList Sought lent exit (accepted n)
   gives-found F lent exit room {n} count stores =
       let size : n ≡ length (F .coefficients) = omega (arith, F .size) in
       gives-list (F .sought) size

@@ -12,7 +12,7 @@ use Rattle.words.specs.Outcome.Outcome.{accepted, refused}
 use Rattle.words.specs.Bytes.{wordsOf, broken}
 use Rattle.reader.specs.Opening.{turnedBack, Opened}
 use Rattle.reader.specs.OpeningLaws.{unlimited, opened-stops, opened-passes, opened-room, opened-first, opened-all}
-use Rattle.link_values.specs.Files.{Both, readBoth, readFiles}
+use Rattle.link_values.specs.Files.{Pair, readBoth, readFiles}
 use Rattle.link_values.specs.FilesLaws.{both-room}
 use Rattle.link_values.specs.Opening.{OpensWords}
 
@@ -21,10 +21,10 @@ refuse-or true b next = refl
 refuse-or false b next = refl
 
 module _ (f g : List ℕ) where
-  abbrev all-words : Outcome Both
+  abbrev all-words : Outcome Pair
   all-words = readBoth office (wordsOf f) (wordsOf g)
 
-  abbrev second-file : Outcome Both
+  abbrev second-file : Outcome Pair
   second-file = refuse (turnedBack (length g) g) 10 0 all-words
 
   -- the system's file, then the certificate's, which has no limit, then the words

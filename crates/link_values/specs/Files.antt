@@ -30,19 +30,19 @@ writeSystemFile limits lent s = mapped bytesOf (writeSystem limits (lent / 4) s)
 
 -- ---- a system's file and a certificate's
 
-pub record Both : Type 0 where
+pub record Pair : Type 0 where
   pub system : System
   pub certificate : Certificate
 
 -- the system first, then the certificate for it
-unfoldable pub readBoth : Limits → List ℕ → List ℕ → Outcome Both
+unfoldable pub readBoth : Limits → List ℕ → List ℕ → Outcome Pair
 unfolding readSystem readCertificate
 readBoth limits ws cs =
     followedBy (readSystem limits ws) (λ s.
     mapped (λ c. record { system = s; certificate = c }) (readCertificate limits (shape s) cs))
 
 -- of files, as the check reads them: "Number 10 comes before all others."
-unfoldable pub readFiles : Limits → List ℕ → List ℕ → Outcome Both
+unfoldable pub readFiles : Limits → List ℕ → List ℕ → Outcome Pair
 unfolding wordsOf readBoth
 readFiles limits f g = refuse (filesBroken limits f g) 10 0 (readBoth limits (wordsOf f) (wordsOf g))
 
@@ -51,23 +51,23 @@ abbrev pub kindNumber : Form → ℕ
 kindNumber solving = 1
 kindNumber absent = 2
 
-abbrev pub kindOf : Outcome Both → Outcome ℕ
+abbrev pub kindOf : Outcome Pair → Outcome ℕ
 kindOf both = mapped (λ v. kindNumber (certificateForm (v .certificate))) both
 
 abbrev pub fileKind : Limits → List ℕ → List ℕ → Outcome ℕ
 fileKind limits f g = kindOf (readFiles limits f g)
 
 -- the sides as numbers
-abbrev pub sideOf : ℕ → Side
-sideOf zero = system
-sideOf (suc n) = certificate
+abbrev pub sideNumbered : ℕ → Side
+sideNumbered zero = system
+sideNumbered (suc n) = certificate
 
 -- the coefficients of the polynomial of that number
-abbrev pub polynomialOf : ℕ → List (List ℕ) → Outcome (List ℕ)
-polynomialOf k fs = refuse (leb (length fs) k) 12 0 (accepted (getD fs k []))  -- 12: no polynomial of that number; 0
+abbrev pub polynomialLooked : ℕ → List (List ℕ) → Outcome (List ℕ)
+polynomialLooked k fs = refuse (leb (length fs) k) 12 0 (accepted (getD fs k []))  -- 12: no polynomial of that number; 0
 
-abbrev pub lookupOf : Side → ℕ → Outcome Both → Outcome (List ℕ)
-lookupOf side k both = followedBy both (λ v. polynomialOf k (entriesOn side (v .system) (v .certificate)))
+abbrev pub lookupOf : Side → ℕ → Outcome Pair → Outcome (List ℕ)
+lookupOf side k both = followedBy both (λ v. polynomialLooked k (entriesOn side (v .system) (v .certificate)))
 
 abbrev pub fileLookup : Limits → List ℕ → List ℕ → Side → ℕ → Outcome (List ℕ)
 fileLookup limits f g side k = lookupOf side k (readFiles limits f g)

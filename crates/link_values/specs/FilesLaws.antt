@@ -1,4 +1,5 @@
--- Laws of what is told of files: the first words of a certificate's decide; numbers and places of refusals; sizes.
+-- Laws of what is told of files: what is asked of the values comes last; the first words of a certificate's decide; numbers and
+-- places of refusals; sizes.
 use Prim.Native.Nat.{ℕ, zero, suc, _+_, _*_, _/_, _≤_, _<_, min}
 use native.Mathlib.Nat.{min-eq-left, min-eq-right, min-le-left, min-le-right}
 use mathlib.Core.Path.{_≡_, refl, sym, ap, _∙_, subst}
@@ -10,6 +11,7 @@ use lib.ListN.{length, getD, take, length-take}
 use lib.Seq.{take-length}
 use lib.Dec.{leb, ltb}
 use borrow.Author.Tests.{leb-true, leb-false, ltb-false}
+use Rattle.modular.specs.Canonical.{Canonical}
 use Rattle.words.specs.Limits.{Limits, longestSystem, longestCertificate}
 use Rattle.words.specs.LimitsLaws.{LimitsFit}
 use Rattle.words.specs.Outcome.{Outcome, refuse, followedBy, mapped}
@@ -18,6 +20,7 @@ use Rattle.words.specs.OutcomeLaws.{followedBy-accepted, mapped-accepted, refus
 use Rattle.words.specs.System.{System, Shape, ShapeWithin, shape, readSystem}
 use Rattle.words.specs.SystemLaws.{system-written-of-read}
 use Rattle.words.specs.Certificate.{Certificate, readCertificate}
+use Rattle.words.specs.VectorLaws.{all-at}
 use Rattle.words.specs.PrefixLaws.{certificate-prefix}
 use Rattle.words.specs.Rows.{systemRows, certificateRows, fileRows}
 use Rattle.words.specs.RowLaws.{numbers-between, places-below}
@@ -31,34 +34,49 @@ use Rattle.truth.specs.Verdict.{verdict, certificateVerdict}
 use Rattle.verifier.specs.File.{filesBroken, fileVerdict}
 use Rattle.link_values.specs.Refusals.{Numbers, Places, refusals-row, refusals-refused, refusals-followed, refusals-mapped}
 use Rattle.link_values.specs.Refusals.{refusals-accepted, refusals-same, numbers-wider, places-wider}
-use Rattle.link_values.specs.Files.{Both, shapeNumber, fileShape, readBoth, readFiles, fileKind, polynomialOf, fileLookup}
+use Rattle.link_values.specs.Files.{Pair, shapeNumber, fileShape, readBoth, readFiles, fileKind, polynomialLooked, fileLookup}
 
--- ---- the check reads the same, and then judges
+-- ---- what is asked of the values: the system is read first, then the certificate for it, then that is tried
 
+module _ (limits : Limits) {A : Type 0} (next : System → Certificate → Outcome A) where
+  abbrev pub asked : Pair → Outcome A
+  asked v = next (v .system) (v .certificate)
+
+  pub both-then : (ws cs : List ℕ) → followedBy (readBoth limits ws cs) asked
+      ≡ followedBy (readSystem limits ws) (λ s. followedBy (readCertificate limits (shape s) cs) (next s))
+  unfolding readBoth
+  both-then ws cs = by-system (readSystem limits ws)
+    where
+      by-certificate : (s : System) (o : Outcome Certificate)
+          → followedBy (mapped (λ c. record { system = s; certificate = c }) o) asked ≡ followedBy o (next s)
+      by-certificate s (accepted c) = refl
+      by-certificate s (refused number place) = refl
+
+      by-system : (o : Outcome System)
+          → followedBy (followedBy o (λ s.
+          mapped (λ c. record { system = s; certificate = c }) (readCertificate limits (shape s) cs))) asked
+          ≡ followedBy o (λ s. followedBy (readCertificate limits (shape s) cs) (next s))
+      by-system (accepted s) = by-certificate s (readCertificate limits (shape s) cs)
+      by-system (refused number place) = refl
+
+  -- of files behind 10
+  pub files-then : (f g : List ℕ) → followedBy (readFiles limits f g) asked
+      ≡ refuse (filesBroken limits f g) 10 0
+      (followedBy (readSystem limits (wordsOf f)) (λ s. followedBy (readCertificate limits (shape s) (wordsOf g)) (next s)))
+  unfolding readFiles
+  files-then f g = by (filesBroken limits f g)
+    where
+      by : (b : Bool) → followedBy (refuse b 10 0 (readBoth limits (wordsOf f) (wordsOf g))) asked
+          ≡ refuse b 10 0
+          (followedBy (readSystem limits (wordsOf f)) (λ s. followedBy (readCertificate limits (shape s) (wordsOf g)) (next s)))
+      by true = refl
+      by false = both-then (wordsOf f) (wordsOf g)
+
+-- the check reads the same, and then judges
 pub verdict-of-files : (limits : Limits) (f g : List ℕ)
     → fileVerdict limits f g ≡ followedBy (readFiles limits f g) (λ v. certificateVerdict (v .system) (v .certificate))
-unfolding fileVerdict verdict readFiles readBoth
-verdict-of-files limits f g = by-files (filesBroken limits f g)
-  where
-    judge : Both → Outcome (Unit {0})
-    judge v = certificateVerdict (v .system) (v .certificate)
-
-    by-certificate : (s : System) (o : Outcome Certificate)
-        → followedBy o (certificateVerdict s) ≡ followedBy (mapped (λ c. record { system = s; certificate = c }) o) judge
-    by-certificate s (accepted c) = refl
-    by-certificate s (refused number place) = refl
-
-    by-system : (o : Outcome System)
-        → followedBy o (λ s. followedBy (readCertificate limits (shape s) (wordsOf g)) (certificateVerdict s))
-        ≡ followedBy (followedBy o (λ s.
-        mapped (λ c. record { system = s; certificate = c }) (readCertificate limits (shape s) (wordsOf g)))) judge
-    by-system (accepted s) = by-certificate s (readCertificate limits (shape s) (wordsOf g))
-    by-system (refused number place) = refl
-
-    by-files : (b : Bool) → refuse b 10 0 (verdict limits (wordsOf f) (wordsOf g))
-        ≡ followedBy (refuse b 10 0 (readBoth limits (wordsOf f) (wordsOf g))) judge
-    by-files true = refl
-    by-files false = by-system (readSystem limits (wordsOf f))
+unfolding fileVerdict verdict
+verdict-of-files limits f g = sym (files-then limits certificateVerdict f g)
 
 -- ---- the first words of a certificate decide, so many that none has as many
 
@@ -89,7 +107,7 @@ module _ (limits : Limits) (fit : LimitsFit limits) (cs : List ℕ) (count : ℕ
   unfolding readBoth
   both-room ws = by (readSystem limits ws) refl
     where
-      paired : System → Outcome Certificate → Outcome Both
+      paired : System → Outcome Certificate → Outcome Pair
       paired s = mapped (λ c. record { system = s; certificate = c })
 
       by : (o : Outcome System) → readSystem limits ws ≡ o
@@ -119,28 +137,38 @@ module _ (limits : Limits) (ws cs : List ℕ) where
 -- ---- values that were read
 
 module _ (limits : Limits) where
-  pub record ReadAs (ws cs : List ℕ) (v : Both) : Type 0 where
+  pub record ReadAs (ws cs : List ℕ) (v : Pair) : Type 0 where
     pub system : readSystem limits ws ≡ accepted (v .system)
     pub certificate : readCertificate limits (shape (v .system)) cs ≡ accepted (v .certificate)
 
-  pub both-read : (ws cs : List ℕ) (v : Both) → readBoth limits ws cs ≡ accepted v → ReadAs ws cs v
+  pub both-read : (ws cs : List ℕ) (v : Pair) → readBoth limits ws cs ≡ accepted v → ReadAs ws cs v
   unfolding readBoth
   both-read ws cs v e =
       let s = followedBy-accepted (readSystem limits ws) _ e in
       let c = mapped-accepted (λ c. record { system = s .0; certificate = c }) (readCertificate limits (shape (s .0)) cs) (s .2) in
       subst (ReadAs ws cs) (c .2) (record { system = s .1; certificate = c .1 })
 
-  pub files-read : (f g : List ℕ) (v : Both) → readFiles limits f g ≡ accepted v → ReadAs (wordsOf f) (wordsOf g) v
+  pub files-read : (f g : List ℕ) (v : Pair) → readFiles limits f g ≡ accepted v → ReadAs (wordsOf f) (wordsOf g) v
   unfolding readFiles
   files-read f g v e = both-read (wordsOf f) (wordsOf g) v (refuse-passed (filesBroken limits f g) 10 0 _ e .1)
 
   -- no polynomial is longer than one of a certificate may be
-  pub lookup-size : limits .systemCoefficients ≤ limits .certificateCoefficients → (ws cs : List ℕ) (v : Both) → ReadAs ws cs v
+  pub lookup-size : limits .systemCoefficients ≤ limits .certificateCoefficients → (ws cs : List ℕ) (v : Pair) → ReadAs ws cs v
       → (side : Side) (k : ℕ) → length (getD (entriesOn side (v .system) (v .certificate)) k []) ≤ limits .certificateCoefficients
   lookup-size more ws cs v r system k =
       let size = framed-size (system-framed limits ws (v .system) (r .system)) k in omega arith
   lookup-size more ws cs v r certificate k =
       framed-size (certificate-framed limits cs (shape (v .system)) (v .certificate) (r .certificate)) k
+
+  -- and each is one modulo the system's p
+  pub lookup-canonical : (ws cs : List ℕ) (v : Pair) → ReadAs ws cs v → (side : Side) (k : ℕ)
+      → Canonical (v .system .modulus) (getD (entriesOn side (v .system) (v .certificate)) k [])
+  lookup-canonical ws cs v r system k =
+      all-at (v .system .modulus) (limits .systemCoefficients) _
+      (system-framed limits ws (v .system) (r .system) .entries .entries) k .canonical
+  lookup-canonical ws cs v r certificate k =
+      all-at (v .system .modulus) (limits .certificateCoefficients) _
+      (certificate-framed limits cs (shape (v .system)) (v .certificate) (r .certificate) .entries .entries) k .canonical
 
 -- ---- numbers of refusals
 

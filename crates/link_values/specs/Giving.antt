@@ -8,7 +8,7 @@ use Rattle.words.specs.Outcome.{Outcome, mapped}
 use Rattle.answers.specs.Packed.{packed}
 use Rattle.writer.specs.Writing.{lentAfter}
 
-pub record Gives (outcome : Outcome (List ℕ)) (entry exit : List ℕ) (answer : Outcome ℕ) : Type 0 where
+pub record GivesList (outcome : Outcome (List ℕ)) (entry exit : List ℕ) (answer : Outcome ℕ) : Type 0 where
   pub told : answer ≡ mapped length outcome
   pub lent : exit ≡ lentAfter outcome entry
 

@@ -6,8 +6,8 @@ use lib.ListN.{length, take}
 use Rattle.words.specs.Limits.{Limits}
 use Rattle.words.specs.Outcome.Outcome.{refused}
 use Rattle.link_values.specs.Files.{readBoth, readFiles}
-use Rattle.link_values.specs.declared.opening.Opened.{Opened}
-use Rattle.link_values.specs.declared.opening.Opened.the-variants.{Words, Refused}
+use Rattle.link_values.specs.declared.opening.FilesOpened.{FilesOpened}
+use Rattle.link_values.specs.declared.opening.FilesOpened.the-variants.{Words, Refused}
 
 -- so many words of each
 pub record OpensWords (limits : Limits) (f g after after′ : List ℕ) (n m : ℕ) : Type 0 where
@@ -15,6 +15,6 @@ pub record OpensWords (limits : Limits) (f g after after′ : List ℕ) (n m : �
   pub certificate-room : m ≤ length after′
   pub read : readFiles limits f g ≡ readBoth limits (take n after) (take m after′)
 
-abbrev pub OpensBoth : Limits → (f g after after′ : List ℕ) → Opened → Type 0
+abbrev pub OpensBoth : Limits → (f g after after′ : List ℕ) → FilesOpened → Type 0
 OpensBoth limits f g after after′ (Words n m) = OpensWords limits f g after after′ n m
 OpensBoth limits f g after after′ (Refused r) = readFiles limits f g ≡ refused (r .number) (r .place)

@@ -1,6 +1,7 @@
 -- A packed answer taken apart, as include/yezsdolak.h does: the number is what is left by 64, the place or the count what is above it.
 use Prim.Native.Nat.{ℕ, _+_, _*_, _/_, _%_, _≤_}
 use mathlib.Core.Path.{_≡_, refl, sym, ap, ap₂, _∙_}
+use mathlib.Core.Logic.{_↔_}
 use mathlib.Core.Bool.{not}
 use mathlib.Core.List.{List}
 use native.Mathlib.Omega.{arith}
@@ -10,9 +11,10 @@ use lib.Dec.{eqb}
 use borrow.Author.Tests.{ne-eqb}
 use Rattle.words.specs.Outcome.{Outcome, refuse, mapped}
 use Rattle.words.specs.Outcome.Outcome.{accepted, refused}
+use Rattle.words.specs.OutcomeLaws.{refused-accepted, mapped-refused}
 use Rattle.answers.specs.Packed.{packed}
 use Rattle.writer.specs.Writing.{lentAfter}
-use Rattle.link_values.specs.Refusals.{Numbers}
+use Rattle.link_values.specs.Refusals.{Numbers, refusals-mapped}
 use Rattle.link_values.specs.Giving.{GivesPacked}
 
 -- a refusal of this number, where it is not 0
@@ -43,6 +45,14 @@ unpacked-packed (refused number place) h =
     ap₂ (λ n k. refusedUnless0 n k k) (packed-number number place (between .1)) (packed-place number place (between .1))
     ∙ refused-by number place place (between .0)
 
+-- a refusal of that number at that place, just where the packed number says so
+pub packed-refused-iff : (answer : Outcome ℕ) → Numbers 1 63 answer → (number place : ℕ) → 1 ≤ number → number ≤ 63
+    → (packed answer ≡ 64 * place + number) ↔ (answer ≡ refused number place)
+packed-refused-iff (accepted count) h number place l m = (λ e. absurd (omega arith), λ e. absurd (refused-accepted (sym e)))
+packed-refused-iff (refused n k) h number place l m =
+    let between = h .each n k refl in
+    (λ e. ap₂ refused (omega arith) (omega arith), λ e. ap packed e)
+
 -- ---- what a call leaves that is to give a list of numbers
 
 -- where it counts: the first so many of the lent numbers are the list
@@ -66,3 +76,10 @@ given-refused (refused number place) {r = r} h g some =
     let same : number ≡ r % 64 = omega (arith, g .result) in
     let here : place ≡ r / 64 = omega (arith, g .result) in
     (ap₂ refused same here, g .lent)
+
+pub given-refused-iff : (outcome : Outcome (List ℕ)) {entry exit : List ℕ} {r : ℕ} → Numbers 1 63 outcome
+    → GivesPacked outcome entry exit r → (number place : ℕ) → 1 ≤ number → number ≤ 63
+    → (r ≡ 64 * place + number) ↔ (outcome ≡ refused number place)
+given-refused-iff outcome h g number place l m =
+    let iff = packed-refused-iff (mapped length outcome) (refusals-mapped length outcome h) number place l m in
+    (λ e. mapped-refused length outcome (iff .0 (sym (g .result) ∙ e)), λ e. g .result ∙ iff .1 (ap (mapped length) e))

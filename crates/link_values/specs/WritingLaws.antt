@@ -24,7 +24,7 @@ use Rattle.writer.specs.Writing.{refuseShape, refuseRoom, writeSystem}
 use Rattle.writer.specs.WritingLaws.{shape-first, shape-passed}
 use Rattle.writer.specs.WrittenLaws.{system-accepted}
 use Rattle.writer.specs.Values.{systemInArrays}
-use Rattle.link_values.specs.Files.{Both, shapeNumber, fileShape, readFiles, writeSystemFile}
+use Rattle.link_values.specs.Files.{Pair, shapeNumber, fileShape, readFiles, writeSystemFile}
 use Rattle.link_values.specs.FilesLaws.{files-read}
 use Rattle.link_values.specs.Giving.{GivesPacked}
 use Rattle.link_values.specs.Refusals.{Refusals, Numbers, Places, refusals-row, refusals-followed, refusals-mapped}
@@ -193,7 +193,7 @@ module _ (h : Shape) (sizes coefficients : List ℕ) {entry exit : List ℕ} {r 
   shape-of-values = ap (λ o. mapped shapeNumber (mapped shape o)) file-of-values
 
   -- and with any certificate's file
-  pub system-of-values : (g : List ℕ) (v : Both) → readFiles office file g ≡ accepted v
+  pub system-of-values : (g : List ℕ) (v : Pair) → readFiles office file g ≡ accepted v
       → v .system ≡ systemInArrays office h sizes coefficients
   unfolding readSystemFile readFiles
   system-of-values g v e =

@@ -1,6 +1,6 @@
 // The kind of the certificate in a file.
 use crate::opening::CERTIFICATE_SPACE;
-use crate::opening::Opened;
+use crate::opening::FilesOpened;
 use crate::opening::open_both;
 use answers::CertificateRead;
 use answers::Counted;
@@ -56,9 +56,9 @@ pub fn kind_of_files(system: &[u8], certificate: &[u8]) -> u64
         certificate,
     );
     match opened {
-        Opened::Words(n, m) => {
+        FilesOpened::Words(n, m) => {
             pack_counted(kind_of_words(&system_words[..n], &certificate_words[..m]))
         }
-        Opened::Refused(refusal) => pack_counted(Counted::Refused(refusal)),
+        FilesOpened::Refused(refusal) => pack_counted(Counted::Refused(refusal)),
     }
 }

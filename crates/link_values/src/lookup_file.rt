@@ -1,6 +1,6 @@
 // One polynomial of the system or of the certificate in two files.
 use crate::opening::CERTIFICATE_SPACE;
-use crate::opening::Opened;
+use crate::opening::FilesOpened;
 use crate::opening::open_both;
 use answers::Counted;
 use answers::Verdict;
@@ -14,15 +14,15 @@ ghost use mathlib.Core.Path.{_≡_};
 ghost use Rattle.words.specs.Limits.{office};
 ghost use Rattle.lookup.specs.Answer.{sideAsked};
 ghost use Rattle.answers.specs.Answer.{countedOutcome};
-ghost use Rattle.link_values.specs.Files.{sideOf, lookupOf, readBoth, fileLookup};
-ghost use Rattle.link_values.specs.Giving.{Gives, GivesPacked};
+ghost use Rattle.link_values.specs.Files.{sideNumbered, lookupOf, readBoth, fileLookup};
+ghost use Rattle.link_values.specs.Giving.{GivesList, GivesPacked};
 
 // The most coefficients of a polynomial of a certificate.
 pub const COEFFICIENTS: usize = Office::CERTIFICATE_COEFFICIENTS as usize;
 
 // Returns the side of a number: 0 is the system's.
 fn side_of(number: u64) -> Side
-    ensures { λ r. ⌜ sideAsked r ≡ sideOf number ⌝ }
+    ensures { λ r. ⌜ sideAsked r ≡ sideNumbered number ⌝ }
 {
     if number == 0 {
         Side::System
@@ -40,7 +40,7 @@ fn lookup_words<'a>(
     side: Side,
     number: usize,
 ) -> Counted
-    ensures { λ r. ⌜ Gives (lookupOf (sideAsked side) number (readBoth office (now (system .entry)) (now (certificate .entry))))
+    ensures { λ r. ⌜ GivesList (lookupOf (sideAsked side) number (readBoth office (now (system .entry)) (now (certificate .entry))))
         (now (coefficients .entry)) (now (coefficients .exit)) (countedOutcome r) ⌝ }
 {
     let words = lookup(system, certificate, side, number, Office::limits());
@@ -65,7 +65,7 @@ pub fn lookup_in_files(
     side: u64,
     number: u64,
 ) -> u64
-    ensures { λ r. ⌜ GivesPacked (fileLookup office (now (system .entry)) (now (certificate .entry)) (sideOf side) number)
+    ensures { λ r. ⌜ GivesPacked (fileLookup office (now (system .entry)) (now (certificate .entry)) (sideNumbered side) number)
         (now (coefficients .entry)) (now (coefficients .exit)) r ⌝ }
 {
     let mut system_words = [0u32; Office::SYSTEM_WORDS];
@@ -77,13 +77,13 @@ pub fn lookup_in_files(
         certificate,
     );
     match opened {
-        Opened::Words(n, m) => pack_counted(lookup_words(
+        FilesOpened::Words(n, m) => pack_counted(lookup_words(
             coefficients,
             &system_words[..n],
             &certificate_words[..m],
             side_of(side),
             number as usize,
         )),
-        Opened::Refused(refusal) => pack_counted(Counted::Refused(refusal)),
+        FilesOpened::Refused(refusal) => pack_counted(Counted::Refused(refusal)),
     }
 }

@@ -12,7 +12,7 @@ ghost use Rattle.link_values.specs.Opening.{OpensBoth};
 pub const CERTIFICATE_SPACE: usize = Office::CERTIFICATE_WORDS + 1;
 
 // What opening two files finds.
-pub enum Opened {
+pub enum FilesOpened {
     // How many words there are of the system, and of the certificate.
     Words(usize, usize),
     Refused(Refusal),
@@ -25,7 +25,7 @@ pub fn open_both(
     certificate_words: &mut [u32],
     system: &[u8],
     certificate: &[u8],
-) -> Opened
+) -> FilesOpened
     requires { ⌜ (longestSystem office ≤ length (now «system_words»)) × (longestCertificate office < length (now «certificate_words»)) ⌝ }
     ensures { λ r. ⌜ OpensBoth office (now (system .entry)) (now (certificate .entry))
         (now («system_words» .exit)) (now («certificate_words» .exit)) r ⌝ }
@@ -35,10 +35,10 @@ pub fn open_both(
         Counted::Count(n) => {
             let opened = open_file(certificate_words, certificate, certificate.len());
             match opened {
-                Counted::Count(m) => Opened::Words(n, m),
-                Counted::Refused(refusal) => Opened::Refused(refusal),
+                Counted::Count(m) => FilesOpened::Words(n, m),
+                Counted::Refused(refusal) => FilesOpened::Refused(refusal),
             }
         }
-        Counted::Refused(refusal) => Opened::Refused(refusal),
+        Counted::Refused(refusal) => FilesOpened::Refused(refusal),
     }
 }

@@ -11,7 +11,7 @@ ghost use Rattle.words.specs.Limits.{office};
 ghost use Rattle.answers.specs.Answer.{countedOutcome};
 ghost use Rattle.writer.specs.Values.{shapeWith, systemInArrays};
 ghost use Rattle.link_values.specs.Files.{writeSystemFile};
-ghost use Rattle.link_values.specs.Giving.{Gives, GivesPacked};
+ghost use Rattle.link_values.specs.Giving.{GivesList, GivesPacked};
 
 // Writes the file of a system over the first of the lent bytes. Returns the number of its bytes. The values are as `write_system`
 // takes them.
@@ -23,7 +23,7 @@ fn write_to_bytes(
     columns: u32,
     modulus: u32,
 ) -> Counted
-    ensures { λ r. ⌜ Gives
+    ensures { λ r. ⌜ GivesList
         (writeSystemFile office (length (now (bytes .entry)))
         (systemInArrays office (shapeWith modulus rows columns) (now (sizes .entry)) (now (coefficients .entry))))
         (now (bytes .entry)) (now (bytes .exit)) (countedOutcome r) ⌝ }

@@ -1,4 +1,4 @@
--- interface, what contracts, other crates and PROVED.md cite: Lookup, Answer, Examples, Holding, LookupLaws
+-- interface, what contracts, other crates and PROVED.md cite: Lookup, Answer, Examples, Holding, LookupLaws, RefusedLaws
 -- inside: FramedLaws
 pub mod Lookup
 pub mod Answer

@@ -8,6 +8,7 @@ use lib.Dec.{leb}
 use borrow.Author.Tests.{le-leb, leb-true}
 use Rattle.words.specs.Limits.{Limits}
 use Rattle.words.specs.LimitsLaws.{LimitsFit}
+use Rattle.words.specs.Outcome.{refuse}
 use Rattle.words.specs.Outcome.Outcome.{accepted, refused}
 use Rattle.words.specs.OutcomeLaws.{refused-accepted, refuse-refused-iff}
 use Rattle.words.specs.System.{System}
@@ -22,10 +23,11 @@ use Rattle.lookup.specs.Lookup.{Side, entriesOn, partOf, shown, polynomi
 abbrev pub NoPolynomial : Side → ℕ → System → Certificate → (number place : ℕ) → Type 0
 NoPolynomial side k s c number place = (number ≡ 12) × (place ≡ 0) × (length (entriesOn side s c) ≤ k)
 
-shown-refused-iff : (fs : List (List ℕ)) (k number place : ℕ)
-    → (shown k fs ≡ refused number place) ↔ ((number ≡ 12) × (place ≡ 0) × (length fs ≤ k))
-shown-refused-iff fs k number place =
-    let twelve = refuse-refused-iff (leb (length fs) k) 12 0 (accepted (partOf fs k)) number place in (
+-- whatever is told of it
+pub no-polynomial-iff : {A : Type 0} (told : A) (fs : List (List ℕ)) (k number place : ℕ)
+    → (refuse (leb (length fs) k) 12 0 (accepted told) ≡ refused number place) ↔ ((number ≡ 12) × (place ≡ 0) × (length fs ≤ k))
+no-polynomial-iff told fs k number place =
+    let twelve = refuse-refused-iff (leb (length fs) k) 12 0 (accepted told) number place in (
       λ e. ⊎-elim (λ t. (t .1, t .2, leb-true (length fs) k (t .0))) (λ t. absurd (refused-accepted (sym (t .1)))) (twelve .0 e),
       λ t. twelve .1 (inl (le-leb (length fs) k (t .2), t .0, t .1)),
     )
@@ -35,7 +37,7 @@ module _ (limits : Limits) (ws cs : List ℕ) (side : Side) (k : ℕ) where
       → (polynomialLookup limits ws cs side k ≡ refused number place) ↔ PairRefused limits (NoPolynomial side k) ws cs number place
   unfolding polynomialLookup
   lookup-refused-iff fit = pair-refused-iff limits fit (λ s c. shown k (entriesOn side s c)) ws cs (NoPolynomial side k)
-      (λ s _ c _. shown-refused-iff (entriesOn side s c) k)
+      (λ s _ c _. no-polynomial-iff (partOf (entriesOn side s c) k) (entriesOn side s c) k)
 
   -- 1 to 9, 21, 24 to 29, and 12 at 0
   pub lookup-rows : RefusesBy (lookupRows ws cs) (polynomialLookup limits ws cs side k)

@@ -13,7 +13,7 @@ use Rattle.words.specs.WordLaws.{payload-word}
 use Rattle.words.specs.Polynomial.{polynomialWords}
 use Rattle.words.specs.PolynomialLaws.{length-polynomialWords}
 use Rattle.words.specs.Frame.{entryPlace}
-use Rattle.words.specs.PlaceLaws.{entryPlace-zero, entryPlace-next}
+use Rattle.words.specs.PlaceLaws.{entryPlace-zero, entryPlace-next, payloads-of}
 use Rattle.words.specs.VectorLaws.{all-at, vector-count, vector-take}
 use Rattle.lookup.specs.FramedLaws.{polynomial-from, polynomial-inside}
 use Rattle.write_frame.specs.Overwriting.{overwritten}
@@ -21,13 +21,6 @@ use Rattle.write_frame.proofs.Overwriting.{set-written, part-over}
 use Rattle.values.specs.Laid.{sizesOver, laidOver}
 use Rattle.values.specs.LaidLaws.{Few, laid-next, length-laid}
 use Rattle.values.specs.Holding.{HoldsEntries}
-
-payloads-of : (p : ℕ) → p ≤ 268435456 → (f : List ℕ) → Canonical p f → map payload (map (word 3) f) ≡ f
-unfolding Canonical
-payloads-of p small [] h = refl
-payloads-of p small (a ∷ f) h =
-    let below = h .0 in
-    ap₂ (λ (b : ℕ) (g : List ℕ). b ∷ g) (payload-word 3 a (omega arith)) (payloads-of p small f (h .2))
 
 -- ---- parts as code lends them
 

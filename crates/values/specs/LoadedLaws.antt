@@ -41,14 +41,14 @@ module _ (stride : ℕ) (sizes values : List ℕ) {outcome : Outcome (List (List
 -- ---- systems
 
 -- a system that is accepted stands in the arrays
-pub record SystemLoaded (limits : Limits) (s : System) (answer : SystemRead) (sizes values : List ℕ) : Type 0 where
+pub record LoadedSystem (limits : Limits) (s : System) (answer : SystemRead) (sizes values : List ℕ) : Type 0 where
   pub answer-is : systemOutcome answer ≡ accepted (shape s)
   pub values-are : systemInArrays limits (shape s) sizes values ≡ s
 
 module _ {limits : Limits} {ws : List ℕ} {answer : SystemRead} {sizes sizes′ values values′ : List ℕ}
     (loads : LoadsSystem limits ws answer sizes sizes′ values values′) where
   pub system-loaded : LimitsFit limits → limits .systemCoefficients * systemCount (limits .rows) (limits .columns) ≤ length values
-      → {s : System} → readSystem limits ws ≡ accepted s → SystemLoaded limits s answer sizes′ values′
+      → {s : System} → readSystem limits ws ≡ accepted s → LoadedSystem limits s answer sizes′ values′
   system-loaded fit room {s} read =
       let e = arrays-laid (limits .systemCoefficients) sizes values (loads .sizes-are) (loads .values-are)
       (ap (mapped systemEntries) read) in
@@ -65,7 +65,7 @@ module _ {limits : Limits} {ws : List ℕ} {answer : SystemRead} {sizes sizes′
 
 -- ---- certificates for a system of the shape h
 
-pub record CertificateLoaded (h : Shape) (c : Certificate) (answer : CertificateRead) (sizes values : List ℕ) : Type 0 where
+pub record LoadedCertificate (h : Shape) (c : Certificate) (answer : CertificateRead) (sizes values : List ℕ) : Type 0 where
   pub answer-is : certificateOutcome answer ≡ accepted (certificateForm c)
   pub values-are : certificateIn h (certificateForm c) sizes values ≡ c
 
@@ -73,7 +73,7 @@ module _ {limits : Limits} {h : Shape} {cs : List ℕ} {answer : CertificateRead
     (loads : LoadsCertificate limits h cs answer sizes sizes′ values values′) where
   pub certificate-loaded : LimitsFit limits → limits .certificateCoefficients ≤ certificateStride → ShapeWithin limits h
       → certificateStride * solutionCount (limits .rows) (limits .columns) ≤ length values
-      → {c : Certificate} → readCertificate limits h cs ≡ accepted c → CertificateLoaded h c answer sizes′ values′
+      → {c : Certificate} → readCertificate limits h cs ≡ accepted c → LoadedCertificate h c answer sizes′ values′
   certificate-loaded fit fits shape room {c} read =
       let found = shape-within limits h (readCertificate limits h cs) shape ∙ read in
       let e = arrays-laid certificateStride sizes values (loads .sizes-are) (loads .values-are) (ap (mapped certificateEntries) found) in

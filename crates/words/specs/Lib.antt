@@ -1,8 +1,8 @@
 -- interface, what contracts, other crates and PROVED.md cite: Limits, Word, Outcome, OutcomeLaws, Reading, Polynomial, Frame,
 --   System, Certificate, Bytes, Examples, WordLaws, ReadingLaws, PolynomialLaws, FrameLaws, LimitsLaws, VectorLaws,
 --   SystemHeadLaws, SystemLaws, CertificateLaws, LongestLaws, WidthLaws, BytesLaws, ForwardLaws, PlaceLaws, PrefixLaws,
---   Table, FirstFault, TenFirst, RefusedLaws, Rows, RowLaws, PolynomialRows, Pair, PairLaws
--- inside: FormatLaws, TableLaws, PassLaws, CompleteLaws, OnTableLaws, FirstFaultLaws, TableExamples
+--   Table, FirstFault, TenFirst, RefusedLaws, Rows, RowLaws, PolynomialRows, PolynomialsRefused, TableExamples, Pair, PairLaws
+-- inside: FormatLaws, TableLaws, PassLaws, CompleteLaws, OnTableLaws, FirstFaultLaws
 pub mod Limits
 pub mod Word
 pub mod Outcome
@@ -40,6 +40,7 @@ pub mod TableLaws
 pub mod PassLaws
 pub mod CompleteLaws
 pub mod OnTableLaws
+pub mod PolynomialsRefused
 pub mod FirstFaultLaws
 pub mod RefusedLaws
 pub mod TableExamples

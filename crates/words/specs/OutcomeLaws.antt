@@ -1,5 +1,5 @@
 -- Outcomes taken apart: what stood behind one that was accepted, or refused.
-use mathlib.Core.Path.{_≡_, refl, sym}
+use mathlib.Core.Path.{_≡_, refl, sym, ap}
 use mathlib.Core.Logic.{_⊎_, inl, inr, ⊎-elim, _↔_}
 use mathlib.Core.Bool.{Bool, true, false}
 use Prim.Native.Nat.{ℕ}
@@ -19,6 +19,11 @@ module _ {A B : Type 0} where
   pub mapped-refused : (f : A → B) (o : Outcome A) {number place : ℕ} → mapped f o ≡ refused number place → o ≡ refused number place
   mapped-refused f (accepted a) e = absurd (let z : _≡_ {A = ℕ} 0 1 = cc in omega arith)
   mapped-refused f (refused n p) e = cc
+
+  -- just where the value is refused
+  pub mapped-refused-iff : (f : A → B) (o : Outcome A) (Others : (number place : ℕ) → Type 0)
+      → ((n k : ℕ) → (o ≡ refused n k) ↔ Others n k) → (n k : ℕ) → (mapped f o ≡ refused n k) ↔ Others n k
+  mapped-refused-iff f o Others iff n k = (λ e. iff n k .0 (mapped-refused f o e), λ t. ap (mapped f) (iff n k .1 t))
 
   pub followedBy-accepted : (o : Outcome A) (next : A → Outcome B) {b : B} → followedBy o next ≡ accepted b
       → (a : A) × (o ≡ accepted a) × (next a ≡ accepted b)

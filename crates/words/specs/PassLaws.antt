@@ -18,8 +18,8 @@ use Rattle.words.specs.TableLaws.{turned, walk}
 pub none-some : {n : ℕ} → _≡_ {A = Option ℕ} none (some n) → ⊥
 none-some e = let z : _≡_ {A = ℕ} 0 1 = cc in omega arith
 
-turned-fault : {A : Type 0} (o : Option ℕ) (ws : List ℕ) (next : Reading A) {n : ℕ} {us : List ℕ} → turned o ws next ≡ fault n us
-    → ((o ≡ some n) × (ws ≡ us)) ⊎ ((o ≡ none) × (next ≡ fault n us))
+pub turned-fault : {A : Type 0} (o : Option ℕ) (ws : List ℕ) (next : Reading A) {n : ℕ} {us : List ℕ}
+    → turned o ws next ≡ fault n us → ((o ≡ some n) × (ws ≡ us)) ⊎ ((o ≡ none) × (next ≡ fault n us))
 turned-fault (some m) ws next e = inl (cc, cc)
 turned-fault none ws next e = inr (refl, e)
 

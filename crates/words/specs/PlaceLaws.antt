@@ -1,6 +1,6 @@
 -- Where the polynomials of an accepted system or certificate stand: the words from a start word on, and the coefficients by the
 -- words that hold them. For code that loads or shows a polynomial.
-use mathlib.Core.Path.{_≡_, refl, sym, ap, _∙_}
+use mathlib.Core.Path.{_≡_, refl, sym, ap, ap₂, _∙_}
 use mathlib.Core.List.{List, [], _∷_, _++_, map, append-assoc}
 use Prim.Native.Nat.{ℕ, zero, suc, _+_, _≤_, _<_}
 use native.Mathlib.Omega.{arith}
@@ -8,6 +8,7 @@ use lib.ListN.{length, getD, take, drop, length-append}
 use lib.Seq.{drop-at, drop-drop}
 use Rattle.modular.specs.Canonical.{Canonical}
 use Rattle.words.specs.Word.{payload, word}
+use Rattle.words.specs.WordLaws.{payload-word}
 use Rattle.words.specs.Polynomial.{polynomialWords, polynomialsWords}
 use Rattle.words.specs.Frame.{endWord, framedWords, entryPlace}
 use Rattle.words.specs.PolynomialLaws.{length-polynomialWords}
@@ -77,3 +78,11 @@ pub coefficient-at : (p : ℕ) → p ≤ 268435456 → (f rest : List ℕ) → C
     → payload (getD (polynomialWords f ++ rest) (suc i) 0) ≡ getD f i 0
 unfolding polynomialWords
 coefficient-at p small f rest h i l = coefficient-in p small f rest h i l
+
+-- all coefficients
+pub payloads-of : (p : ℕ) → p ≤ 268435456 → (f : List ℕ) → Canonical p f → map payload (map (word 3) f) ≡ f
+unfolding Canonical
+payloads-of p small [] h = refl
+payloads-of p small (a ∷ f) h =
+    let below = h .0 in
+    ap₂ (λ (b : ℕ) (g : List ℕ). b ∷ g) (payload-word 3 a (omega arith)) (payloads-of p small f (h .2))

@@ -106,6 +106,27 @@ pub record ByTable (T : HeadTable) (by : ℕ) (ws : List ℕ) (number place : �
   pub before : Passed T by 0 head (take place ws)
   pub row : firstAt T by place (dueAfter T head (take place ws)) (drop place ws) ≡ some number
 
+-- ---- polynomials alone: what is due is a word of theirs
+
+abbrev pub OfPolynomials : Expected → Type 0
+OfPolynomials head = ⊥
+OfPolynomials (start p limit left) = Unit {0}
+OfPolynomials (coefficient p limit more left) = Unit {0}
+OfPolynomials end = ⊥
+OfPolynomials nothing = ⊥
+
+-- where no head is due, and none says what is due
+abbrev pub headless : HeadTable
+headless = record { number = λ w. none; due = λ w. record { modulus = 0; limit = 0; count = 0 } }
+
+-- the first word at fault of so many polynomials modulo p, each of at most so many coefficients; places count from the first word
+pub record PolynomialsByTable (p limit count : ℕ) (ws : List ℕ) (number place : ℕ) : Type 0 where
+  pub within : place ≤ length ws
+  pub before : Passed headless 0 0 (polynomialsDue p limit count) (take place ws)
+  pub due : OfPolynomials (dueAfter headless (polynomialsDue p limit count) (take place ws))
+  pub row : firstAt headless 0 place (dueAfter headless (polynomialsDue p limit count) (take place ws)) (drop place ws)
+      ≡ some number
+
 -- ---- the heads
 
 -- 1: kind not 1 or bits 24 to 27 not zero; 2: p not prime; 3: n or m outside 1 to 8

@@ -29,7 +29,7 @@ walk T by total e (w ∷ ws) = turned (numberAt T by e (total - length ws) w) (w
 
 -- ---- steps
 
-then-same : {A B : Type 0} (r : Reading A) {next other : A → List ℕ → Reading B}
+pub then-same : {A B : Type 0} (r : Reading A) {next other : A → List ℕ → Reading B}
     → ((a : A) (rest : List ℕ) → next a rest ≡ other a rest) → andThen r next ≡ andThen r other
 then-same (read a rest) h = h a rest
 then-same (fault number ws) h = refl

@@ -9,8 +9,8 @@ use Rattle.words.specs.Limits.{office}
 use Rattle.words.specs.Outcome.{Outcome, mapped}
 use Rattle.answers.specs.Answer.{refusedBy, countedOutcome}
 use Rattle.answers.specs.Packed.{packed, packedMost, AnswerMost}
-use Rattle.link_values.specs.Files.{sideOf, lookupOf, fileLookup}
-use Rattle.link_values.specs.Giving.{Gives}
+use Rattle.link_values.specs.Files.{sideNumbered, lookupOf, fileLookup}
+use Rattle.link_values.specs.Giving.{GivesList}
 use Rattle.link_values.specs.GivingLaws.{gives-as, gives-refusal, gives-packed}
 use Rattle.link_values.specs.Opening.{OpensWords, OpensBoth}
 use Rattle.link_values.proofs.Small.{lookup-small}
@@ -30,10 +30,10 @@ module _ (call : tie.After-open-both) where
   g = start .args .certificate .now
 
   abbrev sought : Outcome (List ℕ)
-  sought = fileLookup office f g (sideOf (start .args .side)) (start .args .number)
+  sought = fileLookup office f g (sideNumbered (start .args .side)) (start .args .number)
 
   small : AnswerMost packedMost packedMost (mapped length sought)
-  small = lookup-small f g (sideOf (start .args .side)) (start .args .number)
+  small = lookup-small f g (sideNumbered (start .args .side)) (start .args .number)
 
 -- both files are opened
 module _ (c : tie.After-opened) where
@@ -49,7 +49,8 @@ module _ (c : tie.After-lookup-words) where
   abbrev told : tie.After-opened
   told = c .before .before .before .before .before .before
 
-  given : Gives (sought (call told)) (start (call told) .args .coefficients .now) (c .lookup-words .last .0) (countedOutcome (c .lookup-words .result))
+  given : GivesList (sought (call told)) (start (call told) .args .coefficients .now) (c .lookup-words .last .0)
+      (countedOutcome (c .lookup-words .result))
   given = gives-as
       (ap₂ (λ s o. lookupOf s (start (call told) .args .number) o) (sym (c .before .side-of .ensures)) (opens told .read))
       (c .lookup-words .ensures)
@@ -61,7 +62,7 @@ module _ (c : tie.After-opened2) where
 
   stops : sought call2 ≡ refusedBy (c .opened2 .given .0 .0)
   stops =
-      ap (lookupOf (sideOf (start call2 .args .side)) (start call2 .args .number))
+      ap (lookupOf (sideNumbered (start call2 .args .side)) (start call2 .args .number))
       (subst (OpensBoth office _ _ _ _) (c .opened2 .given .1) (call2 .open-both .ensures))
 
 array-share-prefix-system-words : tie.Need-array-share-prefix-system-words

@@ -2,12 +2,12 @@
 use Prim.Native.Nat.{ℕ, zero, suc}
 use mathlib.Core.Path.{_≡_, refl}
 use Rattle.lookup.specs.Lookup.Side.{certificate}
-use Rattle.link_values.specs.Files.{sideOf}
+use Rattle.link_values.specs.Files.{sideNumbered}
 use borrow.Author.Needs.{needs}
 use Rattle.link_values.proofs.lookup_file.side_of.Statement.{statement}
 use Rattle.link_values.proofs.lookup_file.side_of.Tie as tie
 
-other : (n : ℕ) → ¬ (n ≡ 0) → certificate ≡ sideOf n
+other : (n : ℕ) → ¬ (n ≡ 0) → certificate ≡ sideNumbered n
 other zero h = absurd (h refl)
 other (suc n) h = refl
 

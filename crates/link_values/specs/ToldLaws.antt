@@ -1,0 +1,163 @@
+-- What is told of files, in the terms of their words: which files are read, as what; the numbers are those of the heads, the
+-- coefficients those that the lookup shows.
+use Prim.Native.Nat.{ℕ, _+_, _*_, _/_, _%_, _≤_}
+use mathlib.Core.Path.{_≡_, refl, sym, ap, _∙_, subst}
+use mathlib.Core.Logic.{_↔_}
+use mathlib.Core.Bool.{Bool, true, false, _||_}
+use mathlib.Core.List.{List, [], _∷_, map}
+use native.Mathlib.Omega.{arith}
+use lib.ListN.{length, getD, drop}
+use lib.Dec.{leb}
+use Rattle.modular.specs.Canonical.{Canonical}
+use Rattle.words.specs.Limits.{Limits}
+use Rattle.words.specs.LimitsLaws.{LimitsFit}
+use Rattle.words.specs.Word.{payload, Bytes}
+use Rattle.words.specs.Outcome.{Outcome, refuse, followedBy, mapped}
+use Rattle.words.specs.Outcome.Outcome.{accepted, refused}
+use Rattle.words.specs.OutcomeLaws.{refuse-passed}
+use Rattle.words.specs.Polynomial.{polynomialWords}
+use Rattle.words.specs.PlaceLaws.{payloads-of}
+use Rattle.words.specs.System.{System, Shape, shape, ShapeWithin, SystemWithin, systemWords, readSystem}
+use Rattle.words.specs.SystemLaws.{system-written-of-read}
+use Rattle.words.specs.Certificate.{Certificate, CertificateWithin, certificateForm, certificateWords, readCertificate}
+use Rattle.words.specs.Certificate.Certificate.{solution, absence}
+use Rattle.words.specs.CertificateLaws.{certificate-written-of-read}
+use Rattle.words.specs.Bytes.{wordsOf, bytesOf, broken, tooLong, readSystemFile}
+use Rattle.words.specs.Pair.{WrittenPair, WrittenFiles}
+use Rattle.words.specs.PairLaws.{pair-accepted-iff}
+use Rattle.lookup.specs.Lookup.{Side, Part, entriesOn, partOf, shown, polynomialLookup}
+use Rattle.verifier.specs.File.{filesBroken}
+use Rattle.verifier.specs.Checked.{words-of-files, files-of-words}
+use Rattle.link_values.specs.Files.{Pair, shapeNumber, readFiles, kindNumber, polynomialLooked, fileLookup}
+use Rattle.link_values.specs.FilesLaws.{asked, files-then, ReadAs, files-read, lookup-canonical}
+
+-- ---- the shape
+
+module _ (limits : Limits) (fit : LimitsFit limits) where
+  -- p, n and m can be taken out of the number
+  pub shape-apart : (h : Shape) → ShapeWithin limits h
+      → (shapeNumber h % 65536 ≡ h .modulus) × (shapeNumber h / 65536 % 16 ≡ h .rows) × (shapeNumber h / 1048576 % 16 ≡ h .columns)
+  shape-apart h within =
+      let rows : h .rows ≤ 15 = omega (arith, within .rows .1, fit .rows) in
+      let columns : h .columns ≤ 15 = omega (arith, within .columns .1, fit .columns) in
+      let p = within .modulus in
+      let above : shapeNumber h / 65536 ≡ h .rows + h .columns * 16 = omega arith in
+      (omega arith, ap (λ (q : ℕ). q % 16) above ∙ omega arith, omega arith)
+
+  -- and it is what the head has beside its kind
+  pub shape-is-head : (f : List ℕ) (s : System) → readSystemFile limits f ≡ accepted s
+      → shapeNumber (shape s) ≡ payload (getD (wordsOf f) 0 0)
+  unfolding readSystemFile systemWords
+  shape-is-head f s e =
+      let read = refuse-passed (broken f || tooLong limits f) 10 0 (readSystem limits (wordsOf f)) e .1 in
+      let w = system-written-of-read limits fit (wordsOf f) s read in
+      let within = w .1 .shape in
+      let rows : s .rows ≤ 15 = omega (arith, within .rows .1, fit .rows) in
+      let columns : s .columns ≤ 15 = omega (arith, within .columns .1, fit .columns) in
+      let p = within .modulus in
+      sym (ap (λ (ws : List ℕ). payload (getD ws 0 0)) (w .0) ∙ omega arith)
+
+-- ---- the kind
+
+form-is-head : (c : Certificate) → kindNumber (certificateForm c) ≡ payload (getD (certificateWords c) 0 0)
+unfolding certificateWords
+form-is-head (solution d N w Z) = refl
+form-is-head (absence q) = refl
+
+pub kind-is-head : (limits : Limits) (f g : List ℕ) (v : Pair) → readFiles limits f g ≡ accepted v
+    → kindNumber (certificateForm (v .certificate)) ≡ payload (getD (wordsOf g) 0 0)
+kind-is-head limits f g v e =
+    let r = files-read limits f g v e .certificate in
+    form-is-head (v .certificate)
+    ∙ ap (λ (ws : List ℕ). payload (getD ws 0 0)) (sym (certificate-written-of-read limits (shape (v .system)) (wordsOf g) _ r .0))
+
+-- ---- the coefficients
+
+-- of a part that is shown: what its words hold behind the first
+abbrev pub coefficientsShown : Part → List ℕ
+coefficientsShown part = map payload (drop 1 (part .words))
+
+module _ (limits : Limits) (fit : LimitsFit limits) (f g : List ℕ) (whole : filesBroken limits f g ≡ false) (side : Side)
+    (k : ℕ) where
+  -- the lookup on files tells the coefficients that the lookup on their words shows
+  pub file-lookup-is : fileLookup limits f g side k
+      ≡ mapped coefficientsShown (polynomialLookup limits (wordsOf f) (wordsOf g) side k)
+  unfolding polynomialLookup polynomialWords
+  file-lookup-is =
+      files-then limits looked f g ∙ ap (λ b. refuse b 10 0 (followedBy (readSystem limits ws) second)) whole
+      ∙ by-system (readSystem limits ws) refl
+    where
+      ws : List ℕ
+      ws = wordsOf f
+
+      cs : List ℕ
+      cs = wordsOf g
+
+      looked : System → Certificate → Outcome (List ℕ)
+      looked s c = polynomialLooked k (entriesOn side s c)
+
+      second : System → Outcome (List ℕ)
+      second s = followedBy (readCertificate limits (shape s) cs) (looked s)
+
+      by-row : (p : ℕ) → p ≤ 268435456 → (fs : List (List ℕ)) → Canonical p (getD fs k []) → (b : Bool)
+          → refuse b 12 0 (accepted (getD fs k [])) ≡ mapped coefficientsShown (refuse b 12 0 (accepted (partOf fs k)))
+      by-row p small fs canonical true = refl
+      by-row p small fs canonical false = ap accepted (sym (payloads-of p small (getD fs k []) canonical))
+
+      by-certificate : (s : System) → readSystem limits ws ≡ accepted s → (o : Outcome Certificate)
+          → readCertificate limits (shape s) cs ≡ o
+          → followedBy o (looked s) ≡ mapped coefficientsShown (followedBy o (λ c. shown k (entriesOn side s c)))
+      by-certificate s r (refused number place) q = refl
+      by-certificate s r (accepted c) q =
+          let v : Pair = record { system = s; certificate = c } in
+          let p = system-written-of-read limits fit ws s r .1 .shape .modulus in
+          by-row (s .modulus) (omega arith) (entriesOn side s c)
+          (lookup-canonical limits ws cs v (record { system = r; certificate = q }) side k) (leb (length (entriesOn side s c)) k)
+
+      by-system : (o : Outcome System) → readSystem limits ws ≡ o → followedBy o second
+          ≡ mapped coefficientsShown (followedBy o (λ s.
+          followedBy (readCertificate limits (shape s) cs) (λ c. shown k (entriesOn side s c))))
+      by-system (refused number place) r = refl
+      by-system (accepted s) r = by-certificate s r (readCertificate limits (shape s) cs) refl
+
+-- ---- which files are read, as what
+
+-- the files of a system within the limits and of a certificate for it
+abbrev pub FilesOf : Limits → Pair → (f g : List ℕ) → Type 0
+FilesOf limits v f g =
+    (f ≡ bytesOf (systemWords (v .system))) × SystemWithin limits (v .system)
+    × (g ≡ bytesOf (certificateWords (v .certificate))) × CertificateWithin limits (shape (v .system)) (v .certificate)
+
+module _ (limits : Limits) (fit : LimitsFit limits) (f g : List ℕ) (small-f : Bytes f) (small-g : Bytes g) (v : Pair) where
+  pub read-files-iff : (readFiles limits f g ≡ accepted v) ↔ FilesOf limits v f g
+  read-files-iff = (
+    λ e.
+        let t = refuse-passed (filesBroken limits f g) 10 0 _
+        (sym (files-then limits pair f g) ∙ as-pair (readFiles limits f g) ∙ e) in
+        let a = files-of-words limits fit f g small-f small-g (t .0)
+        (pair-accepted-iff limits fit pair (wordsOf f) (wordsOf g) v .0 (t .1)) in
+        let same : record { system = a .system; certificate = a .certificate } ≡ v = let h = a .holds in cc in
+        subst (λ u. FilesOf limits u f g) same (a .system-file, a .system-within, a .certificate-file, a .certificate-within),
+    λ h.
+        let t = words-of-files limits fit {Of = λ s c. pair s c ≡ accepted v} f g (record {
+          system = v .system;
+          certificate = v .certificate;
+          system-file = h .0;
+          system-within = h .1;
+          certificate-file = h .2;
+          certificate-within = h .3;
+          holds = refl;
+        }) in
+        sym (as-pair (readFiles limits f g)) ∙ files-then limits pair f g ∙ ap (λ b. refuse b 10 0 pairs) (t .0)
+        ∙ pair-accepted-iff limits fit pair (wordsOf f) (wordsOf g) v .1 (t .1),
+  )
+    where
+      pair : System → Certificate → Outcome Pair
+      pair s c = accepted (record { system = s; certificate = c })
+
+      pairs : Outcome Pair
+      pairs = followedBy (readSystem limits (wordsOf f)) (λ s. followedBy (readCertificate limits (shape s) (wordsOf g)) (pair s))
+
+      as-pair : (o : Outcome Pair) → followedBy o (asked limits pair) ≡ o
+      as-pair (accepted u) = refl
+      as-pair (refused number place) = refl
