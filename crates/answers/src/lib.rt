@@ -1,8 +1,10 @@
 // What calls answer, in the numbers and places of document 01's table, and a test on small numbers that all layers share.
 pub mod answer;
+pub mod head;
 pub mod number;
 pub mod packed;
 pub mod shape;
+pub mod version;
 
 pub use answer::Counted;
 pub use answer::Refusal;

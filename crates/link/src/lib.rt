@@ -2,12 +2,12 @@
 // passed as a pointer and a count, an array as a pointer. The order of the parameters is that of the C header, include/yezsdolak.h.
 use answers::packed::pack_counted;
 use answers::packed::pack_verdict;
+use answers::version::library_version;
 use limits::Office;
 use link_values::kind::kind_of_files;
 use link_values::lookup_file::COEFFICIENTS;
 use link_values::lookup_file::lookup_in_files;
 use link_values::shape::shape_of_file;
-use link_values::version::library_version;
 use link_values::writing::write_system_file;
 use report::write_report;
 use solver::file::solve_file;
@@ -19,7 +19,7 @@ ghost use Rattle.words.specs.Limits.{office};
 ghost use Rattle.answers.specs.Packed.{packed, packedVerdict};
 ghost use Rattle.writer.specs.Values.{shapeWith, systemInArrays};
 ghost use Rattle.verifier.specs.File.{fileVerdict};
-ghost use Rattle.link_values.specs.Version.{version};
+ghost use Rattle.answers.specs.Version.{version};
 ghost use Rattle.link_values.specs.Files.{fileShape, fileKind, sideNumbered, fileLookup, writeSystemFile};
 ghost use Rattle.link_values.specs.Giving.{GivesPacked};
 ghost use Rattle.link.specs.Packed.{SolvesPacked, ReportsPacked};

@@ -8,7 +8,8 @@ use Rattle.words.specs.Outcome.Outcome.{accepted, refused}
 use Rattle.words.specs.OutcomeLaws.{mapped-accepted, mapped-refused}
 use Rattle.words.specs.System.{System, Shape, shape, readSystem}
 use Rattle.words.specs.Certificate.{Form, certificateForm, readCertificate}
-use Rattle.link_values.specs.Files.{kindNumber, kindOf, readBoth}
+use Rattle.answers.specs.Heads.{kindNumber}
+use Rattle.link_values.specs.Files.{kindOf, readBoth}
 use Rattle.link_values.specs.FilesLaws.{both-system-refused, both-certificate-refused, both-accepted}
 
 -- the limits as the code has them

@@ -17,7 +17,8 @@ use Rattle.answers.specs.Packed.{packedMost, AnswerMost}
 use Rattle.lookup.specs.Lookup.{Side, entriesOn}
 use Rattle.link_values.specs.Refusals.{Places, refusals-mapped}
 use Rattle.writer.specs.Values.{systemInArrays}
-use Rattle.link_values.specs.Files.{kindNumber, readFiles, fileKind, fileLookup, writeSystemFile}
+use Rattle.answers.specs.Heads.{kindNumber}
+use Rattle.link_values.specs.Files.{readFiles, fileKind, fileLookup, writeSystemFile}
 use Rattle.link_values.specs.FilesLaws.{files-read, lookup-size, kind-places, lookup-places}
 use Rattle.link_values.specs.WritingLaws.{write-places, write-count}
 

@@ -6,10 +6,10 @@ use lib.Dec.{leb}
 use Rattle.words.specs.Limits.{Limits}
 use Rattle.words.specs.Outcome.{Outcome, refuse, followedBy, mapped}
 use Rattle.words.specs.Outcome.Outcome.{accepted, refused}
-use Rattle.words.specs.System.{System, Shape, shape, readSystem}
-use Rattle.words.specs.Certificate.{Certificate, Form, certificateForm, readCertificate}
-use Rattle.words.specs.Certificate.Form.{solving, absent}
+use Rattle.words.specs.System.{System, shape, readSystem}
+use Rattle.words.specs.Certificate.{Certificate, certificateForm, readCertificate}
 use Rattle.words.specs.Bytes.{wordsOf, bytesOf, readSystemFile}
+use Rattle.answers.specs.Heads.{shapeNumber, kindNumber}
 use Rattle.lookup.specs.Lookup.{Side, entriesOn}
 use Rattle.lookup.specs.Lookup.Side.{system, certificate}
 use Rattle.verifier.specs.File.{filesBroken}
@@ -17,10 +17,7 @@ use Rattle.writer.specs.Writing.{writeSystem}
 
 -- ---- a system's file
 
--- p, n and m as one number: as they stand in the head of a system
-abbrev pub shapeNumber : Shape → ℕ
-shapeNumber h = h .modulus + h .rows * 65536 + h .columns * 1048576
-
+-- p, n and m as one number
 abbrev pub fileShape : Limits → List ℕ → Outcome ℕ
 fileShape limits f = mapped shapeNumber (mapped shape (readSystemFile limits f))
 
@@ -46,11 +43,7 @@ unfoldable pub readFiles : Limits → List ℕ → List ℕ → Outcome Pair
 unfolding wordsOf readBoth
 readFiles limits f g = refuse (filesBroken limits f g) 10 0 (readBoth limits (wordsOf f) (wordsOf g))
 
--- the kind of the certificate: as it stands in the head
-abbrev pub kindNumber : Form → ℕ
-kindNumber solving = 1
-kindNumber absent = 2
-
+-- the kind of the certificate
 abbrev pub kindOf : Outcome Pair → Outcome ℕ
 kindOf both = mapped (λ v. kindNumber (certificateForm (v .certificate))) both
 

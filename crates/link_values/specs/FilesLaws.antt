@@ -34,7 +34,8 @@ use Rattle.truth.specs.Verdict.{verdict, certificateVerdict}
 use Rattle.verifier.specs.File.{filesBroken, fileVerdict}
 use Rattle.link_values.specs.Refusals.{Numbers, Places, refusals-row, refusals-refused, refusals-followed, refusals-mapped}
 use Rattle.link_values.specs.Refusals.{refusals-accepted, refusals-same, numbers-wider, places-wider}
-use Rattle.link_values.specs.Files.{Pair, shapeNumber, fileShape, readBoth, readFiles, fileKind, polynomialLooked, fileLookup}
+use Rattle.answers.specs.Heads.{shapeNumber}
+use Rattle.link_values.specs.Files.{Pair, fileShape, readBoth, readFiles, fileKind, polynomialLooked, fileLookup}
 
 -- ---- what is asked of the values: the system is read first, then the certificate for it, then that is tried
 

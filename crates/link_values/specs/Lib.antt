@@ -1,7 +1,6 @@
 -- interface: what is told of files and values, and what calls leave of it
 pub mod Files
 pub mod Giving
-pub mod Version
 -- interface: an answer as one number, taken apart
 pub mod Refusals
 pub mod Unpacked

@@ -26,7 +26,8 @@ use Rattle.writer.specs.Writing.{writeSystem}
 use Rattle.writer.specs.Values.{systemInArrays}
 use Rattle.writer.specs.Refused.{SystemFault}
 use Rattle.writer.specs.RefusedLaws.{system-refused-iff-fault}
-use Rattle.link_values.specs.Files.{Pair, shapeNumber, fileShape, readFiles, kindNumber, fileKind, polynomialLooked}
+use Rattle.answers.specs.Heads.{shapeNumber, kindNumber}
+use Rattle.link_values.specs.Files.{Pair, fileShape, readFiles, fileKind, polynomialLooked}
 use Rattle.link_values.specs.Files.{fileLookup, writeSystemFile}
 use Rattle.link_values.specs.FilesLaws.{asked, files-then, shape-numbers, kind-numbers, lookup-numbers}
 use Rattle.link_values.specs.WritingLaws.{write-numbers}

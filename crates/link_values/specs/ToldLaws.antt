@@ -28,47 +28,29 @@ use Rattle.words.specs.PairLaws.{pair-accepted-iff}
 use Rattle.lookup.specs.Lookup.{Side, Part, entriesOn, partOf, shown, polynomialLookup}
 use Rattle.verifier.specs.File.{filesBroken}
 use Rattle.verifier.specs.Checked.{words-of-files, files-of-words}
-use Rattle.link_values.specs.Files.{Pair, shapeNumber, readFiles, kindNumber, polynomialLooked, fileLookup}
+use Rattle.answers.specs.Heads.{shapeNumber, kindNumber, shape-written, form-written}
+use Rattle.link_values.specs.Files.{Pair, readFiles, polynomialLooked, fileLookup}
 use Rattle.link_values.specs.FilesLaws.{asked, files-then, ReadAs, files-read, lookup-canonical}
 
 -- ---- the shape
 
 module _ (limits : Limits) (fit : LimitsFit limits) where
-  -- p, n and m can be taken out of the number
-  pub shape-apart : (h : Shape) → ShapeWithin limits h
-      → (shapeNumber h % 65536 ≡ h .modulus) × (shapeNumber h / 65536 % 16 ≡ h .rows) × (shapeNumber h / 1048576 % 16 ≡ h .columns)
-  shape-apart h within =
-      let rows : h .rows ≤ 15 = omega (arith, within .rows .1, fit .rows) in
-      let columns : h .columns ≤ 15 = omega (arith, within .columns .1, fit .columns) in
-      let p = within .modulus in
-      let above : shapeNumber h / 65536 ≡ h .rows + h .columns * 16 = omega arith in
-      (omega arith, ap (λ (q : ℕ). q % 16) above ∙ omega arith, omega arith)
-
-  -- and it is what the head has beside its kind
+  -- the number is what the head has beside its kind
   pub shape-is-head : (f : List ℕ) (s : System) → readSystemFile limits f ≡ accepted s
       → shapeNumber (shape s) ≡ payload (getD (wordsOf f) 0 0)
-  unfolding readSystemFile systemWords
+  unfolding readSystemFile
   shape-is-head f s e =
       let read = refuse-passed (broken f || tooLong limits f) 10 0 (readSystem limits (wordsOf f)) e .1 in
       let w = system-written-of-read limits fit (wordsOf f) s read in
-      let within = w .1 .shape in
-      let rows : s .rows ≤ 15 = omega (arith, within .rows .1, fit .rows) in
-      let columns : s .columns ≤ 15 = omega (arith, within .columns .1, fit .columns) in
-      let p = within .modulus in
-      sym (ap (λ (ws : List ℕ). payload (getD ws 0 0)) (w .0) ∙ omega arith)
+      shape-written limits fit s (w .1 .shape) ∙ sym (ap (λ (ws : List ℕ). payload (getD ws 0 0)) (w .0))
 
 -- ---- the kind
-
-form-is-head : (c : Certificate) → kindNumber (certificateForm c) ≡ payload (getD (certificateWords c) 0 0)
-unfolding certificateWords
-form-is-head (solution d N w Z) = refl
-form-is-head (absence q) = refl
 
 pub kind-is-head : (limits : Limits) (f g : List ℕ) (v : Pair) → readFiles limits f g ≡ accepted v
     → kindNumber (certificateForm (v .certificate)) ≡ payload (getD (wordsOf g) 0 0)
 kind-is-head limits f g v e =
     let r = files-read limits f g v e .certificate in
-    form-is-head (v .certificate)
+    form-written (v .certificate)
     ∙ ap (λ (ws : List ℕ). payload (getD ws 0 0)) (sym (certificate-written-of-read limits (shape (v .system)) (wordsOf g) _ r .0))
 
 -- ---- the coefficients

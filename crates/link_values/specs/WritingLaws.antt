@@ -24,7 +24,8 @@ use Rattle.writer.specs.Writing.{refuseShape, refuseRoom, writeSystem}
 use Rattle.writer.specs.WritingLaws.{shape-first, shape-passed}
 use Rattle.writer.specs.WrittenLaws.{system-accepted}
 use Rattle.writer.specs.Values.{systemInArrays}
-use Rattle.link_values.specs.Files.{Pair, shapeNumber, fileShape, readFiles, writeSystemFile}
+use Rattle.answers.specs.Heads.{shapeNumber}
+use Rattle.link_values.specs.Files.{Pair, fileShape, readFiles, writeSystemFile}
 use Rattle.link_values.specs.FilesLaws.{files-read}
 use Rattle.link_values.specs.Giving.{GivesPacked}
 use Rattle.link_values.specs.Refusals.{Refusals, Numbers, Places, refusals-row, refusals-followed, refusals-mapped}

@@ -4,27 +4,17 @@ use crate::opening::FilesOpened;
 use crate::opening::open_both;
 use answers::CertificateRead;
 use answers::Counted;
-use answers::Form;
 use answers::SystemRead;
+use answers::head::number_of;
 use answers::packed::pack_counted;
 use limits::Office;
 use reader::certificate::read_certificate;
 use reader::system::read_system;
 ghost use mathlib.Core.Path.{_≡_};
 ghost use Rattle.words.specs.Limits.{office};
-ghost use Rattle.answers.specs.Answer.{formOf, countedOutcome};
+ghost use Rattle.answers.specs.Answer.{countedOutcome};
 ghost use Rattle.answers.specs.Packed.{packed};
-ghost use Rattle.link_values.specs.Files.{kindNumber, kindOf, readBoth, fileKind};
-
-// Returns the number of a form, as the head of a certificate has it.
-fn number_of(form: Form) -> usize
-    ensures { λ r. ⌜ r ≡ kindNumber (formOf form) ⌝ }
-{
-    match form {
-        Form::Solution => 1,
-        Form::Absence => 2,
-    }
-}
+ghost use Rattle.link_values.specs.Files.{kindOf, readBoth, fileKind};
 
 // Reads the kind of a certificate for a system.
 fn kind_of_words(system: &[u32], certificate: &[u32]) -> Counted

@@ -4,5 +4,4 @@ pub mod kind;
 pub mod lookup_file;
 mod opening;
 pub mod shape;
-pub mod version;
 pub mod writing;

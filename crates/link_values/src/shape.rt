@@ -1,6 +1,7 @@
 // The shape of the system in a file.
 use answers::Counted;
 use answers::SystemRead;
+use answers::head::pack_shape;
 use answers::packed::pack_counted;
 use reader::file::read_system_file;
 ghost use mathlib.Core.Path.{_≡_};
@@ -14,9 +15,7 @@ pub fn shape_of_file(system: &[u8]) -> u64
 {
     let read = read_system_file(system);
     match read {
-        SystemRead::Accepted(shape) => {
-            64 * (shape.modulus as u64 + shape.rows as u64 * 65536 + shape.columns as u64 * 1048576)
-        }
+        SystemRead::Accepted(shape) => pack_shape(shape),
         SystemRead::Refused(refusal) => pack_counted(Counted::Refused(refusal)),
     }
 }

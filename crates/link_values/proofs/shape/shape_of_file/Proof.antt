@@ -7,7 +7,8 @@ use Rattle.words.specs.Outcome.{mapped}
 use Rattle.answers.specs.Answer.{systemOutcome}
 use Rattle.answers.specs.declared.shape.SystemRead.{SystemRead}
 use Rattle.answers.specs.Packed.{packed, packedMost}
-use Rattle.link_values.specs.Files.{shapeNumber, fileShape}
+use Rattle.answers.specs.Heads.{shapeNumber}
+use Rattle.link_values.specs.Files.{fileShape}
 use Rattle.link_values.specs.FilesLaws.{shape-places}
 use Rattle.link_values.proofs.Small.{refusal-small}
 use borrow.Author.Needs.{needs}

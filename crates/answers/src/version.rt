@@ -1,6 +1,6 @@
 // The version of the library, as the file VERSION has it.
 ghost use mathlib.Core.Path.{_≡_};
-ghost use Rattle.link_values.specs.Version.{version};
+ghost use Rattle.answers.specs.Version.{version};
 
 const MAJOR: u64 = 0;
 
