@@ -1,22 +1,26 @@
--- Certificates that are right and not chosen, one for each thing that the choice decides.
-use Prim.Native.Nat.{ℕ, zero, suc, _<_}
+-- Certificates that are right and not chosen, one for each thing that the choice decides; and one that is chosen.
+use Prim.Native.Nat.{ℕ, zero, suc, _<_, _≤_}
 use mathlib.Core.Path.{_≡_, refl, ap}
 use mathlib.Core.List.{List, [], _∷_}
 use native.Mathlib.Omega.{arith}
 use lib.ListN.{length, getD, replicate}
-use Rattle.algebra.specs.Coefficients.{mul, leading}
+use Rattle.ring.specs.Total.{total}
+use Rattle.algebra.specs.Coefficients.{add, mul, leading, coefficient}
 use Rattle.modular.specs.Modulo.{modulo}
 use Rattle.modular.specs.Canonical.{Canonical}
+use Rattle.modular.specs.Closed.{canonical-mul}
+use Rattle.modular.specs.Coefficientwise.{coefficient-add}
+use Rattle.modular.specs.Product.{coefficient-mul}
 use Rattle.words.specs.System.{System}
 use Rattle.words.specs.Outcome.{Outcome}
 use Rattle.words.specs.Outcome.Outcome.{accepted}
 use Rattle.words.specs.Certificate.{Certificate}
 use Rattle.words.specs.Certificate.Certificate.{solution, absence}
-use Rattle.truth.specs.Solution.{AllCanonical, DividesModulo, Clears, Monic, Denominator, rowOf}
+use Rattle.truth.specs.Solution.{AllCanonical, DividesModulo, Clears, Monic, Denominator, totalModulo, rowOf, columnOf, sideOf}
 use Rattle.truth.specs.Verdict.{certificateVerdict}
-use Rattle.truth.specs.Chosen.{ColumnRelation, Chosen}
+use Rattle.truth.specs.Chosen.{ColumnRelation, ColumnPivot, Chosen, combinationOf}
 
--- polynomials modulo 2
+-- polynomials modulo 2, and modulo 3
 abbrev 𝟙 : List ℕ
 𝟙 = 1 ∷ []
 
@@ -119,13 +123,129 @@ not-primitive C = go (C .at) (C .added .pivot .inside) (C .lowest)
     go (suc zero) h D = absurd (omega (arith, D .least 𝟙 canonical-𝟙 refl divides))
     go (suc (suc at)) h D = absurd (omega arith)
 
--- ---- all four are right
+-- ---- modulo 3, x·y = 1: d = x, N = 1, and z = 1/x
+
+abbrev inverse₃ : System
+inverse₃ = record { modulus = 3; rows = 1; columns = 1; matrix = x ∷ []; side = 𝟙 ∷ [] }
+
+canonical-x₃ : Canonical 3 x
+unfolding Canonical
+canonical-x₃ = (omega arith, tt, (omega arith, omega arith, tt))
+
+-- z = 2/x: d·(Z·b) = 2·x, and x + t·x² has 1 at x, whatever t is
+abbrev doubled : Certificate
+doubled = solution x (𝟙 ∷ []) x ((2 ∷ []) ∷ [])
+
+pub not-inverted : ¬ Chosen inverse₃ doubled
+unfolding Chosen sideOf totalModulo mul modulo coefficient total
+not-inverted C =
+    let t = C .inverts .whole in
+    let none = coefficient-mul 3 (omega arith) t x² 1 in
+    let sum = coefficient-add 3 (omega arith) x (mul (modulo 3) t x²) 1 canonical-x₃ (canonical-mul 3 (omega arith) t x²) in
+    absurd (omega (arith, ap (λ f. coefficient (modulo 3) f 1) (C .inverts .equal), sum, none))
+
+-- ---- modulo 3, 0·y = 1 twice: no solution, and q = (1, 0)
+
+abbrev twice : System
+twice = record { modulus = 3; rows = 2; columns = 1; matrix = [] ∷ [] ∷ []; side = 𝟙 ∷ 𝟙 ∷ [] }
+
+-- q = (1, 1): whichever is the new pivot, the other entry is at no pivot of A
+abbrev both : Certificate
+both = absence (𝟙 ∷ 𝟙 ∷ [])
+
+pub not-supported : ¬ Chosen twice both
+unfolding Chosen combinationOf rowOf totalModulo add mul modulo
+not-supported C = go (C .at) (C .added .pivot .inside) (C .support)
+  where
+    no-pivot : (i : ℕ) → i < 2 → ¬ ColumnPivot twice i
+    no-pivot zero h P = P .pivot .nonzero refl
+    no-pivot (suc zero) h P = P .pivot .nonzero refl
+    no-pivot (suc (suc i)) h P = absurd (omega arith)
+
+    some-𝟙 : ¬ (𝟙 ≡ [])
+    some-𝟙 e = absurd (omega (arith, ap length e))
+
+    go : (at : ℕ) → at < 2
+        → ((i : ℕ) → i < 2 → ¬ (i ≡ at) → ¬ (getD (𝟙 ∷ 𝟙 ∷ []) i [] ≡ []) → ColumnPivot twice i) → ⊥
+    go zero h support = no-pivot 1 (omega arith) (support 1 (omega arith) (λ e. absurd (omega arith)) some-𝟙)
+    go (suc zero) h support = no-pivot 0 (omega arith) (support 0 (omega arith) (λ e. absurd (omega arith)) some-𝟙)
+    go (suc (suc at)) h support = absurd (omega arith)
+
+-- ---- modulo 3, 0·y = 1: no solution, and q = 1
+
+abbrev never : System
+never = record { modulus = 3; rows = 1; columns = 1; matrix = [] ∷ []; side = 𝟙 ∷ [] }
+
+-- q = 2: not monic at the new pivot
+abbrev times-2 : Certificate
+times-2 = absence ((2 ∷ []) ∷ [])
+
+pub not-monic : ¬ Chosen never times-2
+unfolding Chosen Monic leading modulo
+not-monic C = go (C .at) (C .added .pivot .inside) (C .lowest .monic)
+  where
+    go : (at : ℕ) → at < 1 → Monic 3 (getD ((2 ∷ []) ∷ []) at []) → ⊥
+    go zero h m = absurd (omega arith)
+    go (suc at) h m = absurd (omega arith)
+
+-- ---- all are right
 
 abbrev verdicts : List (Outcome (Unit {0}))
 verdicts =
     certificateVerdict inverse in-x² ∷ certificateVerdict inverse plus-1 ∷ certificateVerdict wide plus-relation
-    ∷ certificateVerdict none times-x ∷ []
+    ∷ certificateVerdict none times-x ∷ certificateVerdict inverse₃ doubled ∷ certificateVerdict twice both
+    ∷ certificateVerdict never times-2 ∷ []
 
-pub all-accepted : verdicts ≡ replicate 4 (accepted tt)
+pub all-accepted : verdicts ≡ replicate 7 (accepted tt)
 unfolding certificateVerdict
 all-accepted = refl
+
+-- ---- and q = 1 is chosen
+
+canonical-𝟙₃ : Canonical 3 𝟙
+unfolding Canonical
+canonical-𝟙₃ = (omega arith, omega arith, tt)
+
+pub is-chosen : Chosen never (absence (𝟙 ∷ []))
+unfolding Canonical Chosen Clears Monic AllCanonical combinationOf rowOf columnOf sideOf totalModulo leading add mul modulo
+is-chosen = record {
+  proper = (canonical-𝟙₃, tt);
+  count = refl;
+  right = record { columns = columns; side = some-side };
+  at = 0;
+  added = record {
+    parts = [] ∷ [];
+    part = 𝟙;
+    pivot = record {
+      parts = (tt, tt);
+      count = refl;
+      part = canonical-𝟙₃;
+      inside = omega arith;
+      nonzero = λ e. absurd (omega (arith, ap length e));
+      before = λ k l. absurd (omega arith);
+      longest = longest;
+    };
+  };
+  new = λ P. P .pivot .nonzero refl;
+  support = λ i l ne nz. absurd (ne (omega arith));
+  lowest = record { canonical = canonical-𝟙₃; monic = refl; clears = clears; least = least };
+}
+  where
+    columns : (j : ℕ) → j < 1 → columnOf never (𝟙 ∷ []) j ≡ []
+    columns zero h = refl
+    columns (suc j) h = absurd (omega arith)
+
+    some-side : ¬ (sideOf never (𝟙 ∷ []) ≡ [])
+    some-side e = absurd (omega (arith, ap length e))
+
+    longest : (k : ℕ) → k < 1 → length (combinationOf never ([] ∷ []) 𝟙 k) ≤ 1
+    longest zero h = omega arith
+    longest (suc k) h = absurd (omega arith)
+
+    clears : (j : ℕ) → j < 1 → DividesModulo 3 𝟙 (mul (modulo 3) 𝟙 (getD (𝟙 ∷ []) j []))
+    clears zero h = record { quotient = 𝟙; canonical = canonical-𝟙₃; product = refl }
+    clears (suc j) h = absurd (omega arith)
+
+    least : (f : List ℕ) → Canonical 3 f → Monic 3 f → Clears 3 f (𝟙 ∷ []) 𝟙 → 1 ≤ length f
+    least [] hf m c = absurd (omega arith)
+    least (a ∷ f) hf m c = omega arith
