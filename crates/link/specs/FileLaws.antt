@@ -28,7 +28,7 @@ bytes-are c = refl
 
 module _ (limits : Limits) (fit : LimitsFit limits) (file entry exit : List ℕ) where
   -- the system's file is not at fault, the certificate's is whole words, and the check accepts their words
-  gives-accepted : {s : System} {count : ℕ} → readSystemFile limits file ≡ accepted s
+  pub gives-accepted : {s : System} {count : ℕ} → readSystemFile limits file ≡ accepted s
       → GivesRight limits certificateBytes s entry exit count → fileVerdict limits file (take count exit) ≡ accepted tt
   unfolding readSystemFile fileVerdict
   gives-accepted {s} {count} e G =

@@ -64,23 +64,24 @@ pub solver-packs-apart : {limits limits′ : Limits} {file entry exit file′ en
 solver-packs-apart h k = sym (solver-unpacked h) ∙ solver-unpacked k
 
 -- it is a function of what was read and of what was lent, refusals too: on files that read the same
-module _ (limits : Limits) (fit : LimitsFit limits) (file file₁ : List ℕ) (same : readSystemFile limits file ≡ readSystemFile limits file₁)
-  where
-    pub packed-unique : (entry : List ℕ) {exit exit₁ : List ℕ} {r r₁ : ℕ} → SolvesPacked limits file entry exit r
-        → SolvesPacked limits file₁ entry exit₁ r₁ → (exit ≡ exit₁) × (r ≡ r₁)
-    packed-unique entry h h₁ =
-        let one = file-solves-unique limits fit file file₁ same entry (h .solves) (h₁ .solves) in
-        (one .0, h .packs ∙ ap packed (one .1) ∙ sym (h₁ .packs))
+module _ (limits : Limits) (fit : LimitsFit limits) (file file₁ : List ℕ)
+    (same : readSystemFile limits file ≡ readSystemFile limits file₁) where
+  pub packed-unique : (entry : List ℕ) {exit exit₁ : List ℕ} {r r₁ : ℕ} → SolvesPacked limits file entry exit r
+      → SolvesPacked limits file₁ entry exit₁ r₁ → (exit ≡ exit₁) × (r ≡ r₁)
+  packed-unique entry h h₁ =
+      let one = file-solves-unique limits fit file file₁ same entry (h .solves) (h₁ .solves) in
+      (one .0, h .packs ∙ ap packed (one .1) ∙ sym (h₁ .packs))
 
-    -- whatever was lent, the same number and the same bytes
-    pub packed-same : {entry exit entry₁ exit₁ : List ℕ} {r r₁ : ℕ} → SolvesPacked limits file entry exit r
-        → SolvesPacked limits file₁ entry₁ exit₁ r₁ → r % 64 ≡ 0 → r₁ % 64 ≡ 0 → (r ≡ r₁) × (take (r / 64) exit ≡ take (r₁ / 64) exit₁)
-    packed-same {entry} {exit} {entry₁} {exit₁} {r} {r₁} h h₁ z z₁ =
-        let x : Call = record { entry = entry; exit = exit; answer = unpacked r } in
-        let y : Call = record { entry = entry₁; exit = exit₁; answer = unpacked r₁ } in
-        let both = file-solved-same limits fit file file₁ same x y (solves-unpacked h) (solves-unpacked h₁) (r / 64) (r₁ / 64)
-        (unpacked-0 r z) (unpacked-0 r₁ z₁) in
-        (omega arith, both .1)
+  -- whatever was lent, the same number and the same bytes
+  pub packed-same : {entry exit entry₁ exit₁ : List ℕ} {r r₁ : ℕ} → SolvesPacked limits file entry exit r
+      → SolvesPacked limits file₁ entry₁ exit₁ r₁ → r % 64 ≡ 0 → r₁ % 64 ≡ 0
+      → (r ≡ r₁) × (take (r / 64) exit ≡ take (r₁ / 64) exit₁)
+  packed-same {entry} {exit} {entry₁} {exit₁} {r} {r₁} h h₁ z z₁ =
+      let x : Call = record { entry = entry; exit = exit; answer = unpacked r } in
+      let y : Call = record { entry = entry₁; exit = exit₁; answer = unpacked r₁ } in
+      let both = file-solved-same limits fit file file₁ same x y (solves-unpacked h) (solves-unpacked h₁) (r / 64) (r₁ / 64)
+      (unpacked-0 r z) (unpacked-0 r₁ z₁) in
+      (omega arith, both .1)
 
 -- where there is room it is the number of bytes of the system's certificate, and these stand over the first of the lent ones
 pub packed-card : (limits : Limits) {s : System} (h : SystemWithin limits s) (room : Suffices limits (s .rows) (s .columns))

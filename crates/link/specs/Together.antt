@@ -44,7 +44,7 @@ module _ (s : System) (within : SystemWithin office s) {entry exit : List ℕ} {
       let count : r % 64 ≡ 0 = omega arith in
       (count, solved-checked h count)
 
--- a certificate's words are in the lent bytes: the number is that of their bytes, packed, and these stand over the first of the lent ones
+-- a certificate's words as bytes: the number is how many these are, packed, and they stand over the first of the lent ones
 abbrev pub CardIn : (words entry exit : List ℕ) → ℕ → Type 0
 CardIn words entry exit r = (r ≡ 64 * length (bytesOf words)) × (exit ≡ overwritten (bytesOf words) entry)
 

@@ -1,5 +1,5 @@
--- There is only one chosen certificate of a system, of any degrees: over the residues it is what `reduction` shows to be the only one of
--- its kind.
+-- There is only one chosen certificate of a system, whatever its degrees: over the residues it is what `reduction` shows to be the
+-- only one of its kind.
 use Prim.Native.Nat.{ℕ, _<_}
 use mathlib.Core.Path.{_≡_, refl, sym, _∙_, ap, ap₂, subst}
 use mathlib.Core.List.{List, [], _∷_}
@@ -254,8 +254,8 @@ module _ (limits : Limits) (s : System) (h : SystemWithin limits s) where
       added = λ X. C .new (column-pivot-out limits s h X);
       support = λ i l ne nz. column-pivot-in limits s h (C .support i l ne (λ z. nz (PivotLists.none limits s h (eq i) z)));
       nonzero = denominator-nonzero p prime (getD q (C .at) []) (canonical-at p q (C .proper) (C .at)) q (C .proper) (C .lowest);
-      lowest = λ c y e. denominator-lowest p prime (getD q (C .at) []) (canonical-at p q (C .proper) (C .at)) q (C .proper) (C .lowest) c y
-          (λ i l. e i (omega (arith, C .count)));
+      lowest = λ c y e. denominator-lowest p prime (getD q (C .at) []) (canonical-at p q (C .proper) (C .at)) q (C .proper)
+          (C .lowest) c y (λ i l. e i (omega (arith, C .count)));
     }
 
     monic-at : MonicIn F (κ (C .at))

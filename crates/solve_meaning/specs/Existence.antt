@@ -1,8 +1,8 @@
 -- certificate-exists in document 01's values: every system within limits has a right certificate within them, the chosen one, where the
--- limit on certificates leaves room for it; the office's does, "degree 120 always suffices". There is only one such certificate, whatever
--- the limits, so it is a function of the system.
+-- limit on certificates leaves room for it; the office's does, "degree 120 always suffices". There is only one such certificate,
+-- whatever the limits, so it is a function of the system.
 use Prim.Native.Nat.{ℕ, _*_, _<_, _≤_, min}
-use mathlib.Core.Path.{_≡_, refl, sym, ap}
+use mathlib.Core.Path.{_≡_, refl}
 use mathlib.Core.Logic.{⊎-elim}
 use mathlib.Core.List.{List}
 use native.Mathlib.Omega.{arith}
@@ -22,7 +22,6 @@ use Rattle.words.specs.System.{System, SystemWithin, shape}
 use Rattle.words.specs.Certificate.{Certificate, CertificateWithin}
 use Rattle.words.specs.Certificate.Certificate.{solution, absence}
 use Rattle.truth.specs.Solution.{Answer, Answers, RationalSolution, LeastDenominator}
-use Rattle.truth.specs.Solution.Answer.{none, least}
 use Rattle.truth.specs.Right.{Right}
 use Rattle.truth.specs.Truth.{answer-unique}
 use Rattle.truth.specs.Accepted.{proper}
@@ -33,7 +32,7 @@ use Rattle.solve_meaning.specs.Lists.{listOf, list-canonical, list-lengt
 use Rattle.solve_meaning.specs.Equations.{systemDegree, equated}
 use Rattle.solve_meaning.specs.Vectors.{lists, lists-at}
 use Rattle.solve_meaning.specs.ChosenLists.{solution-chosen, absence-chosen}
-use Rattle.solve_meaning.specs.Answers.{answerOf, chosen-answers, distinct, least-same}
+use Rattle.solve_meaning.specs.Answers.{answerOf, chosen-answers}
 use Rattle.solve_meaning.specs.ChosenUnique.{chosen-unique}
 
 -- polynomials of bounded size as lists
@@ -56,17 +55,19 @@ pub record ChosenCertificate (limits : Limits) (s : System) : Type 0 where
   pub within : CertificateWithin limits (shape s) certificate
   pub chosen : Chosen s certificate
 
--- a certificate by its kind and d
-absence-of : (c : Certificate) → answerOf c ≡ none → (q : List (List ℕ)) × (c ≡ absence q)
-unfolding answerOf
-absence-of (solution d N w Z) e = absurd (distinct d e)
-absence-of (absence q) e = (q, refl)
+-- a certificate whose kind and d answer the system: an absence where there is no solution, and a solution with the least denominator
+-- where there is one
+absence-of : (s : System) (c : Certificate) → Answers s (answerOf c) → ((M : List (List ℕ)) (e : List ℕ) → ¬ RationalSolution s M e)
+    → (q : List (List ℕ)) × (c ≡ absence q)
+unfolding Answers answerOf
+absence-of s (solution d N w Z) A without = absurd (without (A .numerators) (A .over) (A .solution))
+absence-of s (absence q) A without = (q, refl)
 
-solution-of : (d : List ℕ) (c : Certificate) → answerOf c ≡ least d
-    → (N : List (List ℕ)) × (w : List ℕ) × (Z : List (List ℕ)) × (c ≡ solution d N w Z)
-unfolding answerOf
-solution-of d (solution f N w Z) e = (N, w, Z, ap (λ x. solution x N w Z) (least-same e))
-solution-of d (absence q) e = absurd (distinct d (sym e))
+solution-of : (s : System) (c : Certificate) → Answers s (answerOf c) → {M : List (List ℕ)} {e : List ℕ} → RationalSolution s M e
+    → (d : List ℕ) × (N : List (List ℕ)) × (w : List ℕ) × (Z : List (List ℕ)) × (c ≡ solution d N w Z) × LeastDenominator s d
+unfolding Answers answerOf
+solution-of s (solution d N w Z) A X = (d, N, w, Z, refl, A)
+solution-of s (absence q) A {M} {e} X = absurd (A M e X)
 
 module _ (limits : Limits) (s : System) (h : SystemWithin limits s) where
   abbrev p : ℕ
@@ -157,23 +158,15 @@ module _ (limits : Limits) (s : System) (h : SystemWithin limits s) where
     chosenCertificate-answer a A =
         answer-unique s (proper limits s h) (answerOf (chosenCertificate room)) a chosenCertificate-answers A
 
-    -- it is an absence where there is no solution, and a solution with the least denominator where there is one
+    -- by name
     pub chosenCertificate-absence : ((M : List (List ℕ)) (e : List ℕ) → ¬ RationalSolution s M e)
         → (q : List (List ℕ)) × (chosenCertificate room ≡ absence q)
-    unfolding Answers
-    chosenCertificate-absence A = absence-of (chosenCertificate room) (chosenCertificate-answer none A)
+    chosenCertificate-absence = absence-of s (chosenCertificate room) chosenCertificate-answers
 
     pub chosenCertificate-solution : {M : List (List ℕ)} {e : List ℕ} → RationalSolution s M e
-        → (d : List ℕ) × LeastDenominator s d
-        × ((N : List (List ℕ)) × (w : List ℕ) × (Z : List (List ℕ)) × (chosenCertificate room ≡ solution d N w Z))
-    unfolding Answers
-    chosenCertificate-solution {M} {e} X = by (answerOf (chosenCertificate room)) refl chosenCertificate-answers
-      where
-        by : (a : Answer) → answerOf (chosenCertificate room) ≡ a → Answers s a
-            → (d : List ℕ) × LeastDenominator s d
-            × ((N : List (List ℕ)) × (w : List ℕ) × (Z : List (List ℕ)) × (chosenCertificate room ≡ solution d N w Z))
-        by none is A = absurd (A M e X)
-        by (least d) is A = (d, A, solution-of d (chosenCertificate room) is)
+        → (d : List ℕ) × (N : List (List ℕ)) × (w : List ℕ) × (Z : List (List ℕ)) × (chosenCertificate room ≡ solution d N w Z)
+        × LeastDenominator s d
+    chosenCertificate-solution = solution-of s (chosenCertificate room) chosenCertificate-answers
 
 -- it depends neither on the limits nor on the proofs that they are kept
 pub chosenCertificate-same : (limits limits₁ : Limits) (s : System) (h : SystemWithin limits s) (h₁ : SystemWithin limits₁ s)
@@ -206,5 +199,6 @@ officeCertificate s h = chosenCertificate office s h (office-suffices s h)
 abbrev pub panelCertificate : (s : System) → SystemWithin panel s → Certificate
 panelCertificate s h = chosenCertificate panel s h (panel-suffices s h)
 
-pub panel-office-same : (s : System) (h : SystemWithin panel s) (k : SystemWithin office s) → panelCertificate s h ≡ officeCertificate s k
+pub panel-office-same : (s : System) (h : SystemWithin panel s) (k : SystemWithin office s)
+    → panelCertificate s h ≡ officeCertificate s k
 panel-office-same s h k = chosenCertificate-same panel office s h k (panel-suffices s h) (office-suffices s k)

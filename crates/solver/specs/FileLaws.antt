@@ -34,8 +34,8 @@ room-place most longest lent (accepted s) h number place e = by-room (ltb lent l
     by-room false e = absurd (refused-accepted (sym e))
 
 module _ (limits : Limits) (fit : LimitsFit limits) (file entry exit : List ℕ) (answer : Outcome ℕ) where
-  gives-most : {s : System} {count : ℕ} → readSystemFile limits file ≡ accepted s → GivesRight limits certificateBytes s entry exit count
-      → count ≤ 4 * longestCertificate limits
+  gives-most : {s : System} {count : ℕ} → readSystemFile limits file ≡ accepted s
+      → GivesRight limits certificateBytes s entry exit count → count ≤ 4 * longestCertificate limits
   unfolding certificateBytes
   gives-most {s} e G =
       let c = G .certificate in

@@ -1,6 +1,6 @@
--- Nothing of what the solver gives is free: what it leaves in the lent words and answers is a function of what it read and of what stood
--- there. It gives the written form of the system's own certificate. So calls on the same system, though it may be read from different
--- words, give the same count and the same words, whatever was lent and whatever stood there.
+-- Nothing of what the solver gives is free: what it answers and leaves in the lent words is a function of what it read and of what
+-- stood there. It gives the written form of the system's own certificate. So calls on the same system, though it may be read from
+-- different words, give the same count and the same words, whatever was lent and whatever stood there.
 use Prim.Native.Nat.{ℕ, _*_, _≤_}
 use mathlib.Core.Path.{_≡_, refl, sym, ap, _∙_, subst}
 use mathlib.Core.List.{List}
@@ -175,8 +175,10 @@ module _ (limits : Limits) (fit : LimitsFit limits) where
 
   module _ (file file₁ : List ℕ) (same : readSystemFile limits file ≡ readSystemFile limits file₁) where
     pub file-solves-unique : (entry : List ℕ) {exit exit₁ : List ℕ} {answer answer₁ : Outcome ℕ}
-        → SolvesFile limits file entry exit answer → SolvesFile limits file₁ entry exit₁ answer₁ → (exit ≡ exit₁) × (answer ≡ answer₁)
-    file-solves-unique = call-unique limits same (λ s e. file-within limits fit s file e) certificateBytes (4 * longestCertificate limits)
+        → SolvesFile limits file entry exit answer → SolvesFile limits file₁ entry exit₁ answer₁
+        → (exit ≡ exit₁) × (answer ≡ answer₁)
+    file-solves-unique =
+        call-unique limits same (λ s e. file-within limits fit s file e) certificateBytes (4 * longestCertificate limits)
 
     module _ (x y : Call) (h : SolvesFile limits file (x .entry) (x .exit) (x .answer))
         (h₁ : SolvesFile limits file₁ (y .entry) (y .exit) (y .answer)) where

@@ -26,9 +26,9 @@ withRoom longest lent read =
 abbrev pub systemToSolve : Limits → ℕ → List ℕ → Outcome System
 systemToSolve limits lent ws = withRoom (longestCertificate limits) lent (readSystem limits ws)
 
--- A right certificate stands over the first of the lent words, or bytes: "they keep the degree bound, the check's conditions hold of the
--- card, its words are its written form, and the returned count is theirs." "Lent words behind the card keep their values." A certificate
--- is written as words, or as bytes of a file.
+-- A right certificate stands over the first of the lent words: "they keep the degree bound, the check's conditions hold of the
+-- card, its words are its written form, and the returned count is theirs." "Lent words behind the card keep their values." A
+-- certificate is written as words, or as bytes of a file.
 pub record GivesRight (limits : Limits) (write : Certificate → List ℕ) (s : System) (entry exit : List ℕ) (count : ℕ) : Type 0 where
   pub certificate : Certificate
   pub within : CertificateWithin limits (shape s) certificate

@@ -33,7 +33,8 @@ pub room-enough : (longest lent : ℕ) → longest ≤ lent → (read : Outcome 
 room-enough longest lent h (refused number place) = refl
 room-enough longest lent h (accepted s) = ap (λ t. refuse t 11 0 (accepted s)) (le-ltb lent longest h)
 
-pub room-read : (longest lent : ℕ) (read : Outcome System) {s : System} → withRoom longest lent read ≡ accepted s → read ≡ accepted s
+pub room-read : (longest lent : ℕ) (read : Outcome System) {s : System} → withRoom longest lent read ≡ accepted s
+    → read ≡ accepted s
 room-read longest lent read e =
     let found = followedBy-accepted read _ e in
     found .1 ∙ refuse-passed (ltb lent longest) 11 0 (accepted (found .0)) (found .2) .1
@@ -83,8 +84,8 @@ solved-gives limits write longest lent (accepted s) entry exit answer h count a 
 
 module _ (limits : Limits) (fit : LimitsFit limits) (ws entry exit : List ℕ) (answer : Outcome ℕ) where
   -- the check accepts what the solver gives
-  gives-accepted : {s : System} {count : ℕ} → readSystem limits ws ≡ accepted s → GivesRight limits certificateWords s entry exit count
-      → verdict limits ws (take count exit) ≡ accepted tt
+  pub gives-accepted : {s : System} {count : ℕ} → readSystem limits ws ≡ accepted s
+      → GivesRight limits certificateWords s entry exit count → verdict limits ws (take count exit) ≡ accepted tt
   gives-accepted {s} {count} e G =
       let read = system-written-of-read limits fit ws s e in
       accepted-of-words limits fit ws (take count exit) (record {

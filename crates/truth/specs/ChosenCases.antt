@@ -1,4 +1,4 @@
--- Certificates that are right and not chosen, one for each thing that the choice decides; and one that is chosen.
+-- Certificates that are right and not chosen, one for each thing that the choice decides; and two that are chosen.
 use Prim.Native.Nat.{ℕ, zero, suc, _<_, _≤_}
 use mathlib.Core.Path.{_≡_, refl, ap}
 use mathlib.Core.List.{List, [], _∷_}
@@ -16,9 +16,12 @@ use Rattle.words.specs.Outcome.{Outcome}
 use Rattle.words.specs.Outcome.Outcome.{accepted}
 use Rattle.words.specs.Certificate.{Certificate}
 use Rattle.words.specs.Certificate.Certificate.{solution, absence}
-use Rattle.truth.specs.Solution.{AllCanonical, DividesModulo, Clears, Monic, Denominator, totalModulo, rowOf, columnOf, sideOf}
+use Rattle.truth.specs.Solution.{AllCanonical, DividesModulo, Clears, Monic, Denominator}
+use Rattle.truth.specs.Solution.{totalModulo, rowOf, columnOf, sideOf}
+use Rattle.truth.specs.Right.{certified}
+use Rattle.truth.specs.Lift.{canonical-at}
 use Rattle.truth.specs.Verdict.{certificateVerdict}
-use Rattle.truth.specs.Chosen.{ColumnRelation, ColumnPivot, Chosen, combinationOf}
+use Rattle.truth.specs.Chosen.{ColumnRelation, PivotAt, ColumnPivot, ShortEntry, Chosen, combinationOf}
 
 -- polynomials modulo 2, and modulo 3
 abbrev 𝟙 : List ℕ
@@ -200,15 +203,95 @@ pub all-accepted : verdicts ≡ replicate 7 (accepted tt)
 unfolding certificateVerdict
 all-accepted = refl
 
--- ---- and q = 1 is chosen
+-- ---- chosen: z = 1/x for x·y = 1, which is case 1 of document 01
+
+-- x·a = 0 only for a = 0
+relation-long : (f : List ℕ) → Canonical 2 f → ¬ (f ≡ []) → mul (modulo 2) x f ≡ [] → 1 < length f
+unfolding Canonical mul modulo coefficient total
+relation-long [] hf ne z = absurd (ne refl)
+relation-long (a ∷ []) hf ne z =
+    absurd (omega (arith, coefficient-mul 2 (omega arith) x (a ∷ []) 1, ap (λ f. coefficient (modulo 2) f 1) z, hf .0, hf .1))
+relation-long (a ∷ b ∷ f) hf ne z = omega arith
+
+-- a constant times 1 is no multiple of x
+clears-long : (f : List ℕ) → Canonical 2 f → Monic 2 f → Clears 2 f (𝟙 ∷ []) x → 2 ≤ length f
+unfolding Clears Monic leading mul modulo coefficient total
+clears-long [] hf m c = absurd (omega arith)
+clears-long (a ∷ []) hf m c =
+    let d = c 0 (omega arith) in
+    absurd (omega (
+      arith,
+      ap (λ f. coefficient (modulo 2) f 0) (d .product),
+      coefficient-mul 2 (omega arith) (a ∷ []) 𝟙 0,
+      coefficient-mul 2 (omega arith) (d .quotient) x 0,
+    ))
+clears-long (a ∷ b ∷ f) hf m c = omega arith
+
+pub case-1-chosen : Chosen inverse (solution x (𝟙 ∷ []) x (𝟙 ∷ []))
+unfolding Canonical Chosen Clears Monic AllCanonical combinationOf certified rowOf columnOf sideOf totalModulo leading add mul modulo
+case-1-chosen = record {
+  proper = record {
+    denominator = canonical-x;
+    numerators = (canonical-𝟙, tt);
+    count = refl;
+    certifyingDenominator = canonical-x;
+    certifyingNumerators = (canonical-𝟙, tt);
+  };
+  count = refl;
+  right = record { monic = refl; certifyingMonic = refl; rows = rows; columns = columns; denominators = refl };
+  reduced = reduced;
+  inverts = record { whole = []; canonical = tt; equal = refl };
+  short = short;
+  lowest = record { canonical = canonical-x; monic = refl; clears = clears; least = clears-long };
+}
+  where
+    rows : (i : ℕ) → i < 1 → rowOf inverse (𝟙 ∷ []) i ≡ mul (modulo 2) x (getD (𝟙 ∷ []) i [])
+    rows zero h = refl
+    rows (suc i) h = absurd (omega arith)
+
+    columns : (j : ℕ) → j < 1 → DividesModulo 2 x (columnOf inverse (𝟙 ∷ []) j)
+    columns zero h = record { quotient = 𝟙; canonical = canonical-𝟙; product = refl }
+    columns (suc j) h = absurd (omega arith)
+
+    reduced : (j : ℕ) → j < 1 → (v : List (List ℕ)) → ColumnRelation inverse v j → length (getD (𝟙 ∷ []) j []) < length (getD v j [])
+    reduced zero h v X = relation-long (getD v 0 []) (canonical-at 2 v (X .canonical) 0) (X .nonzero) (X .rows 0 (omega arith))
+    reduced (suc j) h v X = absurd (omega arith)
+
+    short : (i : ℕ) → i < 1 → ¬ (getD (𝟙 ∷ []) i [] ≡ []) → ShortEntry inverse x (𝟙 ∷ []) i
+    short zero h ne = record {
+      at = record { parts = [] ∷ []; part = 𝟙; pivot = pivot };
+      short = omega arith;
+    }
+      where
+        longest : (k : ℕ) → k < 1 → length (combinationOf inverse ([] ∷ []) 𝟙 k) ≤ 1
+        longest zero h = omega arith
+        longest (suc k) h = absurd (omega arith)
+
+        pivot : PivotAt inverse ([] ∷ []) 𝟙 0
+        pivot = record {
+          parts = (tt, tt);
+          count = refl;
+          part = canonical-𝟙;
+          inside = omega arith;
+          nonzero = λ e. absurd (omega (arith, ap length e));
+          before = λ k l. absurd (omega arith);
+          longest = longest;
+        }
+    short (suc i) h ne = absurd (omega arith)
+
+    clears : (j : ℕ) → j < 1 → DividesModulo 2 x (mul (modulo 2) x (getD (𝟙 ∷ []) j []))
+    clears zero h = record { quotient = 𝟙; canonical = canonical-𝟙; product = refl }
+    clears (suc j) h = absurd (omega arith)
+
+-- ---- chosen: q = 1 for 0·y = 1 modulo 3
 
 canonical-𝟙₃ : Canonical 3 𝟙
 unfolding Canonical
 canonical-𝟙₃ = (omega arith, omega arith, tt)
 
-pub is-chosen : Chosen never (absence (𝟙 ∷ []))
+pub never-chosen : Chosen never (absence (𝟙 ∷ []))
 unfolding Canonical Chosen Clears Monic AllCanonical combinationOf rowOf columnOf sideOf totalModulo leading add mul modulo
-is-chosen = record {
+never-chosen = record {
   proper = (canonical-𝟙₃, tt);
   count = refl;
   right = record { columns = columns; side = some-side };
