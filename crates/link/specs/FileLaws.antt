@@ -19,17 +19,17 @@ use Rattle.truth.specs.Verdict.{verdict}
 use Rattle.truth.specs.Accepted.{accepted-of-words}
 use Rattle.verifier.specs.File.{fileVerdict}
 use Rattle.verifier.specs.Checked.{whole-words}
-use Rattle.solver.specs.Solving.{withRoom, fileToSolve, certificateBytes, Gives, SolvesOr, SolvesFile}
+use Rattle.solver.specs.Solving.{withRoom, fileToSolve, certificateBytes, GivesRight, SolvesOr, SolvesFile}
 use Rattle.solver.specs.SolvingLaws.{gives-words, solved-gives}
 
-bytes-are : (c : Certificate) → certificateBytes c ≡ bytesOf (certificateWords c)
+pub bytes-are : (c : Certificate) → certificateBytes c ≡ bytesOf (certificateWords c)
 unfolding certificateBytes
 bytes-are c = refl
 
 module _ (limits : Limits) (fit : LimitsFit limits) (file entry exit : List ℕ) where
   -- the system's file is not at fault, the certificate's is whole words, and the check accepts their words
-  gives-accepted : {s : System} {count : ℕ} → readSystemFile limits file ≡ accepted s
-      → Gives limits certificateBytes s entry exit count → fileVerdict limits file (take count exit) ≡ accepted tt
+  pub gives-accepted : {s : System} {count : ℕ} → readSystemFile limits file ≡ accepted s
+      → GivesRight limits certificateBytes s entry exit count → fileVerdict limits file (take count exit) ≡ accepted tt
   unfolding readSystemFile fileVerdict
   gives-accepted {s} {count} e G =
       let ten = refuse-passed (broken file || tooLong limits file) 10 0 (readSystem limits (wordsOf file)) e in
@@ -54,7 +54,7 @@ module _ (limits : Limits) (fit : LimitsFit limits) (file entry exit : List ℕ)
   solved-file-accepted answer h count a =
       let given = solved-gives limits certificateBytes (4 * longestCertificate limits) (length entry) (readSystemFile limits file)
       entry exit answer h count a in
-      gives-accepted (given .1) (given .2)
+      gives-accepted (given .1) (given .2 .given)
 
 -- every system within the limits has a file, and for that file the solver gives a certificate's, which the check accepts
 module _ (limits : Limits) (fit : LimitsFit limits) (s : System) (within : SystemWithin limits s) (entry exit : List ℕ)

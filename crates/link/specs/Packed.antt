@@ -9,7 +9,8 @@ use Rattle.answers.specs.Packed.{packed}
 use Rattle.solver.specs.Solving.{SolvesFile}
 use Rattle.report.specs.Reporting.{ReportsFile}
 
--- some answer of the solver, packed: which certificate it is, is free as in `SolvesFile`
+-- the solver's answer, packed: as in `SolvesFile` the certificate is the chosen one (`Gives`), so that it is the only answer
+-- (`packed-unique`)
 pub record SolvesPacked (limits : Limits) (file entry exit : List ℕ) (r : ℕ) : Type 0 where
   pub answer : Outcome ℕ
   pub solves : SolvesFile limits file entry exit answer

@@ -5,17 +5,20 @@ use mathlib.Core.Path.{_≡_, refl, sym, ap, ap₂, _∙_, subst}
 use mathlib.Core.Logic.{_↔_}
 use mathlib.Core.List.{List}
 use native.Mathlib.Omega.{arith}
-use lib.ListN.{length}
+use lib.ListN.{length, take}
 use Rattle.words.specs.Limits.{Limits, longestCertificate}
 use Rattle.words.specs.LimitsLaws.{LimitsFit}
 use Rattle.words.specs.Word.{Bytes}
-use Rattle.words.specs.System.{SystemWithin, systemWords}
-use Rattle.words.specs.Bytes.{bytesOf}
+use Rattle.words.specs.System.{System, SystemWithin, systemWords}
+use Rattle.words.specs.Bytes.{bytesOf, readSystemFile}
 use Rattle.words.specs.TenFirst.{FileRefused}
 use Rattle.words.specs.Outcome.{Outcome}
 use Rattle.words.specs.Outcome.Outcome.{accepted, refused}
-use Rattle.solver.specs.Solving.{SolvesFile}
+use Rattle.write_frame.specs.Overwriting.{overwritten}
+use Rattle.solve_meaning.specs.Existence.{Suffices, chosenCertificate}
+use Rattle.solver.specs.Solving.{certificateBytes, SolvesFile}
 use Rattle.solver.specs.RefusedLaws.{RoomLast, solve-file-refused-iff}
+use Rattle.solver.specs.OneCertificate.{Call, file-solves-unique, file-solved-same, file-solved-card}
 use Rattle.verifier.specs.File.{fileVerdict}
 use Rattle.answers.specs.Packed.{packed, packedVerdict}
 use Rattle.link_values.specs.Refusals.{Numbers, numbers-wider}
@@ -59,6 +62,36 @@ solver-refused-iff {limits} {file} {entry} {exit} {r} fit small h number place l
 pub solver-packs-apart : {limits limits′ : Limits} {file entry exit file′ entry′ exit′ : List ℕ} {r : ℕ}
     (h : SolvesPacked limits file entry exit r) (k : SolvesPacked limits′ file′ entry′ exit′ r) → h .answer ≡ k .answer
 solver-packs-apart h k = sym (solver-unpacked h) ∙ solver-unpacked k
+
+-- it is a function of what was read and of what was lent, refusals too: on files that read the same
+module _ (limits : Limits) (fit : LimitsFit limits) (file file₁ : List ℕ)
+    (same : readSystemFile limits file ≡ readSystemFile limits file₁) where
+  pub packed-unique : (entry : List ℕ) {exit exit₁ : List ℕ} {r r₁ : ℕ} → SolvesPacked limits file entry exit r
+      → SolvesPacked limits file₁ entry exit₁ r₁ → (exit ≡ exit₁) × (r ≡ r₁)
+  packed-unique entry h h₁ =
+      let one = file-solves-unique limits fit file file₁ same entry (h .solves) (h₁ .solves) in
+      (one .0, h .packs ∙ ap packed (one .1) ∙ sym (h₁ .packs))
+
+  -- whatever was lent, the same number and the same bytes
+  pub packed-same : {entry exit entry₁ exit₁ : List ℕ} {r r₁ : ℕ} → SolvesPacked limits file entry exit r
+      → SolvesPacked limits file₁ entry₁ exit₁ r₁ → r % 64 ≡ 0 → r₁ % 64 ≡ 0
+      → (r ≡ r₁) × (take (r / 64) exit ≡ take (r₁ / 64) exit₁)
+  packed-same {entry} {exit} {entry₁} {exit₁} {r} {r₁} h h₁ z z₁ =
+      let x : Call = record { entry = entry; exit = exit; answer = unpacked r } in
+      let y : Call = record { entry = entry₁; exit = exit₁; answer = unpacked r₁ } in
+      let both = file-solved-same limits fit file file₁ same x y (solves-unpacked h) (solves-unpacked h₁) (r / 64) (r₁ / 64)
+      (unpacked-0 r z) (unpacked-0 r₁ z₁) in
+      (omega arith, both .1)
+
+-- where there is room it is the number of bytes of the system's certificate, and these stand over the first of the lent ones
+pub packed-card : (limits : Limits) {s : System} (h : SystemWithin limits s) (room : Suffices limits (s .rows) (s .columns))
+    {file entry exit : List ℕ} {r : ℕ} → readSystemFile limits file ≡ accepted s → 4 * longestCertificate limits ≤ length entry
+    → SolvesPacked limits file entry exit r
+    → (r ≡ 64 * length (certificateBytes (chosenCertificate limits s h room)))
+    × (exit ≡ overwritten (certificateBytes (chosenCertificate limits s h room)) entry)
+packed-card limits h room {file} {entry} {exit} is enough x =
+    let card = file-solved-card limits h room entry exit (x .answer) file is enough (x .solves) in
+    (x .packs ∙ ap packed (card .0), card .1)
 
 -- ---- the check
 

@@ -50,17 +50,16 @@ use Rattle.values.specs.RefusedLaws.{ShapeFirst, system-load-refused-iff, certi
 use Rattle.values.specs.HeldLaws.{InArrays, system-held, certificate-held}
 use Rattle.values.specs.RoundTrip.{SystemRoom, CertificateRoom, WritesSystem, WritesCertificate}
 use Rattle.values.specs.RoundTrip.{system-reads-back, system-loads-back, certificate-reads-back, certificate-loads-back}
+use Rattle.solve_meaning.specs.Existence.{officeCertificate}
 use Rattle.solver.specs.RefusedLaws.{RoomLast}
-use Rattle.solver.specs.OneCertificate.{Call, file-solved-same}
 use Rattle.link.specs.Packed.{SolvesPacked}
 use Rattle.link_values.specs.Files.{fileShape, fileKind, fileLookup, writeSystemFile}
 use Rattle.link_values.specs.Giving.{GivesPacked}
 use Rattle.link_values.specs.RefusedLaws.{FilesRefusedBy, NothingTried, shape-gives-iff, kind-gives-iff, lookup-gives-iff}
 use Rattle.link_values.specs.RefusedLaws.{write-gives-iff, unchanged-lookup, unchanged-write}
-use Rattle.link_values.specs.Unpacked.{unpacked}
-use Rattle.link.specs.PackedLaws.{unpacked-0, solves-unpacked, solver-refused-iff}
+use Rattle.link.specs.PackedLaws.{solver-refused-iff, packed-same, packed-unique}
 use Rattle.link.specs.Checked.{checkGives, checked-iff, checked-says, checked-refused-iff, checked-agree}
-use Rattle.link.specs.Together.{checkedAfter, every-system-checked, refused-unchanged}
+use Rattle.link.specs.Together.{checkedAfter, CardIn, every-system-checked, every-system-card, refused-unchanged}
 
 -- 1. "No words handed in, for sheet or card, can make a call read outside them, fail to end, or change a lent word when it refuses; each
 -- refusal has the number and place on the table, and is given under that condition only."
@@ -222,23 +221,23 @@ pub record Demand3 : Type 0 where
   pub solved : (s : System) → SystemWithin office s → {entry exit : List ℕ} {r : ℕ} → 4 * longestCertificate office ≤ length entry
       → SolvesPacked office (bytesOf (systemWords s)) entry exit r
       → (r % 64 ≡ 0) × (checkedAfter (bytesOf (systemWords s)) exit r ≡ 0)
-  -- and it is one card, whatever stood there: two calls give the same number and the same bytes
-  pub one-card : {file entry exit entry₁ exit₁ : List ℕ} {r r₁ : ℕ} → SolvesPacked office file entry exit r
-      → SolvesPacked office file entry₁ exit₁ r₁ → r % 64 ≡ 0 → r₁ % 64 ≡ 0 → (r ≡ r₁) × (take (r / 64) exit ≡ take (r₁ / 64) exit₁)
-
-same-card : {file entry exit entry₁ exit₁ : List ℕ} {r r₁ : ℕ} → SolvesPacked office file entry exit r
-    → SolvesPacked office file entry₁ exit₁ r₁ → r % 64 ≡ 0 → r₁ % 64 ≡ 0 → (r ≡ r₁) × (take (r / 64) exit ≡ take (r₁ / 64) exit₁)
-same-card {file} {entry} {exit} {entry₁} {exit₁} {r} {r₁} h h₁ z z₁ =
-    let x : Call = record { entry = entry; exit = exit; answer = unpacked r } in
-    let y : Call = record { entry = entry₁; exit = exit₁; answer = unpacked r₁ } in
-    let same = file-solved-same office office-fits x y file (solves-unpacked h) (solves-unpacked h₁) (r / 64) (r₁ / 64)
-    (unpacked-0 r z) (unpacked-0 r₁ z₁) in
-    (omega arith, same .1)
+  -- which card it is, is a function of the sheet: what the call returns and leaves is the written form of the sheet's own card
+  pub card : (s : System) (h : SystemWithin office s) → {entry exit : List ℕ} {r : ℕ} → 4 * longestCertificate office ≤ length entry
+      → SolvesPacked office (bytesOf (systemWords s)) entry exit r → CardIn (certificateWords (officeCertificate s h)) entry exit r
+  -- so calls on the same sheet give the same number and the same bytes, whatever stood there and whatever file it was read from
+  pub one-card : {file file₁ entry exit entry₁ exit₁ : List ℕ} {r r₁ : ℕ} → readSystemFile office file ≡ readSystemFile office file₁
+      → SolvesPacked office file entry exit r → SolvesPacked office file₁ entry₁ exit₁ r₁ → r % 64 ≡ 0 → r₁ % 64 ≡ 0
+      → (r ≡ r₁) × (take (r / 64) exit ≡ take (r₁ / 64) exit₁)
+  -- and all is the same where the same was lent, refusals too
+  pub one-answer : {file file₁ entry exit exit₁ : List ℕ} {r r₁ : ℕ} → readSystemFile office file ≡ readSystemFile office file₁
+      → SolvesPacked office file entry exit r → SolvesPacked office file₁ entry exit₁ r₁ → (exit ≡ exit₁) × (r ≡ r₁)
 
 pub demand-3 : Demand3
 demand-3 = record {
   truth = checked-says;
   one-kind = checked-agree;
   solved = λ s within room. every-system-checked s within room;
-  one-card = same-card;
+  card = every-system-card;
+  one-card = λ {file} {file₁} same. packed-same office office-fits file file₁ same;
+  one-answer = λ {file} {file₁} {entry} same. packed-unique office office-fits file file₁ same entry;
 }

@@ -1,7 +1,7 @@
 -- The two exported calls together (demand 3, its last sentence, on bytes): `yezsdolak_check` gives 0 on what `yezsdolak_solve` gave,
 -- and for every system's file `yezsdolak_solve` gives a count.
 use Prim.Native.Nat.{ℕ, _*_, _/_, _%_, _≤_}
-use mathlib.Core.Path.{_≡_, refl, ap, _∙_}
+use mathlib.Core.Path.{_≡_, refl, ap, _∙_, subst}
 use mathlib.Core.List.{List}
 use native.Mathlib.Omega.{arith}
 use lib.ListN.{length, take}
@@ -11,14 +11,18 @@ use Rattle.words.specs.Outcome.{Outcome}
 use Rattle.words.specs.Outcome.Outcome.{accepted, refused}
 use Rattle.words.specs.System.{System, SystemWithin, systemWords}
 use Rattle.words.specs.Bytes.{bytesOf}
+use Rattle.words.specs.BytesLaws.{file-read-of-written}
+use Rattle.words.specs.Certificate.{certificateWords}
+use Rattle.write_frame.specs.Overwriting.{overwritten}
+use Rattle.solve_meaning.specs.Existence.{office-suffices, officeCertificate}
 use Rattle.verifier.specs.File.{fileVerdict}
 use Rattle.solver.specs.Solving.{fileToSolve, certificateBytes, SolvesFile}
 use Rattle.solver.specs.SolvingLaws as solver
-use Rattle.link.specs.FileLaws.{solved-file-accepted, every-file-solved}
+use Rattle.link.specs.FileLaws.{bytes-are, solved-file-accepted, every-file-solved}
 use Rattle.answers.specs.Packed.{packed, packedVerdict}
 use Rattle.link.specs.Packed.{SolvesPacked}
 use Rattle.link_values.specs.Unpacked.{refusedUnless0, unpacked}
-use Rattle.link.specs.PackedLaws.{solves-unpacked}
+use Rattle.link.specs.PackedLaws.{solves-unpacked, packed-card}
 
 -- what the check is handed: the system's file, and as many of the lent bytes as the solver counted
 abbrev pub checkedAfter : (file exit : List ℕ) (r : ℕ) → ℕ
@@ -39,6 +43,18 @@ module _ (s : System) (within : SystemWithin office s) {entry exit : List ℕ} {
       let packs = h .packs ∙ ap packed (solved .1) in
       let count : r % 64 ≡ 0 = omega arith in
       (count, solved-checked h count)
+
+-- a certificate's words as bytes: the number is how many these are, packed, and they stand over the first of the lent ones
+abbrev pub CardIn : (words entry exit : List ℕ) → ℕ → Type 0
+CardIn words entry exit r = (r ≡ 64 * length (bytesOf words)) × (exit ≡ overwritten (bytesOf words) entry)
+
+-- for every system's file, those of the system's own certificate
+pub every-system-card : (s : System) (h : SystemWithin office s) → {entry exit : List ℕ} {r : ℕ}
+    → 4 * longestCertificate office ≤ length entry → SolvesPacked office (bytesOf (systemWords s)) entry exit r
+    → CardIn (certificateWords (officeCertificate s h)) entry exit r
+every-system-card s h {entry} {exit} {r} room x =
+    subst (λ bs. (r ≡ 64 * length bs) × (exit ≡ overwritten bs entry)) (bytes-are (officeCertificate s h))
+    (packed-card office h (office-suffices s h) (file-read-of-written office office-fits s h) room x)
 
 -- where the solver refuses, the lent bytes stand as before
 pub refused-unchanged : {file entry exit : List ℕ} {r : ℕ} → SolvesPacked office file entry exit r → ¬ (r % 64 ≡ 0) → exit ≡ entry

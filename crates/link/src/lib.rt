@@ -32,8 +32,8 @@ pub extern "C" fn yezsdolak_version() -> u64
     library_version()
 }
 
-// Writes a certificate's file for a system's over the first of the lent bytes. Returns the number of its bytes, or the refusal, as
-// one number.
+// Writes the file of a system's chosen certificate over the first of the lent bytes. Returns the number of its bytes, or the
+// refusal, as one number.
 #[no_mangle]
 pub extern "C" fn yezsdolak_solve(system: &[u8], certificate: &mut [u8]) -> u64
     ensures { λ r. ⌜ SolvesPacked office (now (system .entry)) (now (certificate .entry)) (now (certificate .exit)) r ⌝ }

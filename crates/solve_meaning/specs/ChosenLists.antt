@@ -124,7 +124,7 @@ module _ (limits : Limits) (s : System) (h : SystemWithin limits s) where
 
   module _ (D W : Polynomial (residues (s .modulus) (h .shape .prime))) (ν ζ : ℕ → Polynomial (residues (s .modulus) (h .shape .prime)))
       (d w : List ℕ) (N Z : List (List ℕ)) (ed : d ≡ listed D) (ew : w ≡ listed W)
-      (eN : (j : ℕ) → j < s .columns → getD N j [] ≡ listed (ν j)) (count : length Z ≡ s .rows)
+      (countN : length N ≡ s .columns) (eN : (j : ℕ) → j < s .columns → getD N j [] ≡ listed (ν j)) (count : length Z ≡ s .rows)
       (eZ : (i : ℕ) → i < s .rows → getD Z i [] ≡ listed (ζ i)) where
     reduced-lists : ReducedNumerators (sized (residues p prime)) (s .rows) (s .columns) (T .matrix) ν → ReducedModuloRelations s N
     reduced-lists r j l v X =
@@ -188,6 +188,14 @@ module _ (limits : Limits) (s : System) (h : SystemWithin limits s) where
       pub solution-chosen : RightSolutionIn (euclidean (residues p prime)) T D ν W ζ
           → ReducedNumerators (sized (residues p prime)) (s .rows) (s .columns) (T .matrix) ν → ChosenSolution s d N w Z
       solution-chosen C r = record {
+        proper = record {
+          denominator = rw ed (Lists.list-canonical p prime D);
+          numerators = Vectors.all-canonical-lists p prime (s .columns) ν N countN eN;
+          count = countN;
+          certifyingDenominator = rw ew (Lists.list-canonical p prime W);
+          certifyingNumerators = Vectors.all-canonical-lists p prime (s .rows) ζ Z count eZ;
+        };
+        count = count;
         right = solution-right limits s h C d w N Z ed ew eN eZ;
         reduced = reduced-lists r;
         inverts = inverts-lists;
@@ -201,6 +209,8 @@ module _ (limits : Limits) (s : System) (h : SystemWithin limits s) where
       → (K : Killing (sized (residues (s .modulus) (h .shape .prime))) (s .rows) (s .columns) (T .matrix) (T .side) κ)
       → MonicIn (residues (s .modulus) (h .shape .prime)) (κ (K .at)) → ChosenAbsence s q
   absence-chosen {κ} q count eq C K monic = record {
+    proper = Vectors.all-canonical-lists p prime (s .rows) κ q count eq;
+    count = count;
     right = absence-right limits s h C q eq;
     at = K .at;
     added = record {

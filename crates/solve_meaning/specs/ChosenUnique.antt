@@ -1,4 +1,5 @@
--- There is only one chosen certificate of a system: over the residues it is what `reduction` shows to be the only one of its kind.
+-- There is only one chosen certificate of a system, whatever its degrees: over the residues it is what `reduction` shows to be the
+-- only one of its kind.
 use Prim.Native.Nat.{ℕ, _<_}
 use mathlib.Core.Path.{_≡_, refl, sym, _∙_, ap, ap₂, subst}
 use mathlib.Core.List.{List, [], _∷_}
@@ -24,17 +25,16 @@ use Rattle.reduction.specs.Numerators.{ReducedNumerators, numerators-unique}
 use Rattle.reduction.specs.Certifying.{Certifying, certifying-unique}
 use Rattle.reduction.specs.Killing.{Killing, killing-at, killing-unique}
 use Rattle.words.specs.Limits.{Limits}
-use Rattle.words.specs.System.{System, SystemWithin, shape}
-use Rattle.words.specs.Certificate.{Certificate, CertificateWithin, SolutionWithin}
+use Rattle.words.specs.System.{System, SystemWithin}
+use Rattle.words.specs.Certificate.{Certificate}
 use Rattle.words.specs.Certificate.Certificate.{solution, absence}
-use Rattle.truth.specs.Solution.{AllCanonical, Answer, Clears, Denominator, Monic}
-use Rattle.truth.specs.Solution.Answer.{none, least}
+use Rattle.truth.specs.Solution.{AllCanonical, Clears, Denominator, Monic}
 use Rattle.truth.specs.Truth.{ProperSolution, answer-unique}
-use Rattle.truth.specs.Accepted.{all-canonical, proper, proper-solution}
+use Rattle.truth.specs.Accepted.{proper}
 use Rattle.truth.specs.Lift.{canonical-at}
 use Rattle.truth.specs.Denominators.{denominator-divides}
-use Rattle.truth.specs.Chosen.{ChosenSolution, ChosenAbsence, Chosen, chosen-right, combinationOf}
-use Rattle.solve_meaning.specs.Answers.{answerOf, right-answers}
+use Rattle.truth.specs.Chosen.{ChosenSolution, ChosenAbsence, Chosen, combinationOf}
+use Rattle.solve_meaning.specs.Answers.{answerOf, distinct, least-same, chosen-answers}
 use Rattle.solve_meaning.specs.Lists
 use Rattle.solve_meaning.specs.Lists.{listOf}
 use Rattle.solve_meaning.specs.Vectors
@@ -43,18 +43,6 @@ use Rattle.solve_meaning.specs.Equations.{equated, side-list}
 use Rattle.solve_meaning.specs.RightLists.{row-is, column-is, side-is}
 use Rattle.solve_meaning.specs.PivotLists
 use Rattle.solve_meaning.specs.PivotLists.{long, relation-out, pivot-in, column-pivot-in, column-pivot-out}
-
-denominatorOf : Answer → List ℕ
-denominatorOf none = []
-denominatorOf (least d) = d
-
-IsLeast : Answer → Type 0
-IsLeast none = ⊥
-IsLeast (least d) = Unit {0}
-
-distinct : (d : List ℕ) → ¬ (least d ≡ none)
-unfolding IsLeast
-distinct d e = subst IsLeast e tt
 
 -- w is the denominator of Z/w: then Z/w is in lowest terms
 module _ (p : ℕ) (prime : Prime p) (w : List ℕ) (hw : Canonical p w) (Z : List (List ℕ)) (hZ : AllCanonical p Z)
@@ -125,28 +113,27 @@ module _ (limits : Limits) (s : System) (h : SystemWithin limits s) where
 
   -- ---- solutions
 
-  module _ {d : List ℕ} {N : List (List ℕ)} {w : List ℕ} {Z : List (List ℕ)} (P : SolutionWithin limits (shape s) d N w Z)
-      (C : ChosenSolution s d N w Z) where
+  module _ {d : List ℕ} {N : List (List ℕ)} {w : List ℕ} {Z : List (List ℕ)} (C : ChosenSolution s d N w Z) where
     abbrev H : ProperSolution s d N w Z
-    H = proper-solution limits s d N w Z P
+    H = C .proper
 
     abbrev D : Polynomial (residues (s .modulus) (h .shape .prime))
-    D = polynomialModulo (s .modulus) (h .shape .prime) d (P .denominator .canonical)
+    D = polynomialModulo (s .modulus) (h .shape .prime) d (C .proper .denominator)
 
     abbrev W : Polynomial (residues (s .modulus) (h .shape .prime))
-    W = polynomialModulo (s .modulus) (h .shape .prime) w (P .certifyingDenominator .canonical)
+    W = polynomialModulo (s .modulus) (h .shape .prime) w (C .proper .certifyingDenominator)
 
     abbrev ν : ℕ → Polynomial (residues (s .modulus) (h .shape .prime))
-    ν = vectorModulo (s .modulus) (h .shape .prime) N (proper-solution limits s d N w Z P .numerators)
+    ν = vectorModulo (s .modulus) (h .shape .prime) N (C .proper .numerators)
 
     abbrev ζ : ℕ → Polynomial (residues (s .modulus) (h .shape .prime))
-    ζ = vectorModulo (s .modulus) (h .shape .prime) Z (proper-solution limits s d N w Z P .certifyingNumerators)
+    ζ = vectorModulo (s .modulus) (h .shape .prime) Z (C .proper .certifyingNumerators)
 
     ed : d ≡ list D
-    ed = Vectors.polynomial-list p prime d (P .denominator .canonical)
+    ed = Vectors.polynomial-list p prime d (C .proper .denominator)
 
     ew : w ≡ list W
-    ew = Vectors.polynomial-list p prime w (P .certifyingDenominator .canonical)
+    ew = Vectors.polynomial-list p prime w (C .proper .certifyingDenominator)
 
     eN : (j : ℕ) → getD N j [] ≡ list (ν j)
     eN = Vectors.vector-list p prime N (H .numerators)
@@ -189,7 +176,7 @@ module _ (limits : Limits) (s : System) (h : SystemWithin limits s) where
     certifying : Certifying (sized F) (s .rows) (s .columns) (T .matrix) (T .side) D W ζ
     unfolding side
     certifying = record {
-      nonzero = denominator-nonzero p prime w (P .certifyingDenominator .canonical) Z (H .certifyingNumerators) (C .lowest);
+      nonzero = denominator-nonzero p prime w (C .proper .certifyingDenominator) Z (H .certifyingNumerators) (C .lowest);
       columns = λ j l. Vectors.polynomial-divides p prime W _ w _ ew (column-is limits s h ζ Z (λ i l. eZ i) j) (C .right .columns j l);
       cofactor = R .add side (R .neg (R .mul t W));
       quotient = combination R W (R .mul D (R .add side (R .neg (R .mul t W)))) (given (R .neg (R .one)) inverts ∷ [])
@@ -212,46 +199,45 @@ module _ (limits : Limits) (s : System) (h : SystemWithin limits s) where
             pivot = pivot-in limits s h (u .pivot);
             short = omega (arith, x .short, long limits s h (ζ i) (eZ i), long limits s h W ew);
           };
-      lowest = λ c y e. denominator-lowest p prime w (P .certifyingDenominator .canonical) Z (H .certifyingNumerators) (C .lowest) c y
-          (λ i l. e i (omega (arith, P .certifyingNumerators .count)));
+      lowest = λ c y e. denominator-lowest p prime w (C .proper .certifyingDenominator) Z (H .certifyingNumerators) (C .lowest) c y
+          (λ i l. e i (omega (arith, C .count)));
     }
 
-  module _ {d d₁ w w₁ : List ℕ} {N N₁ Z Z₁ : List (List ℕ)} (P : SolutionWithin limits (shape s) d N w Z)
-      (P₁ : SolutionWithin limits (shape s) d₁ N₁ w₁ Z₁) (C : ChosenSolution s d N w Z) (C₁ : ChosenSolution s d₁ N₁ w₁ Z₁)
+  module _ {d d₁ w w₁ : List ℕ} {N N₁ Z Z₁ : List (List ℕ)} (C : ChosenSolution s d N w Z) (C₁ : ChosenSolution s d₁ N₁ w₁ Z₁)
       (same : d ≡ d₁) where
-    D-same : D P C ≡ D P₁ C₁
-    D-same = Vectors.list-injective p prime _ _ (sym (ed P C) ∙ same ∙ ed P₁ C₁)
+    D-same : D C ≡ D C₁
+    D-same = Vectors.list-injective p prime _ _ (sym (ed C) ∙ same ∙ ed C₁)
 
-    numerators-same : (j : ℕ) → j < s .columns → ν P C j ≡ ν P₁ C₁ j
-    numerators-same = numerators-unique (sized F) (s .rows) (s .columns) (T .matrix) (ν P C) (ν P₁ C₁)
-        (λ i k. solves P C i k ∙ ap (λ x. R .mul x (T .side i)) D-same ∙ sym (solves P₁ C₁ i k))
-        (reduced P C) (reduced P₁ C₁)
+    numerators-same : (j : ℕ) → j < s .columns → ν C j ≡ ν C₁ j
+    numerators-same = numerators-unique (sized F) (s .rows) (s .columns) (T .matrix) (ν C) (ν C₁)
+        (λ i k. solves C i k ∙ ap (λ x. R .mul x (T .side i)) D-same ∙ sym (solves C₁ i k))
+        (reduced C) (reduced C₁)
 
-    certifying-same : (W P C ≡ W P₁ C₁) × ((i : ℕ) → i < s .rows → ζ P C i ≡ ζ P₁ C₁ i)
-    certifying-same = certifying-unique (sized F) (s .rows) (s .columns) (T .matrix) (T .side) (certifying P C)
-        (subst (λ x. Certifying (sized F) (s .rows) (s .columns) (T .matrix) (T .side) x (W P₁ C₁) (ζ P₁ C₁)) (sym D-same)
-        (certifying P₁ C₁))
-        (monic-associates F (W P C) (W P₁ C₁)
-        (denominator-monic p prime w (P .certifyingDenominator .canonical) Z (H P C .certifyingNumerators) (C .lowest))
-        (denominator-monic p prime w₁ (P₁ .certifyingDenominator .canonical) Z₁ (H P₁ C₁ .certifyingNumerators) (C₁ .lowest)))
+    certifying-same : (W C ≡ W C₁) × ((i : ℕ) → i < s .rows → ζ C i ≡ ζ C₁ i)
+    certifying-same = certifying-unique (sized F) (s .rows) (s .columns) (T .matrix) (T .side) (certifying C)
+        (subst (λ x. Certifying (sized F) (s .rows) (s .columns) (T .matrix) (T .side) x (W C₁) (ζ C₁)) (sym D-same)
+        (certifying C₁))
+        (monic-associates F (W C) (W C₁)
+        (denominator-monic p prime w (C .proper .certifyingDenominator) Z (H C .certifyingNumerators) (C .lowest))
+        (denominator-monic p prime w₁ (C₁ .proper .certifyingDenominator) Z₁ (H C₁ .certifyingNumerators) (C₁ .lowest)))
 
     solution-unique : solution d N w Z ≡ solution d₁ N₁ w₁ Z₁
     solution-unique =
         ap (λ x. solution x N w Z) same
-        ∙ ap (λ x. solution d₁ x w Z) (same-lists (s .columns) N N₁ (ν P C) (ν P₁ C₁) (P .numerators .count) (P₁ .numerators .count)
-        (λ j l. eN P C j) (λ j l. eN P₁ C₁ j) numerators-same)
-        ∙ ap (λ x. solution d₁ N₁ x Z) (ew P C ∙ ap list (certifying-same .0) ∙ sym (ew P₁ C₁))
-        ∙ ap (solution d₁ N₁ w₁) (same-lists (s .rows) Z Z₁ (ζ P C) (ζ P₁ C₁) (P .certifyingNumerators .count)
-        (P₁ .certifyingNumerators .count) (λ i l. eZ P C i) (λ i l. eZ P₁ C₁ i) (certifying-same .1))
+        ∙ ap (λ x. solution d₁ x w Z) (same-lists (s .columns) N N₁ (ν C) (ν C₁) (C .proper .count) (C₁ .proper .count)
+        (λ j l. eN C j) (λ j l. eN C₁ j) numerators-same)
+        ∙ ap (λ x. solution d₁ N₁ x Z) (ew C ∙ ap list (certifying-same .0) ∙ sym (ew C₁))
+        ∙ ap (solution d₁ N₁ w₁) (same-lists (s .rows) Z Z₁ (ζ C) (ζ C₁) (C .count)
+        (C₁ .count) (λ i l. eZ C i) (λ i l. eZ C₁ i) (certifying-same .1))
 
   -- ---- absences
 
-  module _ {q : List (List ℕ)} (hq : AllCanonical (s .modulus) q) (count : length q ≡ s .rows) (C : ChosenAbsence s q) where
+  module _ {q : List (List ℕ)} (C : ChosenAbsence s q) where
     abbrev κ : ℕ → Polynomial (residues (s .modulus) (h .shape .prime))
-    κ = vectorModulo (s .modulus) (h .shape .prime) q hq
+    κ = vectorModulo (s .modulus) (h .shape .prime) q (C .proper)
 
     eq : (i : ℕ) → getD q i [] ≡ list (κ i)
-    eq = Vectors.vector-list p prime q hq
+    eq = Vectors.vector-list p prime q (C .proper)
 
     killing : Killing (sized F) (s .rows) (s .columns) (T .matrix) (T .side) κ
     killing = record {
@@ -267,48 +253,42 @@ module _ (limits : Limits) (s : System) (h : SystemWithin limits s) where
       pivot = pivot-in limits s h (C .added .pivot);
       added = λ X. C .new (column-pivot-out limits s h X);
       support = λ i l ne nz. column-pivot-in limits s h (C .support i l ne (λ z. nz (PivotLists.none limits s h (eq i) z)));
-      nonzero = denominator-nonzero p prime (getD q (C .at) []) (canonical-at p q hq (C .at)) q hq (C .lowest);
-      lowest = λ c y e. denominator-lowest p prime (getD q (C .at) []) (canonical-at p q hq (C .at)) q hq (C .lowest) c y
-          (λ i l. e i (omega (arith, count)));
+      nonzero = denominator-nonzero p prime (getD q (C .at) []) (canonical-at p q (C .proper) (C .at)) q (C .proper) (C .lowest);
+      lowest = λ c y e. denominator-lowest p prime (getD q (C .at) []) (canonical-at p q (C .proper) (C .at)) q (C .proper)
+          (C .lowest) c y (λ i l. e i (omega (arith, C .count)));
     }
 
     monic-at : MonicIn F (κ (C .at))
-    monic-at = denominator-monic p prime (getD q (C .at) []) (canonical-at p q hq (C .at)) q hq (C .lowest)
+    monic-at = denominator-monic p prime (getD q (C .at) []) (canonical-at p q (C .proper) (C .at)) q (C .proper) (C .lowest)
 
-  absence-unique : {q q₁ : List (List ℕ)} → AllCanonical p q → AllCanonical p q₁ → length q ≡ s .rows → length q₁ ≡ s .rows
-      → ChosenAbsence s q → ChosenAbsence s q₁ → absence q ≡ absence q₁
+  absence-unique : {q q₁ : List (List ℕ)} → ChosenAbsence s q → ChosenAbsence s q₁ → absence q ≡ absence q₁
   unfolding killing
-  absence-unique {q} {q₁} hq hq₁ a a₁ C C₁ = ap absence (same-lists (s .rows) q q₁ (κ hq a C) (κ hq₁ a₁ C₁) a a₁
-      (λ i l. eq hq a C i) (λ i l. eq hq₁ a₁ C₁ i)
+  absence-unique {q} {q₁} C C₁ = ap absence (same-lists (s .rows) q q₁ (κ C) (κ C₁) (C .count) (C₁ .count)
+      (λ i l. eq C i) (λ i l. eq C₁ i)
       (killing-unique (sized F) (s .rows) (s .columns) (T .matrix) (T .side) K K₁ (λ x y.
-      monic-associates F (κ hq a C (C .at)) (κ hq₁ a₁ C₁ (C .at)) (monic-at hq a C)
-      (subst (λ i. MonicIn F (κ hq₁ a₁ C₁ i)) (sym at) (monic-at hq₁ a₁ C₁)) x
-      (subst (λ i. DividesIn R (κ hq₁ a₁ C₁ i) (κ hq a C i)) (sym at) y))))
+      monic-associates F (κ C (C .at)) (κ C₁ (C .at)) (monic-at C)
+      (subst (λ i. MonicIn F (κ C₁ i)) (sym at) (monic-at C₁)) x
+      (subst (λ i. DividesIn R (κ C₁ i) (κ C i)) (sym at) y))))
     where
-      K : Killing (sized F) (s .rows) (s .columns) (T .matrix) (T .side) (κ hq a C)
-      K = killing hq a C
+      K : Killing (sized F) (s .rows) (s .columns) (T .matrix) (T .side) (κ C)
+      K = killing C
 
-      K₁ : Killing (sized F) (s .rows) (s .columns) (T .matrix) (T .side) (κ hq₁ a₁ C₁)
-      K₁ = killing hq₁ a₁ C₁
+      K₁ : Killing (sized F) (s .rows) (s .columns) (T .matrix) (T .side) (κ C₁)
+      K₁ = killing C₁
 
       at : C .at ≡ C₁ .at
       at = killing-at (sized F) (s .rows) (s .columns) (T .matrix) (T .side) K K₁
 
   -- ---- of two certificates, whatever their kinds
 
-  same-answer : (c c₁ : Certificate) → CertificateWithin limits (shape s) c → CertificateWithin limits (shape s) c₁
-      → Chosen s c → Chosen s c₁ → answerOf c ≡ answerOf c₁ → c ≡ c₁
-  unfolding CertificateWithin Chosen answerOf denominatorOf
-  same-answer (solution d N w Z) (solution d₁ N₁ w₁ Z₁) k k₁ C C₁ e = solution-unique k k₁ C C₁ (ap denominatorOf e)
-  same-answer (absence q) (absence q₁) k k₁ C C₁ e = absence-unique
-      (all-canonical p (limits .certificateCoefficients) q (k .entries))
-      (all-canonical p (limits .certificateCoefficients) q₁ (k₁ .entries))
-      (k .count) (k₁ .count) C C₁
-  same-answer (solution d N w Z) (absence q) k k₁ C C₁ e = absurd (distinct d e)
-  same-answer (absence q) (solution d N w Z) k k₁ C C₁ e = absurd (distinct d (sym e))
+  same-answer : (c c₁ : Certificate) → Chosen s c → Chosen s c₁ → answerOf c ≡ answerOf c₁ → c ≡ c₁
+  unfolding Chosen answerOf
+  same-answer (solution d N w Z) (solution d₁ N₁ w₁ Z₁) C C₁ e = solution-unique C C₁ (least-same e)
+  same-answer (absence q) (absence q₁) C C₁ e = absence-unique C C₁
+  same-answer (solution d N w Z) (absence q) C C₁ e = absurd (distinct d e)
+  same-answer (absence q) (solution d N w Z) C C₁ e = absurd (distinct d (sym e))
 
-  -- all that the solver gives is decided by the system
-  pub chosen-unique : (c c₁ : Certificate) → CertificateWithin limits (shape s) c → CertificateWithin limits (shape s) c₁
-      → Chosen s c → Chosen s c₁ → c ≡ c₁
-  chosen-unique c c₁ k k₁ C C₁ = same-answer c c₁ k k₁ C C₁ (answer-unique s (proper limits s h) (answerOf c) (answerOf c₁)
-      (right-answers limits s h c k (chosen-right s c C)) (right-answers limits s h c₁ k₁ (chosen-right s c₁ C₁)))
+  -- all that the solver gives is decided by the system; the limits are those that the system keeps, whichever these are
+  pub chosen-unique : (c c₁ : Certificate) → Chosen s c → Chosen s c₁ → c ≡ c₁
+  chosen-unique c c₁ C C₁ = same-answer c c₁ C C₁ (answer-unique s (proper limits s h) (answerOf c) (answerOf c₁)
+      (chosen-answers s (proper limits s h) c C) (chosen-answers s (proper limits s h) c₁ C₁))

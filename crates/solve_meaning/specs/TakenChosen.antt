@@ -35,6 +35,7 @@ module _ (limits : Limits) (s : System) (h : SystemWithin limits s) (output : Li
   taken-chosen true H = solution-chosen limits s h (H .d) (H .w) (H .N) (H .Z) _ _ _ _
       (taken-list p prime output 0 (H .d) (H .holds-d) (H .small .denominator))
       (taken-list p prime output (1 + s .columns) (H .w) (H .holds-w) (H .small .certifying-denominator))
+      (taken-count p output 1 (s .columns))
       (taken-lists p prime output 1 (s .columns) (H .N) (H .holds-N) (H .small .numerators))
       (taken-count p output (2 + s .columns) (s .rows))
       (taken-lists p prime output (2 + s .columns) (s .rows) (H .Z) (H .holds-Z) (H .small .certifying-numerators))

@@ -1,9 +1,9 @@
 -- Vectors of polynomials over the residues modulo p, and lists of lists of numbers: there and back.
 use Prim.Native.Nat.{ℕ, zero, suc, _<_}
 use mathlib.Core.Path.{_≡_, sym, _∙_, ap₂}
-use mathlib.Core.List.{List, []}
+use mathlib.Core.List.{List, [], _∷_}
 use native.Mathlib.Omega.{arith}
-use lib.ListN.{getD}
+use lib.ListN.{length, getD}
 use Rattle.ring.specs.Ring.{Ring}
 use Rattle.algebra.specs.Polynomial.{Polynomial, polynomials}
 use Rattle.algebra.specs.Coefficients
@@ -22,6 +22,12 @@ all-canonical : (p n : ℕ) (f : ℕ → List ℕ) → ((i : ℕ) → i < n → 
 unfolding listed AllCanonical
 all-canonical p zero f h = tt
 all-canonical p (suc n) f h = (h 0 (omega arith), all-canonical p n (λ i. f (suc i)) (λ i k. h (suc i) (omega arith)))
+
+-- a list of polynomials, each by itself
+canonical-each : (p : ℕ) (fs : List (List ℕ)) → ((i : ℕ) → i < length fs → Canonical p (getD fs i [])) → AllCanonical p fs
+unfolding AllCanonical
+canonical-each p [] h = tt
+canonical-each p (f ∷ fs) h = (h 0 (omega arith), canonical-each p fs (λ i k. h (suc i) (omega arith)))
 
 module _ (p : ℕ) (prime : Prime p) where
   abbrev R : Ring (Polynomial (residues p prime))
@@ -43,6 +49,10 @@ module _ (p : ℕ) (prime : Prime p) where
 
   pub lists-canonical : (n : ℕ) (x : ℕ → Polynomial (residues p prime)) → AllCanonical p (lists n x)
   lists-canonical n x = all-canonical p n (λ i. listOf p prime (x i)) (λ i h. list-canonical p prime (x i))
+
+  pub all-canonical-lists : (n : ℕ) (x : ℕ → Polynomial (residues p prime)) (fs : List (List ℕ)) → length fs ≡ n
+      → ((i : ℕ) → i < n → getD fs i [] ≡ listOf p prime (x i)) → AllCanonical p fs
+  all-canonical-lists n x fs count e = canonical-each p fs (λ i k. rw (e i (omega arith)) (list-canonical p prime (x i)))
 
   -- and from lists to polynomials
   abbrev pub polynomialModulo : (f : List ℕ) → Canonical p f → Polynomial (residues p prime)

@@ -12,21 +12,26 @@ use Rattle.words.specs.BytesLaws.{length-bytesOf}
 use Rattle.words.specs.System.{System, readSystem}
 use Rattle.words.specs.Certificate.{certificateWords}
 use Rattle.write_frame.specs.Overwriting.{overwritten}
-use Rattle.solver.specs.Solving.{withRoom, certificateBytes, Gives, SolvesOr, Solves}
+use Rattle.solver.specs.Solving.{withRoom, certificateBytes, GivesRight, Gives, SolvesOr, Solves}
 use Rattle.solver.specs.SolvingLaws.{room-enough, gives-words, solved-gives}
 
 module _ {s : System} {count : ℕ} {entry exit : List ℕ} (G : Gives office certificateWords s entry exit count) where
+  abbrev C : GivesRight office certificateWords s entry exit count
+  C = G .given
+
   pub gives-bytes : (lent after : List ℕ) → after ≡ overwritten (bytesOf (take count exit)) lent
       → Gives office certificateBytes s lent after (4 * count)
   unfolding certificateBytes
   gives-bytes lent after is = record {
-    certificate = G .certificate;
-    within = G .within;
-    right = G .right;
-    answers = G .answers;
+    given = record {
+      certificate = C .certificate;
+      within = C .within;
+      right = C .right;
+      answers = C .answers;
+      words = is ∙ ap (λ l. overwritten (bytesOf l) lent) (gives-words C);
+      same-count = ap (λ n. 4 * n) (C .same-count) ∙ sym (length-bytesOf (certificateWords (C .certificate)));
+    };
     chosen = G .chosen;
-    words = is ∙ ap (λ l. overwritten (bytesOf l) lent) (gives-words G);
-    same-count = ap (λ n. 4 * n) (G .same-count) ∙ sym (length-bytesOf (certificateWords (G .certificate)));
   }
 
 -- what `solve` told of words for which there was room

@@ -28,11 +28,13 @@ module _ {h : Shape} {ws : List ℕ} (R : Read h ws) (output : List ℕ) (solved
       let W = subst (λ c. Wrote (certificateWords c) entry exit count)
       (ap₂ (λ g f. takenCertificate g f output) (same-shape R e) is) wrote in
       record {
-        certificate = takenCertificate (shape s) (formWhen solved) output;
-        within = C .within;
-        right = chosen-right s (takenCertificate (shape s) (formWhen solved) output) (C .chosen);
-        answers = C .answers;
+        given = record {
+          certificate = takenCertificate (shape s) (formWhen solved) output;
+          within = C .within;
+          right = chosen-right s (takenCertificate (shape s) (formWhen solved) output) (C .chosen);
+          answers = C .answers;
+          words = W .words;
+          same-count = W .count;
+        };
         chosen = C .chosen;
-        words = W .words;
-        same-count = W .count;
       }

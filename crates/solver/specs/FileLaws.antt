@@ -11,7 +11,7 @@ use Rattle.words.specs.Limits.{Limits, longestSystem, longestCertificate}
 use Rattle.words.specs.LimitsLaws.{LimitsFit}
 use Rattle.words.specs.Outcome.{Outcome, refuse}
 use Rattle.words.specs.Outcome.Outcome.{accepted, refused}
-use Rattle.words.specs.OutcomeLaws.{refused-accepted, followedBy-accepted, refuse-passed}
+use Rattle.words.specs.OutcomeLaws.{refused-accepted}
 use Rattle.words.specs.RefusedLaws.{file-place}
 use Rattle.words.specs.System.{System, shape}
 use Rattle.words.specs.Bytes.{readSystemFile}
@@ -19,7 +19,8 @@ use Rattle.words.specs.BytesLaws.{length-bytesOf, file-within}
 use Rattle.words.specs.Certificate.{certificateWords}
 use Rattle.words.specs.CertificateLaws.{certificateWords-most}
 use Rattle.answers.specs.Packed.{AnswerMost}
-use Rattle.solver.specs.Solving.{withRoom, fileToSolve, certificateBytes, Gives, SolvesOr, SolvesFile}
+use Rattle.solver.specs.Solving.{withRoom, fileToSolve, certificateBytes, GivesRight, SolvesOr, SolvesFile}
+use Rattle.solver.specs.SolvingLaws.{room-read}
 
 -- 11 is at 0
 room-place : (most longest lent : ℕ) (o : Outcome System)
@@ -33,8 +34,8 @@ room-place most longest lent (accepted s) h number place e = by-room (ltb lent l
     by-room false e = absurd (refused-accepted (sym e))
 
 module _ (limits : Limits) (fit : LimitsFit limits) (file entry exit : List ℕ) (answer : Outcome ℕ) where
-  gives-most : {s : System} {count : ℕ} → readSystemFile limits file ≡ accepted s → Gives limits certificateBytes s entry exit count
-      → count ≤ 4 * longestCertificate limits
+  gives-most : {s : System} {count : ℕ} → readSystemFile limits file ≡ accepted s
+      → GivesRight limits certificateBytes s entry exit count → count ≤ 4 * longestCertificate limits
   unfolding certificateBytes
   gives-most {s} e G =
       let c = G .certificate in
@@ -55,9 +56,8 @@ module _ (limits : Limits) (fit : LimitsFit limits) (file entry exit : List ℕ)
             subst (λ k. k ≤ longestSystem limits) same most;
       }
   by-system (accepted s) e h =
-      let found = followedBy-accepted (readSystemFile limits file) _ e in
-      let passed = refuse-passed (ltb (length entry) (4 * longestCertificate limits)) 11 0 (accepted (found .0)) (found .2) in
-      let most = gives-most (found .1 ∙ passed .1) (h .2) in
+      let read = room-read (4 * longestCertificate limits) (length entry) (readSystemFile limits file) e in
+      let most = gives-most read (h .2 .given) in
       record {
         counts = λ n a.
             let told = sym (h .1) ∙ a in

@@ -1,5 +1,6 @@
--- Nothing of what the solver gives is free: calls on the same system give the same certificate, so the same count and the same words,
--- whatever was lent and whatever stood there.
+-- Nothing of what the solver gives is free: what it answers and leaves in the lent words is a function of what it read and of what
+-- stood there. It gives the written form of the system's own certificate. So calls on the same system, though it may be read from
+-- different words, give the same count and the same words, whatever was lent and whatever stood there.
 use Prim.Native.Nat.{ℕ, _*_, _≤_}
 use mathlib.Core.Path.{_≡_, refl, sym, ap, _∙_, subst}
 use mathlib.Core.List.{List}
@@ -13,30 +14,36 @@ use Rattle.words.specs.SystemLaws.{system-written-of-read}
 use Rattle.words.specs.Bytes.{bytesOf, readSystemFile}
 use Rattle.words.specs.BytesLaws.{length-bytesOf, file-within}
 use Rattle.words.specs.Certificate.{Certificate, certificateWords}
+use Rattle.write_frame.specs.Overwriting.{overwritten}
 use Rattle.solve_meaning.specs.ChosenUnique.{chosen-unique}
 use Rattle.solve_meaning.specs.Existence.{Suffices, chosenCertificate, chosen-only}
-use Rattle.solver.specs.Solving.{withRoom, certificateBytes, Gives, SolvesOr, Solves, SolvesFile}
-use Rattle.solver.specs.SolvingLaws.{accepted-same, room-enough, gives-words, solved-gives}
+use Rattle.solver.specs.Solving.{withRoom, certificateBytes, GivesRight, Gives, SolvesOr, Solves, SolvesFile}
+use Rattle.solver.specs.SolvingLaws.{accepted-same, room-enough, room-read, gives-words, solved-gives}
 
 -- the first of the lent words are the written form of c, and as many as the count says
 pub record WrittenForm (write : Certificate → List ℕ) (c : Certificate) (exit : List ℕ) (count : ℕ) : Type 0 where
   pub words : take count exit ≡ write c
   pub same-count : count ≡ length (write c)
 
-module _ {limits : Limits} {write : Certificate → List ℕ} {s : System} {entry exit : List ℕ} {count : ℕ}
-    (G : Gives limits write s entry exit count) where
-  pub gives-written : WrittenForm write (G .certificate) exit count
-  gives-written = record { words = gives-words G; same-count = G .same-count }
+-- a call gave these words: their count is the answer, and they stand over the first of the lent ones
+abbrev pub GivesWords : (given entry exit : List ℕ) → Outcome ℕ → Type 0
+GivesWords given entry exit answer = (answer ≡ accepted (length given)) × (exit ≡ overwritten given entry)
 
+pub right-written : {limits : Limits} {write : Certificate → List ℕ} {s : System} {entry exit : List ℕ} {count : ℕ}
+    (G : GivesRight limits write s entry exit count) → WrittenForm write (G .certificate) exit count
+right-written G = record { words = gives-words G; same-count = G .same-count }
+
+-- whatever the limits that the system keeps
+module _ (limits : Limits) {s : System} (h : SystemWithin limits s) {limits₁ : Limits} {write : Certificate → List ℕ}
+    {entry exit : List ℕ} {count : ℕ} (G : Gives limits₁ write s entry exit count) where
   -- it is the certificate of the system, which is a function of it
-  pub gives-chosen : (h : SystemWithin limits s) (room : Suffices limits (s .rows) (s .columns))
-      → WrittenForm write (chosenCertificate limits s h room) exit count
-  gives-chosen h room =
-      subst (λ c. WrittenForm write c exit count) (chosen-only limits s h room (G .certificate) (G .within) (G .chosen)) gives-written
+  pub gives-chosen : (room : Suffices limits (s .rows) (s .columns)) → G .given .certificate ≡ chosenCertificate limits s h room
+  gives-chosen room = chosen-only limits s h room (G .given .certificate) (G .chosen)
 
-  pub gives-certificate : SystemWithin limits s → {write₁ : Certificate → List ℕ} {entry₁ exit₁ : List ℕ} {count₁ : ℕ}
-      (G₁ : Gives limits write₁ s entry₁ exit₁ count₁) → G .certificate ≡ G₁ .certificate
-  gives-certificate h G₁ = chosen-unique limits s h (G .certificate) (G₁ .certificate) (G .within) (G₁ .within) (G .chosen) (G₁ .chosen)
+  -- two calls give one certificate, whatever the limits that they hold it to
+  pub gives-certificate : {limits₂ : Limits} {write₁ : Certificate → List ℕ} {entry₁ exit₁ : List ℕ} {count₁ : ℕ}
+      (G₁ : Gives limits₂ write₁ s entry₁ exit₁ count₁) → G .given .certificate ≡ G₁ .given .certificate
+  gives-certificate G₁ = chosen-unique limits s h (G .given .certificate) (G₁ .given .certificate) (G .chosen) (G₁ .chosen)
 
 written-same : {write : Certificate → List ℕ} {c : Certificate} {exit exit₁ : List ℕ} {count count₁ : ℕ}
     → WrittenForm write c exit count → WrittenForm write c exit₁ count₁ → (count ≡ count₁) × (take count exit ≡ take count₁ exit₁)
@@ -52,84 +59,149 @@ pub record Call : Type 0 where
 abbrev pub CallOn : Limits → Outcome System → (Certificate → List ℕ) → ℕ → Call → Type 0
 CallOn limits read write longest x = SolvesOr limits write (withRoom longest (length (x .entry)) read) (x .entry) (x .exit) (x .answer)
 
--- of two calls that read the same, whether on words or on files
-module _ (limits : Limits) (read : Outcome System) (within : (s : System) → read ≡ accepted s → SystemWithin limits s) (x y : Call) where
-  pub one-certificate : (write write₁ : Certificate → List ℕ) (longest longest₁ : ℕ)
-      → CallOn limits read write longest x → CallOn limits read write₁ longest₁ y
-      → {count count₁ : ℕ} → x .answer ≡ accepted count → y .answer ≡ accepted count₁
-      → (c : Certificate) × WrittenForm write c (x .exit) count × WrittenForm write₁ c (y .exit) count₁
-  one-certificate write write₁ longest longest₁ h h₁ {count} {count₁} a a₁ =
-      let g = solved-gives limits write longest (length (x .entry)) read (x .entry) (x .exit) (x .answer) h count a in
-      let g₁ = solved-gives limits write₁ longest₁ (length (y .entry)) read (y .entry) (y .exit) (y .answer) h₁ count₁ a₁ in
-      let G₁ = subst (λ s. Gives limits write₁ s (y .entry) (y .exit) count₁) (accepted-same (sym (g₁ .1) ∙ g .1)) (g₁ .2) in (
-        g .2 .certificate,
-        gives-written (g .2),
-        subst (λ c. WrittenForm write₁ c (y .exit) count₁) (sym (gives-certificate (g .2) (within (g .0) (g .1)) G₁)) (gives-written G₁),
+-- ---- on what was read, from words, from a file, or otherwise
+
+-- the call on a system where there is room: its certificate
+module _ (limits : Limits) {s : System} (h : SystemWithin limits s) (room : Suffices limits (s .rows) (s .columns))
+    {read : Outcome System} (is : read ≡ accepted s) (write : Certificate → List ℕ) (longest : ℕ) (entry exit : List ℕ)
+    (answer : Outcome ℕ) where
+  pub call-card : longest ≤ length entry → SolvesOr limits write (withRoom longest (length entry) read) entry exit answer
+      → GivesWords (write (chosenCertificate limits s h room)) entry exit answer
+  unfolding SolvesOr
+  call-card enough x =
+      let g = subst (λ o. SolvesOr limits write o entry exit answer) (room-enough longest (length entry) enough read ∙ is) x in
+      let c = gives-chosen limits h (g .2) room in (
+        g .1 ∙ ap accepted (g .2 .given .same-count ∙ ap (λ c. length (write c)) c),
+        g .2 .given .words ∙ ap (λ c. overwritten (write c) entry) c,
       )
 
-  -- where there is room
-  module _ (write : Certificate → List ℕ) (longest : ℕ) (room : longest ≤ length (x .entry)) (room₁ : longest ≤ length (y .entry)) where
-    by-outcome : (o : Outcome System) → read ≡ o → SolvesOr limits write o (x .entry) (x .exit) (x .answer)
-        → SolvesOr limits write o (y .entry) (y .exit) (y .answer) → x .answer ≡ y .answer
-    unfolding SolvesOr
-    by-outcome (refused number place) e h h₁ = h .0 ∙ sym (h₁ .0)
-    by-outcome (accepted s) e h h₁ =
-        let c = gives-certificate (h .2) (within s e) (h₁ .2) in
-        h .1 ∙ ap accepted (h .2 .same-count ∙ ap (λ c. length (write c)) c ∙ sym (h₁ .2 .same-count)) ∙ sym (h₁ .1)
+-- calls on one outcome of reading: one answer, and where the same was lent, the same is left there
+outcome-same : (limits : Limits) (write : Certificate → List ℕ) (o : Outcome System)
+    → ((s : System) → o ≡ accepted s → SystemWithin limits s) → {entry exit entry₁ exit₁ : List ℕ} {answer answer₁ : Outcome ℕ}
+    → SolvesOr limits write o entry exit answer → SolvesOr limits write o entry₁ exit₁ answer₁
+    → (answer ≡ answer₁) × (entry ≡ entry₁ → exit ≡ exit₁)
+unfolding SolvesOr
+outcome-same limits write (refused number place) within h h₁ = (h .0 ∙ sym (h₁ .0), λ e. h .1 ∙ e ∙ sym (h₁ .1))
+outcome-same limits write (accepted s) within {entry} {exit} {entry₁} {exit₁} h h₁ =
+    let G = h .2 .given in
+    let G₁ = h₁ .2 .given in
+    let c = gives-certificate limits (within s refl) (h .2) (h₁ .2) in (
+      h .1 ∙ ap accepted (G .same-count ∙ ap (λ c. length (write c)) c ∙ sym (G₁ .same-count)) ∙ sym (h₁ .1),
+      λ e. G .words ∙ ap (λ c. overwritten (write c) entry) c ∙ ap (overwritten (write (G₁ .certificate))) e ∙ sym (G₁ .words),
+    )
 
-    pub one-answer : CallOn limits read write longest x → CallOn limits read write longest y → x .answer ≡ y .answer
-    one-answer h h₁ = by-outcome read refl
+module _ (limits : Limits) {read read₁ : Outcome System} (same : read ≡ read₁)
+    (within : (s : System) → read ≡ accepted s → SystemWithin limits s) where
+  -- of two calls that read the same: one certificate, whatever it is written as
+  pub one-certificate : (x y : Call) (write write₁ : Certificate → List ℕ) (longest longest₁ : ℕ)
+      → CallOn limits read write longest x → CallOn limits read₁ write₁ longest₁ y
+      → {count count₁ : ℕ} → x .answer ≡ accepted count → y .answer ≡ accepted count₁
+      → (c : Certificate) × WrittenForm write c (x .exit) count × WrittenForm write₁ c (y .exit) count₁
+  one-certificate x y write write₁ longest longest₁ h h₁ {count} {count₁} a a₁ =
+      let g = solved-gives limits write longest (length (x .entry)) read (x .entry) (x .exit) (x .answer) h count a in
+      let g₁ = solved-gives limits write₁ longest₁ (length (y .entry)) read₁ (y .entry) (y .exit) (y .answer) h₁ count₁ a₁ in
+      let one = accepted-same (sym (g₁ .1) ∙ sym same ∙ g .1) in
+      let G₁ = subst (λ s. Gives limits write₁ s (y .entry) (y .exit) count₁) one (g₁ .2) in
+      let c = gives-certificate limits (within (g .0) (g .1)) (g .2) G₁ in (
+        g .2 .given .certificate,
+        right-written (g .2 .given),
+        subst (λ c. WrittenForm write₁ c (y .exit) count₁) (sym c) (right-written (G₁ .given)),
+      )
+
+  module _ (write : Certificate → List ℕ) (longest : ℕ) where
+    -- and one answer where there is room
+    pub one-answer : (x y : Call) → longest ≤ length (x .entry) → longest ≤ length (y .entry)
+        → CallOn limits read write longest x → CallOn limits read₁ write longest y → x .answer ≡ y .answer
+    one-answer x y room room₁ h h₁ = outcome-same limits write read within
         (subst (λ o. SolvesOr limits write o (x .entry) (x .exit) (x .answer)) (room-enough longest (length (x .entry)) room read) h)
-        (subst (λ o. SolvesOr limits write o (y .entry) (y .exit) (y .answer)) (room-enough longest (length (y .entry)) room₁ read) h₁)
+        (subst (λ o. SolvesOr limits write o (y .entry) (y .exit) (y .answer))
+        (room-enough longest (length (y .entry)) room₁ read₁ ∙ sym same) h₁) .0
+
+    -- where the same is lent, all is the same, room or not
+    pub call-unique : (entry : List ℕ) {exit exit₁ : List ℕ} {answer answer₁ : Outcome ℕ}
+        → SolvesOr limits write (withRoom longest (length entry) read) entry exit answer
+        → SolvesOr limits write (withRoom longest (length entry) read₁) entry exit₁ answer₁ → (exit ≡ exit₁) × (answer ≡ answer₁)
+    call-unique entry {exit} {exit₁} {answer} {answer₁} h h₁ =
+        let both = outcome-same limits write (withRoom longest (length entry) read)
+        (λ s e. within s (room-read longest (length entry) read e)) h
+        (subst (λ r. SolvesOr limits write (withRoom longest (length entry) r) entry exit₁ answer₁) (sym same) h₁) in
+        (both .1 refl, both .0)
 
 -- the same count and the same words
 abbrev pub SameWords : Call → Call → Type 0
 SameWords x y = (count count₁ : ℕ) → x .answer ≡ accepted count → y .answer ≡ accepted count₁
     → (count ≡ count₁) × (take count (x .exit) ≡ take count₁ (y .exit))
 
-module _ (limits : Limits) (fit : LimitsFit limits) (x y : Call) where
+-- ---- the solver's words, and bytes, are the written form of the system's certificate: a function of the system
+
+module _ (limits : Limits) {s : System} (h : SystemWithin limits s) (room : Suffices limits (s .rows) (s .columns))
+    (entry exit : List ℕ) (answer : Outcome ℕ) where
+  pub solved-card : (ws : List ℕ) → readSystem limits ws ≡ accepted s → longestCertificate limits ≤ length entry
+      → Solves limits ws entry exit answer → GivesWords (certificateWords (chosenCertificate limits s h room)) entry exit answer
+  solved-card ws is = call-card limits h room is certificateWords (longestCertificate limits) entry exit answer
+
+  pub file-solved-card : (file : List ℕ) → readSystemFile limits file ≡ accepted s → 4 * longestCertificate limits ≤ length entry
+      → SolvesFile limits file entry exit answer
+      → GivesWords (certificateBytes (chosenCertificate limits s h room)) entry exit answer
+  file-solved-card file is = call-card limits h room is certificateBytes (4 * longestCertificate limits) entry exit answer
+
+-- ---- on words
+
+module _ (limits : Limits) (fit : LimitsFit limits) where
   words-within : (ws : List ℕ) (s : System) → readSystem limits ws ≡ accepted s → SystemWithin limits s
   words-within ws s e = system-written-of-read limits fit ws s e .1
 
-  -- on words
-  module _ (ws : List ℕ) (h : Solves limits ws (x .entry) (x .exit) (x .answer))
-      (h₁ : Solves limits ws (y .entry) (y .exit) (y .answer)) where
-    pub solved-same : SameWords x y
-    solved-same count count₁ a a₁ =
-        let c = one-certificate limits (readSystem limits ws) (words-within ws) x y certificateWords certificateWords
-        (longestCertificate limits) (longestCertificate limits) h h₁ a a₁ in
-        written-same (c .1) (c .2)
+  -- words that read as the same system
+  module _ (ws ws₁ : List ℕ) (same : readSystem limits ws ≡ readSystem limits ws₁) where
+    -- what is left and answered is decided, refusals too
+    pub solves-unique : (entry : List ℕ) {exit exit₁ : List ℕ} {answer answer₁ : Outcome ℕ} → Solves limits ws entry exit answer
+        → Solves limits ws₁ entry exit₁ answer₁ → (exit ≡ exit₁) × (answer ≡ answer₁)
+    solves-unique = call-unique limits same (words-within ws) certificateWords (longestCertificate limits)
 
-    pub solved-answer : longestCertificate limits ≤ length (x .entry) → longestCertificate limits ≤ length (y .entry)
-        → x .answer ≡ y .answer
-    solved-answer room room₁ =
-        one-answer limits (readSystem limits ws) (words-within ws) x y certificateWords (longestCertificate limits) room room₁ h h₁
+    module _ (x y : Call) (h : Solves limits ws (x .entry) (x .exit) (x .answer))
+        (h₁ : Solves limits ws₁ (y .entry) (y .exit) (y .answer)) where
+      pub solved-same : SameWords x y
+      solved-same count count₁ a a₁ =
+          let c = one-certificate limits same (words-within ws) x y certificateWords certificateWords
+          (longestCertificate limits) (longestCertificate limits) h h₁ a a₁ in
+          written-same (c .1) (c .2)
 
-  -- on files
-  module _ (file : List ℕ) (h : SolvesFile limits file (x .entry) (x .exit) (x .answer))
-      (h₁ : SolvesFile limits file (y .entry) (y .exit) (y .answer))
-    where
+      pub solved-answer : longestCertificate limits ≤ length (x .entry) → longestCertificate limits ≤ length (y .entry)
+          → x .answer ≡ y .answer
+      solved-answer room room₁ =
+          one-answer limits same (words-within ws) certificateWords (longestCertificate limits) x y room room₁ h h₁
+
+  -- ---- on files
+
+  module _ (file file₁ : List ℕ) (same : readSystemFile limits file ≡ readSystemFile limits file₁) where
+    pub file-solves-unique : (entry : List ℕ) {exit exit₁ : List ℕ} {answer answer₁ : Outcome ℕ}
+        → SolvesFile limits file entry exit answer → SolvesFile limits file₁ entry exit₁ answer₁
+        → (exit ≡ exit₁) × (answer ≡ answer₁)
+    file-solves-unique =
+        call-unique limits same (λ s e. file-within limits fit s file e) certificateBytes (4 * longestCertificate limits)
+
+    module _ (x y : Call) (h : SolvesFile limits file (x .entry) (x .exit) (x .answer))
+        (h₁ : SolvesFile limits file₁ (y .entry) (y .exit) (y .answer)) where
       pub file-solved-same : SameWords x y
       file-solved-same count count₁ a a₁ =
-          let c = one-certificate limits (readSystemFile limits file) (λ s e. file-within limits fit s file e) x y
+          let c = one-certificate limits same (λ s e. file-within limits fit s file e) x y
           certificateBytes certificateBytes (4 * longestCertificate limits) (4 * longestCertificate limits) h h₁ a a₁ in
           written-same (c .1) (c .2)
 
       pub file-solved-answer : 4 * longestCertificate limits ≤ length (x .entry) → 4 * longestCertificate limits ≤ length (y .entry)
           → x .answer ≡ y .answer
-      file-solved-answer room room₁ = one-answer limits (readSystemFile limits file) (λ s e. file-within limits fit s file e) x y
-          certificateBytes (4 * longestCertificate limits) room room₁ h h₁
+      file-solved-answer room room₁ = one-answer limits same (λ s e. file-within limits fit s file e)
+          certificateBytes (4 * longestCertificate limits) x y room room₁ h h₁
 
   -- a file gets the bytes of what its words get
-  pub file-solved-words : (ws file : List ℕ) → readSystemFile limits file ≡ readSystem limits ws
+  pub file-solved-words : (x y : Call) (ws file : List ℕ) → readSystemFile limits file ≡ readSystem limits ws
       → Solves limits ws (x .entry) (x .exit) (x .answer) → SolvesFile limits file (y .entry) (y .exit) (y .answer)
       → {count count₁ : ℕ} → x .answer ≡ accepted count → y .answer ≡ accepted count₁
       → (count₁ ≡ 4 * count) × (take count₁ (y .exit) ≡ bytesOf (take count (x .exit)))
   unfolding certificateBytes
-  file-solved-words ws file same h h₁ a a₁ =
-      let c = one-certificate limits (readSystem limits ws) (words-within ws) x y certificateWords certificateBytes
-      (longestCertificate limits) (4 * longestCertificate limits) h
-      (subst (λ o. CallOn limits o certificateBytes (4 * longestCertificate limits) y) same h₁) a a₁ in (
+  file-solved-words x y ws file same h h₁ a a₁ =
+      let c = one-certificate limits (sym same) (words-within ws) x y certificateWords certificateBytes
+      (longestCertificate limits) (4 * longestCertificate limits) h h₁ a a₁ in (
         c .2 .same-count ∙ length-bytesOf (certificateWords (c .0)) ∙ ap (λ n. 4 * n) (sym (c .1 .same-count)),
         c .2 .words ∙ ap bytesOf (sym (c .1 .words)),
       )

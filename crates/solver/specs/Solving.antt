@@ -26,17 +26,21 @@ withRoom longest lent read =
 abbrev pub systemToSolve : Limits → ℕ → List ℕ → Outcome System
 systemToSolve limits lent ws = withRoom (longestCertificate limits) lent (readSystem limits ws)
 
--- Nothing of the certificate is free: it is the chosen one, of which a system has only one (`gives-certificate`). "They keep the degree
--- bound, the check's conditions hold of the card, its words are its written form, and the returned count is theirs." "Lent words behind
--- the card keep their values." A certificate is written as words, or as bytes of a file.
-pub record Gives (limits : Limits) (write : Certificate → List ℕ) (s : System) (entry exit : List ℕ) (count : ℕ) : Type 0 where
+-- A right certificate stands over the first of the lent words: "they keep the degree bound, the check's conditions hold of the
+-- card, its words are its written form, and the returned count is theirs." "Lent words behind the card keep their values." A
+-- certificate is written as words, or as bytes of a file.
+pub record GivesRight (limits : Limits) (write : Certificate → List ℕ) (s : System) (entry exit : List ℕ) (count : ℕ) : Type 0 where
   pub certificate : Certificate
   pub within : CertificateWithin limits (shape s) certificate
   pub right : Right s certificate
   pub answers : Answers s (answerOf certificate)
-  pub chosen : Chosen s certificate
   pub words : exit ≡ overwritten (write certificate) entry
   pub same-count : count ≡ length (write certificate)
+
+-- Nothing of the certificate is free: it is the chosen one, of which a system has only one (`gives-certificate`).
+pub record Gives (limits : Limits) (write : Certificate → List ℕ) (s : System) (entry exit : List ℕ) (count : ℕ) : Type 0 where
+  pub given : GivesRight limits write s entry exit count
+  pub chosen : Chosen s (given .certificate)
 
 -- "A refusal gives a number and a place, and no lent word changes."
 unfoldable pub SolvesOr : Limits → (Certificate → List ℕ) → Outcome System → (entry exit : List ℕ) → Outcome ℕ → Type 0

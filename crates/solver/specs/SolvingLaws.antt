@@ -13,14 +13,14 @@ use Rattle.words.specs.Limits.{Limits, longestCertificate}
 use Rattle.words.specs.LimitsLaws.{LimitsFit}
 use Rattle.words.specs.Outcome.{Outcome, refuse}
 use Rattle.words.specs.Outcome.Outcome.{accepted, refused}
-use Rattle.words.specs.OutcomeLaws.{refused-accepted}
+use Rattle.words.specs.OutcomeLaws.{refused-accepted, followedBy-accepted, refuse-passed}
 use Rattle.words.specs.System.{System, SystemWithin, systemWords, readSystem}
 use Rattle.words.specs.SystemLaws.{system-read-of-written, system-written-of-read}
 use Rattle.words.specs.Certificate.{Certificate, certificateWords}
 use Rattle.truth.specs.Verdict.{verdict}
 use Rattle.truth.specs.Accepted.{accepted-of-words}
 use Rattle.write_frame.specs.Overwriting.{overwritten}
-use Rattle.solver.specs.Solving.{withRoom, systemToSolve, Gives, SolvesOr, Solves}
+use Rattle.solver.specs.Solving.{withRoom, systemToSolve, GivesRight, Gives, SolvesOr, Solves}
 
 pub accepted-same : {A : Type 0} {a b : A} → accepted a ≡ accepted b → a ≡ b
 accepted-same e = cc
@@ -33,9 +33,15 @@ pub room-enough : (longest lent : ℕ) → longest ≤ lent → (read : Outcome 
 room-enough longest lent h (refused number place) = refl
 room-enough longest lent h (accepted s) = ap (λ t. refuse t 11 0 (accepted s)) (le-ltb lent longest h)
 
+pub room-read : (longest lent : ℕ) (read : Outcome System) {s : System} → withRoom longest lent read ≡ accepted s
+    → read ≡ accepted s
+room-read longest lent read e =
+    let found = followedBy-accepted read _ e in
+    found .1 ∙ refuse-passed (ltb lent longest) 11 0 (accepted (found .0)) (found .2) .1
+
 -- what is written is no longer than what was lent
 pub gives-fits : {limits : Limits} {write : Certificate → List ℕ} {s : System} {entry exit : List ℕ} {count : ℕ}
-    → Gives limits write s entry exit count → count ≤ length exit
+    → GivesRight limits write s entry exit count → count ≤ length exit
 gives-fits {write = write} {entry = entry} G =
     let ws = write (G .certificate) in
     omega (arith, ap length (G .words), length-append ws (drop (length ws) entry), G .same-count)
@@ -45,11 +51,11 @@ pub solves-fits : (limits : Limits) (write : Certificate → List ℕ) (o : Outc
 unfolding SolvesOr
 solves-fits limits write (refused number place) entry exit answer h count a = absurd (refused-accepted (sym (h .0) ∙ a))
 solves-fits limits write (accepted s) entry exit answer h count a =
-    subst (λ n. n ≤ length exit) (accepted-same (sym (h .1) ∙ a)) (gives-fits (h .2))
+    subst (λ n. n ≤ length exit) (accepted-same (sym (h .1) ∙ a)) (gives-fits (h .2 .given))
 
 -- the certificate's words, or bytes, are the first of the lent ones
 pub gives-words : {limits : Limits} {write : Certificate → List ℕ} {s : System} {entry exit : List ℕ} {count : ℕ}
-    → (G : Gives limits write s entry exit count) → take count exit ≡ write (G .certificate)
+    → (G : GivesRight limits write s entry exit count) → take count exit ≡ write (G .certificate)
 gives-words {write = write} {entry = entry} {exit = exit} {count = count} G =
     ap (λ l. take count l) (G .words)
     ∙ ap (λ n. take n (overwritten (write (G .certificate)) entry)) (G .same-count)
@@ -78,8 +84,8 @@ solved-gives limits write longest lent (accepted s) entry exit answer h count a 
 
 module _ (limits : Limits) (fit : LimitsFit limits) (ws entry exit : List ℕ) (answer : Outcome ℕ) where
   -- the check accepts what the solver gives
-  gives-accepted : {s : System} {count : ℕ} → readSystem limits ws ≡ accepted s → Gives limits certificateWords s entry exit count
-      → verdict limits ws (take count exit) ≡ accepted tt
+  pub gives-accepted : {s : System} {count : ℕ} → readSystem limits ws ≡ accepted s
+      → GivesRight limits certificateWords s entry exit count → verdict limits ws (take count exit) ≡ accepted tt
   gives-accepted {s} {count} e G =
       let read = system-written-of-read limits fit ws s e in
       accepted-of-words limits fit ws (take count exit) (record {
@@ -97,7 +103,7 @@ module _ (limits : Limits) (fit : LimitsFit limits) (ws entry exit : List ℕ) (
   solved-accepted h count a =
       let given = solved-gives limits certificateWords (longestCertificate limits) (length entry) (readSystem limits ws)
       entry exit answer h count a in
-      gives-accepted (given .1) (given .2)
+      gives-accepted (given .1) (given .2 .given)
 
 -- for every system within the limits there is an answer
 module _ (limits : Limits) (fit : LimitsFit limits) (s : System) (within : SystemWithin limits s) (entry exit : List ℕ)

@@ -34,7 +34,7 @@ fn form_for(solved: bool) -> Form
     }
 }
 
-// Writes a certificate for a system that was read over the first of the lent words. Returns the number of its words.
+// Writes the chosen certificate of a system that was read over the first of the lent words. Returns the number of its words.
 fn solve_read(words: &mut [u32], system: &[u32], shape: Shape) -> usize
     requires { ⌜ Read (shapeOf shape) (now system) × (longestCertificate office ≤ length (now words)) ⌝ }
     ensures { λ r. ⌜ ((s : System) → readSystem office (now (system .entry)) ≡ accepted s

@@ -1,5 +1,6 @@
--- Which certificate: of all right certificates of a system the one that the solver gives, said of their values. There is only one
--- (`chosen-unique`), and every system within the limits has it (`certificate-exists`; both in `solve_meaning`).
+-- Which certificate: of all right certificates of a system the one that the solver gives, said of their values. There is only one,
+-- whatever limits it is held to (`chosen-unique`), and every system within the limits has it (`certificate-exists`; both in
+-- `solve_meaning`).
 -- The degree of a polynomial is its length less one, so that "of smaller degree" is "shorter".
 use Prim.Native.Nat.{ℕ, _+_, _<_, _≤_}
 use mathlib.Core.Path.{_≡_}
@@ -13,6 +14,7 @@ use Rattle.words.specs.Certificate.{Certificate}
 use Rattle.words.specs.Certificate.Certificate.{solution, absence}
 use Rattle.truth.specs.Solution.{AllCanonical, Denominator, rowOf, sideOf}
 use Rattle.truth.specs.Right.{RightSolution, RightAbsence, Right}
+use Rattle.truth.specs.Truth.{ProperSolution}
 
 -- ---- N
 
@@ -74,6 +76,9 @@ pub record ShortEntry (s : System) (w : List ℕ) (Z : List (List ℕ)) (i : ℕ
 -- ---- certificates
 
 pub record ChosenSolution (s : System) (d : List ℕ) (N : List (List ℕ)) (w : List ℕ) (Z : List (List ℕ)) : Type 0 where
+  -- polynomials modulo p, of any degree, as many as the system asks
+  pub proper : ProperSolution s d N w Z
+  pub count : length Z ≡ s .rows
   pub right : RightSolution s d N w Z
   -- N: each entry is shorter than what relations of the columns can change there
   pub reduced : ReducedModuloRelations s N
@@ -83,6 +88,8 @@ pub record ChosenSolution (s : System) (d : List ℕ) (N : List (List ℕ)) (w :
   pub lowest : Denominator (s .modulus) Z w w
 
 pub record ChosenAbsence (s : System) (q : List (List ℕ)) : Type 0 where
+  pub proper : AllCanonical (s .modulus) q
+  pub count : length q ≡ s .rows
   pub right : RightAbsence s q
   -- b adds one pivot to those of A; elsewhere q is zero but at pivots of A
   pub at : ℕ

@@ -27,7 +27,7 @@ call c = c .before .before .before
 fits : (c : tie.After-solved) → c .solved .given .0 .0 ≤ length (call c .solve .last .0)
 fits c = gives-fits
     (was-solved (call c .before .before .before .before .args .system .now) (replicate longest 0) _ _ (call c .solve .ensures)
-    (ap countedOutcome (c .solved .given .1)) .2)
+    (ap countedOutcome (c .solved .given .1)) .2 .given)
 
 returns : tie.Need-returns
 returns c =
