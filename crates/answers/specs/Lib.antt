@@ -1,5 +1,6 @@
--- interface: what the answers of the code say; answers, heads and the version as one number
+-- interface: what the answers of the code say; answers, heads and the version as one number; the bound of payloads
 pub mod Answer
 pub mod Packed
 pub mod Heads
 pub mod Version
+pub mod Payload

@@ -1,8 +1,10 @@
-// What calls answer, in the numbers and places of document 01's table, and a test on small numbers that all layers share.
+// What calls answer, in the numbers and places of document 01's table, and what all layers share: a test on small numbers, and the
+// bound of payloads.
 pub mod answer;
 pub mod head;
 pub mod number;
 pub mod packed;
+pub mod payload;
 pub mod shape;
 pub mod version;
 

@@ -5,14 +5,17 @@ use crate::answer::Verdict;
 ghost use Prim.Native.Nat.{_+_, _*_, _≤_};
 ghost use mathlib.Core.Path.{_≡_};
 ghost use Rattle.answers.specs.Answer.{countedOutcome, verdictOutcome};
-ghost use Rattle.answers.specs.Packed.{packed, packedVerdict, packedMost, AnswerMost, VerdictMost};
+ghost use Rattle.answers.specs.Packed.{placeUnit, packed, packedVerdict, packedMost, AnswerMost, VerdictMost};
+
+// One place further, or one more counted, is so much more: numbers of the table are below it.
+const PLACE_UNIT: u64 = 64;
 
 // Packs place and number of a refusal.
 fn pack(refusal: Refusal) -> u64
     requires { ⌜ refusal .place ≤ packedMost ⌝ }
-    ensures { λ r. ⌜ r ≡ 64 * refusal .place + refusal .number ⌝ }
+    ensures { λ r. ⌜ r ≡ placeUnit * refusal .place + refusal .number ⌝ }
 {
-    64 * refusal.place as u64 + refusal.number as u64
+    PLACE_UNIT * refusal.place as u64 + refusal.number as u64
 }
 
 // Packs a count, with number 0, or a refusal.
@@ -21,7 +24,7 @@ pub fn pack_counted(counted: Counted) -> u64
     ensures { λ r. ⌜ r ≡ packed (countedOutcome counted) ⌝ }
 {
     match counted {
-        Counted::Count(count) => 64 * count as u64,
+        Counted::Count(count) => PLACE_UNIT * count as u64,
         Counted::Refused(refusal) => pack(refusal),
     }
 }

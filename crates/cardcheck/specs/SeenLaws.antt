@@ -13,7 +13,7 @@ use Rattle.words.specs.Limits.{office, longestSystem, longestCertificate}
 use Rattle.words.specs.LimitsLaws.{office-fits}
 use Rattle.words.specs.Outcome.{refuse}
 use Rattle.words.specs.Outcome.Outcome.{refused}
-use Rattle.words.specs.Bytes.{wordOf, wordAt, wordsOf, broken, tooLong}
+use Rattle.words.specs.Bytes.{wordsOf, broken, tooLong}
 use Rattle.words.specs.BytesLaws.{length-wordsOf, wordsOf-at}
 use Rattle.truth.specs.Verdict.{verdict}
 use Rattle.truth.specs.Prefix.{verdict-prefix}
@@ -40,7 +40,8 @@ words-of-start k bytes h = ext-getD 0 (wordsOf (take k bytes)) (take (k / 4) (wo
     byte : (i : ℕ) → i < k → getD (take k bytes) i 0 ≡ getD bytes i 0
     byte i l = getD-take k bytes i 0 l
 
-    each : (i : ℕ) → i < length (wordsOf (take k bytes)) → getD (wordsOf (take k bytes)) i 0 ≡ getD (take (k / 4) (wordsOf bytes)) i 0
+    each : (i : ℕ) → i < length (wordsOf (take k bytes))
+        → getD (wordsOf (take k bytes)) i 0 ≡ getD (take (k / 4) (wordsOf bytes)) i 0
     each i l =
         wordsOf-at (take k bytes) i (omega (arith, length-wordsOf (take k bytes)))
         ∙ rw (
@@ -84,7 +85,8 @@ module _ (system certificate : List ℕ) where
   unfolding fileVerdict
   certificate-start = by (decLt (length certificate) fileSpace)
     where
-      by : Dec (length certificate < fileSpace) → fileVerdict office system (fileStart certificate) ≡ fileVerdict office system certificate
+      by : Dec (length certificate < fileSpace)
+          → fileVerdict office system (fileStart certificate) ≡ fileVerdict office system certificate
       by (yes h) = ap (fileVerdict office system) (start-short certificate h)
       by (no h) =
           let long : fileSpace ≤ length certificate = omega arith in
@@ -100,14 +102,16 @@ module _ (system certificate : List ℕ) where
       ap (λ t. refuse ((broken file || t) || broken certificate) 10 0 (verdict office (wordsOf file) (wordsOf certificate))) e
       ∙ by (broken file)
     where
-      by : (b : Bool) → refuse ((b || true) || broken certificate) 10 0 (verdict office (wordsOf file) (wordsOf certificate)) ≡ refused 10 0
+      by : (b : Bool)
+          → refuse ((b || true) || broken certificate) 10 0 (verdict office (wordsOf file) (wordsOf certificate)) ≡ refused 10 0
       by true = refl
       by false = refl
 
   system-start : fileVerdict office (fileStart system) certificate ≡ fileVerdict office system certificate
   system-start = by (decLt (length system) fileSpace)
     where
-      by : Dec (length system < fileSpace) → fileVerdict office (fileStart system) certificate ≡ fileVerdict office system certificate
+      by : Dec (length system < fileSpace)
+          → fileVerdict office (fileStart system) certificate ≡ fileVerdict office system certificate
       by (yes h) = ap (λ s. fileVerdict office s certificate) (start-short system h)
       by (no h) =
           let long : fileSpace ≤ length system = omega arith in

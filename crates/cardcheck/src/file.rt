@@ -65,8 +65,8 @@ fn read_on(fd: i32, count: usize) -> End {
     End::At(length)
 }
 
-// Finds the end of a file of which `count` bytes were read. The system tells that of a regular file; where it tells of no bytes behind
-// these, reads on.
+// Finds the end of a file of which `count` bytes were read. The system tells that of a regular file; where it tells of no bytes
+// behind these, reads on.
 fn find_end(fd: i32, count: usize) -> End {
     let end = length_told(libc::lseek(fd, 0, SEEK_END));
     if end <= count {

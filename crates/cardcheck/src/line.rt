@@ -41,7 +41,8 @@ fn write_verdict(line: &mut [u8], verdict: Verdict) -> usize
     }
 }
 
-// Returns how many bytes of a file of so many are looked at: all, or, where they would fill the space, fewer, but as many modulo four.
+// Returns how many bytes of a file of so many are looked at: all, or, where they would fill the space, fewer, but as many modulo
+// four.
 fn bytes_seen(length: usize) -> usize
     ensures { λ r. ⌜ r ≡ bytesSeen length ⌝ }
 {

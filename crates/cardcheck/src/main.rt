@@ -1,6 +1,6 @@
 // cardcheck SHEET CARD: prints on standard output whether the card (a certificate) in the one file is accepted for the sheet (a
-// system) in the other, or the number and the place of the refusal, and nothing else. Where there is no verdict, says why on standard
-// error.
+// system) in the other, or the number and the place of the refusal, and nothing else. Where there is no verdict, says why on
+// standard error.
 mod file;
 mod line;
 mod name;

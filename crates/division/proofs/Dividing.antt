@@ -17,6 +17,7 @@ use Rattle.vector.specs.Stored.{stored, length-stored, stored-outside}
 use Rattle.vector.specs.Bound.{AtMost, at-most-set, at-most-sum}
 use Rattle.vector.specs.Reduced.{polynomial, reduced, canonical-reduced, coefficient-reduced, residue-same, word-inside}
 use Rattle.vector.specs.Multiple.{sumAt, GainsMultiple}
+use Rattle.polynomial.specs.Value.{polynomialRoom}
 use Rattle.division.specs.Long.{Divisor, LongDivided}
 use Rattle.division.proofs.Rest.{canonical-drop, polynomial-first, reduced-canonical, polynomial-zero, polynomial-rest}
 use Rattle.division.proofs.Step.{extend-is, subtract-multiple, divide-short}
@@ -169,10 +170,10 @@ module _ {p : ℕ} {h₀ q₀ : List ℕ} {n : ℕ} {w : List ℕ} {e inverse : 
     }
 
 -- a word of the hand is small enough for a reduction, and stays so with one product more
-pub word-small : (p n i : ℕ) (h : List ℕ) → 0 < p → n ≤ 256 → AtMost (p + (n - i) * (p * p)) h →
+pub word-small : (p n i : ℕ) (h : List ℕ) → 0 < p → n ≤ polynomialRoom → AtMost (p + (n - i) * (p * p)) h →
     (j : ℕ) → SmallSum p (getD h j 0 + p * p)
 word-small p n i h positive few small j =
-    let steps : n - i ≤ 256 = omega arith in
+    let steps : n - i ≤ polynomialRoom = omega arith in
     omega (arith, small j, mul-le-mul-right (p * p) steps, le-mul-of-pos-right p positive)
 
 -- what a turn puts into the quotient
@@ -181,7 +182,7 @@ unfolding modulo
 factor-is p x y ev ec = rw (← ev) ec
 
 -- at the end all coefficients are divided
-pub dividing-end : (p : ℕ) {h₀ q₀ : List ℕ} {n : ℕ} {b q h : List ℕ} {i : ℕ} → 0 < p → n ≤ 256 → i ≡ 0 →
+pub dividing-end : (p : ℕ) {h₀ q₀ : List ℕ} {n : ℕ} {b q h : List ℕ} {i : ℕ} → 0 < p → n ≤ polynomialRoom → i ≡ 0 →
     Dividing p h₀ q₀ n b q h i → LongDivided p (take n h₀) n b q h
 dividing-end p {h₀} {q₀} {n} {b} {q} {h} positive few end state =
     let last : Dividing p h₀ q₀ n b q h 0 = rw end at state in

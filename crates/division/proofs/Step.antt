@@ -13,7 +13,8 @@ use Rattle.algebra.specs.Coefficients.{factor, extendDivision, divide}
 use Rattle.modular.specs.Modulo.{modulo}
 use Rattle.modular.specs.Canonical.{Canonical}
 use Rattle.modular.specs.Closed.{canonical-tail, canonical-add, canonical-scale, canonical-subtract}
-use Rattle.modular.specs.Coefficientwise.{coefficient-beyond, coefficient-add, coefficient-subtract, coefficient-scale, canonical-same}
+use Rattle.modular.specs.Coefficientwise.{coefficient-beyond, coefficient-add, coefficient-subtract, coefficient-scale}
+use Rattle.modular.specs.Coefficientwise.{canonical-same}
 use Rattle.polynomial.proofs.Rows.{add-nil, scale-zero}
 
 -- a step, where it is known what it computes with: the remainder r to go on with, and its factor c

@@ -8,16 +8,16 @@ ghost use Rattle.residue.specs.Modulus.{ValidModulus};
 ghost use Rattle.polynomial.specs.Value.{coefficientsOf, ValidPolynomial, Represents};
 
 // Returns the monic greatest common divisor of f and g; zero where both are zero.
-pub fn gcd(f: Polynomial, g: Polynomial, m: Modulus) -> Polynomial
-    requires { ⌜ ValidModulus m × ValidPolynomial (m .p) f × ValidPolynomial (m .p) g ⌝ }
-    ensures { λ r. ⌜ Represents (m .p) r (gcd (modulo (m .p)) (coefficientsOf f) (coefficientsOf g)) ⌝ }
+pub fn gcd(f: Polynomial, g: Polynomial, modulus: Modulus) -> Polynomial
+    requires { ⌜ ValidModulus modulus × ValidPolynomial (modulus .p) f × ValidPolynomial (modulus .p) g ⌝ }
+    ensures { λ r. ⌜ Represents (modulus .p) r (gcd (modulo (modulus .p)) (coefficientsOf f) (coefficientsOf g)) ⌝ }
 {
     let mut a = f;
     let mut b = g;
     while 0 < b.size {
-        let r = remainder(a, b, m);
+        let r = remainder(a, b, modulus);
         a = b;
         b = r;
     }
-    a.monic(m)
+    a.monic(modulus)
 }

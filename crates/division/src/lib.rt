@@ -20,18 +20,28 @@ pub struct Division {
 }
 
 // Divides f by d, which is not zero.
-pub fn divide(f: Polynomial, d: Polynomial, m: Modulus) -> Division
-    requires { ⌜ ValidModulus m × ValidPolynomial (m .p) f × ValidPolynomial (m .p) d × (0 < d .size) ⌝ }
-    ensures quotient { λ r. ⌜ Represents (m .p) (r .quotient) (quotient (modulo (m .p)) (coefficientsOf f) (coefficientsOf d)) ⌝ }
-    ensures remainder { λ r. ⌜ Represents (m .p) (r .remainder) (remainder (modulo (m .p)) (coefficientsOf f) (coefficientsOf d)) ⌝ }
+pub fn divide(f: Polynomial, d: Polynomial, modulus: Modulus) -> Division
+    requires { ⌜ ValidModulus modulus × ValidPolynomial (modulus .p) f × ValidPolynomial (modulus .p) d × (0 < d .size) ⌝ }
+    ensures quotient { λ r. ⌜ Represents (modulus .p) (r .quotient)
+        (quotient (modulo (modulus .p)) (coefficientsOf f) (coefficientsOf d)) ⌝ }
+    ensures remainder { λ r. ⌜ Represents (modulus .p) (r .remainder)
+        (remainder (modulo (modulus .p)) (coefficientsOf f) (coefficientsOf d)) ⌝ }
 {
-    let inverse = m.inverse(d.leading());
+    let inverse = modulus.inverse(d.leading());
     let n = f.size;
     let mut h = f.coefficients;
     let mut q = zeros();
-    long::divide_words(&mut h, n, &mut q, &d.coefficients, d.size - 1, inverse, m);
-    let quotient = Polynomial::from_words(&q, 0, n, m);
-    let remainder = Polynomial::from_words(&h, 0, n, m);
+    long::divide_words(
+        &mut h,
+        n,
+        &mut q,
+        &d.coefficients,
+        d.size - 1,
+        inverse,
+        modulus,
+    );
+    let quotient = Polynomial::from_words(&q, 0, n, modulus);
+    let remainder = Polynomial::from_words(&h, 0, n, modulus);
     Division {
         quotient,
         remainder,
@@ -39,19 +49,19 @@ pub fn divide(f: Polynomial, d: Polynomial, m: Modulus) -> Division
 }
 
 // Returns the quotient of f by d, which is not zero. Where d divides f, it is f / d.
-pub fn quotient(f: Polynomial, d: Polynomial, m: Modulus) -> Polynomial
-    requires { ⌜ ValidModulus m × ValidPolynomial (m .p) f × ValidPolynomial (m .p) d × (0 < d .size) ⌝ }
-    ensures { λ r. ⌜ Represents (m .p) r (quotient (modulo (m .p)) (coefficientsOf f) (coefficientsOf d)) ⌝ }
+pub fn quotient(f: Polynomial, d: Polynomial, modulus: Modulus) -> Polynomial
+    requires { ⌜ ValidModulus modulus × ValidPolynomial (modulus .p) f × ValidPolynomial (modulus .p) d × (0 < d .size) ⌝ }
+    ensures { λ r. ⌜ Represents (modulus .p) r (quotient (modulo (modulus .p)) (coefficientsOf f) (coefficientsOf d)) ⌝ }
 {
-    let w = divide(f, d, m);
+    let w = divide(f, d, modulus);
     w.quotient
 }
 
 // Returns the remainder of f by d, which is not zero.
-pub fn remainder(f: Polynomial, d: Polynomial, m: Modulus) -> Polynomial
-    requires { ⌜ ValidModulus m × ValidPolynomial (m .p) f × ValidPolynomial (m .p) d × (0 < d .size) ⌝ }
-    ensures { λ r. ⌜ Represents (m .p) r (remainder (modulo (m .p)) (coefficientsOf f) (coefficientsOf d)) ⌝ }
+pub fn remainder(f: Polynomial, d: Polynomial, modulus: Modulus) -> Polynomial
+    requires { ⌜ ValidModulus modulus × ValidPolynomial (modulus .p) f × ValidPolynomial (modulus .p) d × (0 < d .size) ⌝ }
+    ensures { λ r. ⌜ Represents (modulus .p) r (remainder (modulo (modulus .p)) (coefficientsOf f) (coefficientsOf d)) ⌝ }
 {
-    let w = divide(f, d, m);
+    let w = divide(f, d, modulus);
     w.remainder
 }

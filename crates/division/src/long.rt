@@ -6,6 +6,7 @@ ghost use lib.ListN.{length, take};
 ghost use Rattle.modular.specs.Canonical.{Canonical};
 ghost use Rattle.residue.specs.Modulus.{ValidModulus};
 ghost use Rattle.vector.specs.Bound.{AtMost};
+ghost use Rattle.polynomial.specs.Value.{polynomialRoom};
 ghost use Rattle.division.specs.Long.{Divisor, LongDivided};
 
 // Takes multiples of d, which has e + 1 coefficients, off n words of h until only e places are left; stores the factors in q.
@@ -16,19 +17,20 @@ pub fn divide_words(
     d: &[u64],
     e: usize,
     inverse: u64,
-    m: Modulus,
+    modulus: Modulus,
 )
-    requires { ⌜ ValidModulus m × (n ≤ 256) × (n ≤ length (now h)) × (n ≤ length (now q)) ⌝ }
-    requires dividend { ⌜ Canonical (m .p) (take n (now h)) × AtMost (m .p) (now h) ⌝ }
-    requires divisor { ⌜ Divisor (m .p) (now d) e inverse ⌝ }
+    requires { ⌜ ValidModulus modulus × (n ≤ polynomialRoom) × (n ≤ length (now h)) × (n ≤ length (now q)) ⌝ }
+    requires dividend { ⌜ Canonical (modulus .p) (take n (now h)) × AtMost (modulus .p) (now h) ⌝ }
+    requires divisor { ⌜ Divisor (modulus .p) (now d) e inverse ⌝ }
     requires zero { ⌜ AtMost 0 (now q) ⌝ }
-    ensures { λ _. ⌜ LongDivided (m .p) (take n (now (h .entry))) n (take (e + 1) (now (d .entry))) (now (q .exit)) (now (h .exit)) ⌝ }
+    ensures { λ _. ⌜ LongDivided (modulus .p) (take n (now (h .entry))) n (take (e + 1) (now (d .entry)))
+        (now (q .exit)) (now (h .exit)) ⌝ }
 {
     let mut k = n;
     while e < k {
         k -= 1;
-        let c = m.mul(m.reduce(h[k]), inverse);
+        let c = modulus.mul(modulus.reduce(h[k]), inverse);
         q[k - e] = c;
-        add_scaled(h, k - e, d, 0, e + 1, m.p - c);
+        add_scaled(h, k - e, d, 0, e + 1, modulus.p - c);
     }
 }

@@ -2,10 +2,8 @@
 use Prim.Native.Nat.{ℕ, _≤_}
 use native.Mathlib.Omega.{arith}
 use mathlib.Core.Path.{_≡_, sym, ap, subst}
-use mathlib.Core.Bool.{false}
 use mathlib.Core.List.{List}
 use lib.ListN.{length, take, drop, length-append}
-use lib.Dec.{ltb}
 use borrow.Author.Tests.{le-ltb}
 use Rattle.streams.specs.declared.Input.{Input}
 use Rattle.streams.specs.declared.Input.the-variants as input
@@ -22,7 +20,10 @@ module _ (file entry exit : List ℕ) (count : ℕ) where
   unfolding Prints GivenUnless
   prints-report {n = n} e room report =
       subst (λ read. Prints read file entry exit count) (sym e)
-      (subst (λ b. GivenUnless b (readSystemFile office (take n file)) entry exit count) (le-ltb (length entry) reportSpace room) report)
+      (subst
+      (λ b. GivenUnless b (readSystemFile office (take n file)) entry exit count)
+      (le-ltb (length entry) reportSpace room)
+      report)
 
   pub prints-nothing : {i : Input} → i ≡ input.Failed → count ≡ 0 → exit ≡ entry → Prints i file entry exit count
   unfolding Prints

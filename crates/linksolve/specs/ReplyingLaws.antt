@@ -56,7 +56,8 @@ module _ (file entry exit : List ℕ) where
     unfolding handed-on
     replies-certificate a = subst (λ o. Replies i file entry exit (handed-on o)) a replies-answer
 
-    pub replies-refusal : {refusal : Refusal} → answer ≡ counted.Refused refusal → Replies i file entry exit (replied.Refused refusal)
+    pub replies-refusal : {refusal : Refusal} → answer ≡ counted.Refused refusal
+        → Replies i file entry exit (replied.Refused refusal)
     unfolding handed-on
     replies-refusal a = subst (λ o. Replies i file entry exit (handed-on o)) a replies-answer
 
@@ -66,5 +67,6 @@ module _ (file entry exit : List ℕ) where
   by-input (input.Bytes n) count solved = solves-fits office _ _ entry exit (accepted count) solved count refl
   by-input input.Failed count none = absurd none
 
-  pub certificate-most : (i : Input) (r : Replied) {count : ℕ} → Replies i file entry exit r → r ≡ replied.Certificate count → count ≤ length exit
+  pub certificate-most : (i : Input) (r : Replied) {count : ℕ} → Replies i file entry exit r → r ≡ replied.Certificate count
+      → count ≤ length exit
   certificate-most i r {count} replies e = by-input i count (subst (Replies i file entry exit) e replies)

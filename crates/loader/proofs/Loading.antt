@@ -33,7 +33,9 @@ module _ {width : ℕ} {ws : List ℕ} {fs : List (List ℕ)} (h : FramedForSlot
         rest,
         ap (drop at) (h .words)
             ∙ entry-words (h .head) fs k
-            ∙ ap (λ (gs : List (List ℕ)). polynomialsWords gs ++ endWord (1 + length (polynomialsWords fs)) ∷ []) (drop-cons fs k [] some)
+            ∙ ap
+            (λ (gs : List (List ℕ)). polynomialsWords gs ++ endWord (1 + length (polynomialsWords fs)) ∷ [])
+            (drop-cons fs k [] some)
             ∙ append-assoc (polynomialWords f) (polynomialsWords (drop (suc k) fs)) _,
       )
 
@@ -54,12 +56,16 @@ module _ {width : ℕ} {ws : List ℕ} {fs : List (List ℕ)} (h : FramedForSlot
   pub place-count : payload (getD ws at 0) ≡ length f
   place-count =
       let here : at + 0 ≡ at = omega arith in
-      ap (λ (i : ℕ). payload (getD ws i 0)) (sym here) ∙ word-from 0 ∙ count-at f (from-place .0) (omega (arith, h .sizes k, h .narrow))
+      ap (λ (i : ℕ). payload (getD ws i 0)) (sym here)
+      ∙ word-from 0
+      ∙ count-at f (from-place .0) (omega (arith, h .sizes k, h .narrow))
 
   pub place-coefficient : (i : ℕ) → i < length f → payload (getD ws (at + (1 + i)) 0) ≡ getD f i 0
   place-coefficient i lt =
       let next : 1 + i ≡ suc i = omega arith in
-      ap (λ (j : ℕ). payload (getD ws (at + j) 0)) next ∙ word-from (suc i) ∙ coefficient-at (h .modulus) (h .small) f (from-place .0) (h .canonical k) i lt
+      ap (λ (j : ℕ). payload (getD ws (at + j) 0)) next
+      ∙ word-from (suc i)
+      ∙ coefficient-at (h .modulus) (h .small) f (from-place .0) (h .canonical k) i lt
 
 -- ---- slots by their words, which later stores leave alone
 
@@ -120,7 +126,8 @@ module _
         kept j lt =
             let slot = so-far .loading fs h all .slots j lt in
             let apart = slot-before width lt in
-            let outside : (i : ℕ) → i < k * width → getD after i 0 ≡ getD area i 0 = λ i l. rw stores (stored-outside _ area (k * width) n i (inl l)) in
+            let outside : (i : ℕ) → i < k * width → getD after i 0 ≡ getD area i 0 =
+            λ i l. rw stores (stored-outside _ area (k * width) n i (inl l)) in
             record {
               size = outside (j * width) (omega (arith, h .sizes j)) ∙ slot .size;
               words = λ i l. outside (j * width + 1 + i) (omega (arith, h .sizes j)) ∙ slot .words i l;
@@ -134,11 +141,17 @@ module _
           size =
               let e : k * width + 0 ≡ k * width = omega arith in
               let e′ : at + 0 ≡ at = omega arith in
-              ap (λ (i : ℕ). getD after i 0) (sym e) ∙ stored-word 0 (omega arith) ∙ ap (λ (i : ℕ). payload (getD ws i 0)) e′ ∙ turn-count;
+              ap (λ (i : ℕ). getD after i 0) (sym e)
+              ∙ stored-word 0 (omega arith)
+              ∙ ap (λ (i : ℕ). payload (getD ws i 0)) e′
+              ∙ turn-count;
           words =
               λ i lt.
               let e : k * width + 1 + i ≡ k * width + (1 + i) = omega arith in
-              ap (λ (j : ℕ). getD after j 0) e ∙ stored-word (1 + i) (omega arith) ∙ ap (λ (a : ℕ). payload (getD ws (a + (1 + i)) 0)) here ∙ place-coefficient h k some i lt;
+              ap (λ (j : ℕ). getD after j 0) e
+              ∙ stored-word (1 + i) (omega arith)
+              ∙ ap (λ (a : ℕ). payload (getD ws (a + (1 + i)) 0)) here
+              ∙ place-coefficient h k some i lt;
         }
 
         either : (j : ℕ) → (j ≡ k) ⊎ (j < k) → InSlot width after j (getD fs j [])
@@ -159,15 +172,17 @@ module _
       loading = λ fs h all. turned fs h all after n (omega (arith, turn-count fs h all)) stores;
     }
 
-pub loads-end : {width : ℕ} {ws : List ℕ} {count : ℕ} {before area : List ℕ} {at k : ℕ} → Loads width ws count before area at k → count ≤ k
-    → count * width ≤ length before → (fs : List (List ℕ)) → FramedForSlots width ws fs → length fs ≡ count → InSlots width area fs
+pub loads-end : {width : ℕ} {ws : List ℕ} {count : ℕ} {before area : List ℕ} {at k : ℕ} → Loads width ws count before area at k
+    → count ≤ k → count * width ≤ length before
+    → (fs : List (List ℕ)) → FramedForSlots width ws fs → length fs ≡ count → InSlots width area fs
 loads-end {width} {area = area} done past room fs h all = record {
   sizes = λ j lt. in-slot j lt .size;
   slots =
       λ j lt.
       let apart = slot-before width lt in
       let long = done .same-length in
-      slot-is width area j (getD fs j []) (omega (arith, h .sizes j, ap (λ (n : ℕ). n * width) all)) (in-slot j lt .size) (in-slot j lt .words);
+      slot-is width area j (getD fs j []) (omega (arith, h .sizes j, ap (λ (n : ℕ). n * width) all)) (in-slot j lt .size)
+      (in-slot j lt .words);
 }
   where
     in-slot : (j : ℕ) → j < length fs → InSlot width area j (getD fs j [])

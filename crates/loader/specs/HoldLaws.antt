@@ -12,7 +12,8 @@ use Rattle.words.specs.VectorLaws.{all-at}
 use Rattle.words.specs.Frame.{framedWords}
 use Rattle.words.specs.System.{System, Shape, SystemWithin, ShapeWithin, shape, headWord, systemEntries, systemWords}
 use Rattle.words.specs.SystemLaws.{system-laws}
-use Rattle.words.specs.Certificate.{Certificate, CertificateWithin, certificateForm, certificateEntries, formWord, certificateWords, entryCount}
+use Rattle.words.specs.Certificate.{Certificate, CertificateWithin, certificateForm, certificateEntries, formWord}
+use Rattle.words.specs.Certificate.{certificateWords, entryCount}
 use Rattle.words.specs.CertificateLaws.{certificate-laws}
 use Rattle.loader.specs.Slot.{FramedForSlots}
 
@@ -35,7 +36,15 @@ module _ (limits : Limits) (fit : LimitsFit limits) (ws : List ℕ) where
 
     pub system-holds : FramedForSlots (limits .systemCoefficients + 1) ws (systemEntries s)
     unfolding systemWords
-    system-holds = holds-framed (headWord (shape s)) ws (systemEntries s) written system-entries (within .shape .modulus) (fit .systemCoefficients)
+    system-holds =
+        holds-framed
+        (headWord (shape s))
+        ws
+        (systemEntries s)
+        written
+        system-entries
+        (within .shape .modulus)
+        (fit .systemCoefficients)
 
     pub system-canonical : (k : ℕ) → Canonical (s .modulus) (getD (systemEntries s) k [])
     system-canonical k = all-at (s .modulus) (limits .systemCoefficients) (systemEntries s) (system-entries .entries) k .canonical
@@ -43,8 +52,10 @@ module _ (limits : Limits) (fit : LimitsFit limits) (ws : List ℕ) where
     pub system-count : length (systemEntries s) ≡ systemCount (s .rows) (s .columns)
     system-count = system-entries .count
 
-  module _ (h : Shape) (valid : ShapeWithin limits h) (c : Certificate) (written : ws ≡ certificateWords c) (within : CertificateWithin limits h c) where
-    certificate-entries : VectorWithin (h .modulus) (limits .certificateCoefficients) (entryCount h (certificateForm c)) (certificateEntries c)
+  module _ (h : Shape) (valid : ShapeWithin limits h) (c : Certificate) (written : ws ≡ certificateWords c)
+      (within : CertificateWithin limits h c) where
+    certificate-entries :
+        VectorWithin (h .modulus) (limits .certificateCoefficients) (entryCount h (certificateForm c)) (certificateEntries c)
     certificate-entries = certificate-laws limits h .apart c within .entries
 
     pub certificate-holds : FramedForSlots (limits .certificateCoefficients + 1) ws (certificateEntries c)
@@ -60,7 +71,8 @@ module _ (limits : Limits) (fit : LimitsFit limits) (ws : List ℕ) where
         (fit .certificateCoefficients)
 
     pub certificate-canonical : (k : ℕ) → Canonical (h .modulus) (getD (certificateEntries c) k [])
-    certificate-canonical k = all-at (h .modulus) (limits .certificateCoefficients) (certificateEntries c) (certificate-entries .entries) k .canonical
+    certificate-canonical k =
+        all-at (h .modulus) (limits .certificateCoefficients) (certificateEntries c) (certificate-entries .entries) k .canonical
 
     pub certificate-count : length (certificateEntries c) ≡ entryCount h (certificateForm c)
     certificate-count = certificate-entries .count

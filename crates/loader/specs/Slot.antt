@@ -1,4 +1,5 @@
--- An area of slots of one width, a polynomial in each: its number of coefficients, then these. What stands behind them counts for nothing.
+-- An area of slots of one width, a polynomial in each: its number of coefficients, then these. What stands behind them counts for
+-- nothing.
 use mathlib.Core.Path.{_≡_}
 use mathlib.Core.List.{List, []}
 use Prim.Native.Nat.{ℕ, _+_, _*_, _≤_, _<_}

@@ -27,7 +27,15 @@ module _ (width : ℕ) (area : List ℕ) (k : ℕ) where
   unfolding slot
   slot-is f room size words =
       let all = length-slot (omega arith) ∙ size in
-      ext-getD 0 (slot width area k) f all (λ i lt. getD-take (getD area (k * width) 0) (drop (k * width + 1) area) i 0 (omega (arith, all)) ∙ getD-drop (k * width + 1) area i 0 ∙ words i (omega (arith, all)))
+      ext-getD
+      0
+      (slot width area k)
+      f
+      all
+      (λ i lt.
+      getD-take (getD area (k * width) 0) (drop (k * width + 1) area) i 0 (omega (arith, all))
+      ∙ getD-drop (k * width + 1) area i 0
+      ∙ words i (omega (arith, all)))
 
 -- ---- a polynomial's own coefficients as words
 

@@ -12,7 +12,7 @@ ghost use lib.ListN.{length, getD};
 ghost use Rattle.words.specs.Word.{payload};
 ghost use Rattle.vector.specs.Stored.{stored};
 ghost use Rattle.residue.specs.Modulus.{ValidModulus};
-ghost use Rattle.polynomial.specs.Value.{Represents};
+ghost use Rattle.polynomial.specs.Value.{polynomialRoom, Represents};
 ghost use Rattle.loader.specs.Slot.{slot, FramedForSlots, InSlots, SlotFilled};
 
 // Stores the payload of words[a + j] at area[d + j] for j below n.
@@ -56,10 +56,10 @@ pub fn coefficients_in(area: &[u64], width: usize, k: usize) -> &[u64]
 }
 
 // Returns the polynomial in slot k.
-pub fn polynomial_in(area: &[u64], width: usize, k: usize, m: Modulus) -> Polynomial
-    requires { ⌜ ValidModulus m × SlotFilled (m .p) width (now area) k × (width ≤ 257) ⌝ }
-    ensures { λ r. ⌜ Represents (m .p) r (slot width (now (area .entry)) k) ⌝ }
+pub fn polynomial_in(area: &[u64], width: usize, k: usize, modulus: Modulus) -> Polynomial
+    requires { ⌜ ValidModulus modulus × SlotFilled (modulus .p) width (now area) k × (width ≤ polynomialRoom + 1) ⌝ }
+    ensures { λ r. ⌜ Represents (modulus .p) r (slot width (now (area .entry)) k) ⌝ }
 {
     let f = coefficients_in(area, width, k);
-    Polynomial::from_words(f, 0, f.len(), m)
+    Polynomial::from_words(f, 0, f.len(), modulus)
 }

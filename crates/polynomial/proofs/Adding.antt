@@ -14,6 +14,7 @@ use Rattle.vector.specs.Stored.{stored, length-stored}
 use Rattle.vector.specs.Bound.{AtMost, at-most-sum}
 use Rattle.vector.specs.Reduced.{polynomial, canonical-reduced, coefficient-reduced, word-inside, residue-same}
 use Rattle.vector.specs.Multiple.{sumAt, GainsMultiple}
+use Rattle.polynomial.specs.Value.{polynomialRoom}
 use Rattle.polynomial.specs.Product.{GainsProduct}
 use Rattle.polynomial.proofs.Rows.{add-nil, rows-mul, length-polynomial, scale-mod, add-assoc}
 
@@ -36,7 +37,7 @@ module _ (h f : List ℕ) (n : ℕ) (g : List ℕ) (k : ℕ) where
 
   module _ (h′ : List ℕ) (i : ℕ) (so-far : Adding h f n g k h′ i) where
     -- no sum is too large for a word
-    pub adding-fits : n ≤ 256 → AtMost 4611686018427387904 h → AtMost 65535 f → AtMost 65535 g →
+    pub adding-fits : n ≤ polynomialRoom → AtMost 4611686018427387904 h → AtMost 65535 f → AtMost 65535 g →
         (j : ℕ) → j < k → sumAt h′ i g 0 (getD f i 0) j < 18446744073709551616
     adding-fits few hb hf hg j lt =
         let within : i ≤ n = so-far .within in

@@ -12,14 +12,14 @@ use Rattle.modular.specs.Modulo.{modulo}
 use Rattle.modular.specs.Closed.{canonical-nil, canonical-one}
 use Rattle.modular.specs.Coefficientwise.{coefficient-getD, coefficient-last}
 use Rattle.polynomial.specs.Decides.{Decides, decides-yes, decides-no}
-use Rattle.polynomial.specs.Value.{Represents, represents}
+use Rattle.polynomial.specs.Value.{polynomialRoom, Represents, represents}
 
 pub zeros-are-zero : (n i : ℕ) → getD {A = ℕ} (replicate n 0) i 0 ≡ 0
 zeros-are-zero zero i = refl
 zeros-are-zero (suc n) zero = refl
 zeros-are-zero (suc n) (suc i) = zeros-are-zero n i
 
-module _ (p : ℕ) (words : List ℕ) (room : length words ≡ 256) (zeros : (i : ℕ) → getD words i 0 ≡ 0) where
+module _ (p : ℕ) (words : List ℕ) (room : length words ≡ polynomialRoom) (zeros : (i : ℕ) → getD words i 0 ≡ 0) where
   pub represents-zero : Represents p (record { size = 0; coefficients = words }) []
   represents-zero =
       represents

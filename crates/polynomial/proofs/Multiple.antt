@@ -11,6 +11,7 @@ use Rattle.modular.specs.Modulo.{modulo}
 use Rattle.modular.specs.Canonical.{Canonical}
 use Rattle.modular.specs.Closed.{canonical-negate, canonical-scale}
 use Rattle.modular.specs.Coefficientwise.{coefficient-below, coefficient-negate, coefficient-scale, canonical-same}
+use Rattle.residue.specs.Modulus.{largestPrime}
 use Rattle.residue.specs.Sum.{SmallSum}
 use Rattle.vector.specs.Stored.{stored}
 use Rattle.vector.specs.Bound.{AtMost, at-most-sum}
@@ -76,7 +77,8 @@ module _ (p : ℕ) (positive : 0 < p) where
     abbrev sums : List ℕ
     sums = stored (sumAt (f .coefficients) 0 (g .coefficients) 0 c) (f .coefficients) 0 (g .size)
 
-    pub multiple-fits : p ≤ 65521 → (j : ℕ) → j < g .size → sumAt (f .coefficients) 0 (g .coefficients) 0 c j < 18446744073709551616
+    pub multiple-fits : p ≤ largestPrime → (j : ℕ) → j < g .size
+        → sumAt (f .coefficients) 0 (g .coefficients) 0 c j < 18446744073709551616
     multiple-fits limit j lt = omega (arith, words-small (0 + j), product-small j, mul-le-mul-right p limit)
 
     pub multiple-small : {h : List ℕ} → h ≡ sums → (i : ℕ) → SmallSum p (getD h i 0)

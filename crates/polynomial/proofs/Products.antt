@@ -11,7 +11,7 @@ use Rattle.residue.specs.Sum.{SmallSum}
 use Rattle.vector.specs.Bound.{AtMost}
 use Rattle.vector.specs.Reduced.{polynomial}
 use Rattle.polynomial.specs.declared.value.Polynomial.{Polynomial}
-use Rattle.polynomial.specs.Value.{coefficientsOf, ValidPolynomial, word-below, value-polynomial}
+use Rattle.polynomial.specs.Value.{polynomialRoom, coefficientsOf, ValidPolynomial, word-below, value-polynomial}
 use Rattle.polynomial.specs.Product.{GainsProduct}
 
 module _ (p : ℕ) (positive : 0 < p) where
@@ -22,7 +22,7 @@ module _ (p : ℕ) (positive : 0 < p) where
       (gains : GainsProduct (s .coefficients) (f .coefficients) (f .size) (g .coefficients) (g .size) h) where
     pub products-small : (i : ℕ) → SmallSum p (getD h i 0)
     products-small i =
-        let few : f .size ≤ 256 = hf .within in
+        let few : f .size ≤ polynomialRoom = hf .within in
         let at-most : (t : Polynomial) → ValidPolynomial p t → AtMost p (t .coefficients) = words-at-most p (omega arith) in
         omega (
           arith,

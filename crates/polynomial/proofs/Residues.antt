@@ -11,13 +11,13 @@ use Rattle.modular.specs.Modulo.{modulo}
 use Rattle.vector.specs.Stored.{stored, stored-first, stored-outside, length-stored, below-or-not}
 use Rattle.vector.specs.Reduced.{polynomial, canonical-reduced, coefficient-reduced, word-inside, word-behind}
 use Rattle.vector.specs.Moved.{polynomial-stored}
-use Rattle.polynomial.specs.Value.{Represents, represents}
+use Rattle.polynomial.specs.Value.{polynomialRoom, Represents, represents}
 use Rattle.polynomial.proofs.Rows.{length-polynomial}
 
--- n words from the place a on are copied to 256 zeros
+-- n words from the place a on are copied to zeros
 pub record Copied (words : List ℕ) (a n : ℕ) (zeros copied : List ℕ) : Type 0 where
-  pub few : n ≤ 256
-  pub room : length zeros ≡ 256
+  pub few : n ≤ polynomialRoom
+  pub room : length zeros ≡ polynomialRoom
   pub zero : (i : ℕ) → getD zeros i 0 ≡ 0
   pub copies : copied ≡ stored (λ j. getD words (a + j) 0) zeros 0 n
 
@@ -27,7 +27,7 @@ module _ {words : List ℕ} {a n : ℕ} {zeros copied : List ℕ} (by : Copied w
       ap (λ (l : List ℕ). getD l j 0) (by .copies)
       ∙ stored-first (λ j. getD words (a + j) 0) zeros n j (omega (arith, by .few, by .room)) lt
 
-  long : length copied ≡ 256
+  long : length copied ≡ polynomialRoom
   long = ap length (by .copies) ∙ length-stored (λ j. getD words (a + j) 0) zeros 0 n ∙ by .room
 
   module _ (p : ℕ) (positive : 0 < p) {residues : List ℕ} (reduces : residues ≡ stored (λ j. getD copied j 0 % p) copied 0 n) where

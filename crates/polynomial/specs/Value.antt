@@ -16,14 +16,18 @@ use Rattle.vector.specs.Reduced.{polynomial, word-inside, word-behind, reduced-
 use Rattle.vector.specs.Stored.{below-or-not}
 use Rattle.polynomial.specs.declared.value.Polynomial.{Polynomial}
 
+-- the most coefficients of a value
+abbrev pub polynomialRoom : ℕ
+polynomialRoom = 256
+
 -- the coefficients that f holds, lowest power first
 unfoldable pub coefficientsOf : Polynomial → List ℕ
 coefficientsOf f = take (f .size) (f .coefficients)
 
--- at most 256 coefficients, each below p and the last not 0, and zeros in the words behind them
+-- at most so many coefficients, each below p and the last not 0, and zeros in the words behind them
 pub record ValidPolynomial (p : ℕ) (f : Polynomial) : Type 0 where
-  pub room : length (f .coefficients) ≡ 256
-  pub within : f .size ≤ 256
+  pub room : length (f .coefficients) ≡ polynomialRoom
+  pub within : f .size ≤ polynomialRoom
   pub canonical : Canonical p (coefficientsOf f)
   pub behind : (i : ℕ) → f .size ≤ i → getD (f .coefficients) i 0 ≡ 0
 
@@ -79,8 +83,9 @@ module _ (p : ℕ) (f : Polynomial) (valid : ValidPolynomial p f) where
             (below-or-not i n)
 
 -- a value whose words are the coefficients of l, with zeros behind them
-pub represents : (p : ℕ) (f : Polynomial) (l : List ℕ) → Canonical p l → length (f .coefficients) ≡ 256 → f .size ≡ length l →
-    length l ≤ 256 → ((i : ℕ) → getD (f .coefficients) i 0 ≡ coefficient (modulo p) l i) → Represents p f l
+pub represents : (p : ℕ) (f : Polynomial) (l : List ℕ) → Canonical p l → length (f .coefficients) ≡ polynomialRoom →
+    f .size ≡ length l → length l ≤ polynomialRoom →
+    ((i : ℕ) → getD (f .coefficients) i 0 ≡ coefficient (modulo p) l i) → Represents p f l
 unfolding coefficientsOf
 represents p f l canonical room size small words = record {
   valid =

@@ -3,7 +3,7 @@ use crate::value::Polynomial;
 ghost use mathlib.Core.Path.{_≡_};
 ghost use Prim.Native.Nat.{_≤_};
 ghost use lib.ListN.{length, take};
-ghost use Rattle.polynomial.specs.Value.{coefficientsOf};
+ghost use Rattle.polynomial.specs.Value.{polynomialRoom, coefficientsOf};
 ghost use Rattle.polynomial.specs.Decides.{Decides};
 
 // Tells whether the first n words of f and g are the same.
@@ -24,7 +24,7 @@ fn same_words(f: &[u64], g: &[u64], n: usize) -> bool
 impl Polynomial {
     // Tells whether self and g are equal.
     pub fn equal(self, g: Polynomial) -> bool
-        requires { ⌜ (self .size ≤ 256) × (g .size ≤ 256) ⌝ }
+        requires { ⌜ (self .size ≤ polynomialRoom) × (g .size ≤ polynomialRoom) ⌝ }
         ensures { λ r. ⌜ Decides r (coefficientsOf self ≡ coefficientsOf g) ⌝ }
     {
         let n = self.size;

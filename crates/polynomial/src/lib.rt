@@ -1,5 +1,4 @@
-// Polynomials modulo a prime p by value, with at most 256 coefficients: as many as a certificate's polynomial (121) times a row
-// sum (136) has.
+// Polynomials modulo a prime p by value, with room for the products that the check makes.
 pub mod equal;
 pub mod linear;
 pub mod product;

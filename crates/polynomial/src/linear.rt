@@ -3,8 +3,7 @@ use crate::value::Polynomial;
 use residue::modulus::Modulus;
 use residue::number::larger;
 use vector::add_scaled;
-ghost use mathlib.Core.Path.{_≡_};
-ghost use Prim.Native.Nat.{_<_, max};
+ghost use Prim.Native.Nat.{_<_};
 ghost use Rattle.algebra.specs.Coefficients.{add, subtract, scale, monic};
 ghost use Rattle.modular.specs.Modulo.{modulo};
 ghost use Rattle.residue.specs.Modulus.{ValidModulus};
@@ -12,47 +11,49 @@ ghost use Rattle.polynomial.specs.Value.{coefficientsOf, ValidPolynomial
 
 impl Polynomial {
     // Returns self + c g. A sum, a difference and a multiple are each one of these.
-    pub fn add_multiple(self, c: u64, g: Polynomial, m: Modulus) -> Polynomial
-        requires { ⌜ ValidModulus m × ValidPolynomial (m .p) self × (c < m .p) × ValidPolynomial (m .p) g ⌝ }
-        ensures { λ r. ⌜ Represents (m .p) r (add (modulo (m .p)) (coefficientsOf self) (scale (modulo (m .p)) c (coefficientsOf g))) ⌝ }
+    pub fn add_multiple(self, c: u64, g: Polynomial, modulus: Modulus) -> Polynomial
+        requires { ⌜ ValidModulus modulus × ValidPolynomial (modulus .p) self × (c < modulus .p)
+            × ValidPolynomial (modulus .p) g ⌝ }
+        ensures { λ r. ⌜ Represents (modulus .p) r
+            (add (modulo (modulus .p)) (coefficientsOf self) (scale (modulo (modulus .p)) c (coefficientsOf g))) ⌝ }
     {
         let mut h = self.coefficients;
         add_scaled(&mut h, 0, &g.coefficients, 0, g.size, c);
-        Polynomial::from_words(&h, 0, larger(self.size, g.size), m)
+        Polynomial::from_words(&h, 0, larger(self.size, g.size), modulus)
     }
 
     // Returns self + g.
-    pub fn add(self, g: Polynomial, m: Modulus) -> Polynomial
-        requires { ⌜ ValidModulus m × ValidPolynomial (m .p) self × ValidPolynomial (m .p) g ⌝ }
-        ensures { λ r. ⌜ Represents (m .p) r (add (modulo (m .p)) (coefficientsOf self) (coefficientsOf g)) ⌝ }
+    pub fn add(self, g: Polynomial, modulus: Modulus) -> Polynomial
+        requires { ⌜ ValidModulus modulus × ValidPolynomial (modulus .p) self × ValidPolynomial (modulus .p) g ⌝ }
+        ensures { λ r. ⌜ Represents (modulus .p) r (add (modulo (modulus .p)) (coefficientsOf self) (coefficientsOf g)) ⌝ }
     {
-        self.add_multiple(1, g, m)
+        self.add_multiple(1, g, modulus)
     }
 
     // Returns self - g.
-    pub fn subtract(self, g: Polynomial, m: Modulus) -> Polynomial
-        requires { ⌜ ValidModulus m × ValidPolynomial (m .p) self × ValidPolynomial (m .p) g ⌝ }
-        ensures { λ r. ⌜ Represents (m .p) r (subtract (modulo (m .p)) (coefficientsOf self) (coefficientsOf g)) ⌝ }
+    pub fn subtract(self, g: Polynomial, modulus: Modulus) -> Polynomial
+        requires { ⌜ ValidModulus modulus × ValidPolynomial (modulus .p) self × ValidPolynomial (modulus .p) g ⌝ }
+        ensures { λ r. ⌜ Represents (modulus .p) r (subtract (modulo (modulus .p)) (coefficientsOf self) (coefficientsOf g)) ⌝ }
     {
-        self.add_multiple(m.p - 1, g, m)
+        self.add_multiple(modulus.p - 1, g, modulus)
     }
 
     // Returns c self.
-    pub fn scale(self, c: u64, m: Modulus) -> Polynomial
-        requires { ⌜ ValidModulus m × ValidPolynomial (m .p) self × (c < m .p) ⌝ }
-        ensures { λ r. ⌜ Represents (m .p) r (scale (modulo (m .p)) c (coefficientsOf self)) ⌝ }
+    pub fn scale(self, c: u64, modulus: Modulus) -> Polynomial
+        requires { ⌜ ValidModulus modulus × ValidPolynomial (modulus .p) self × (c < modulus .p) ⌝ }
+        ensures { λ r. ⌜ Represents (modulus .p) r (scale (modulo (modulus .p)) c (coefficientsOf self)) ⌝ }
     {
-        Polynomial::zero().add_multiple(c, self, m)
+        Polynomial::zero().add_multiple(c, self, modulus)
     }
 
     // Divides by the leading coefficient; zero stays zero.
-    pub fn monic(self, m: Modulus) -> Polynomial
-        requires { ⌜ ValidModulus m × ValidPolynomial (m .p) self ⌝ }
-        ensures { λ r. ⌜ Represents (m .p) r (monic (modulo (m .p)) (coefficientsOf self)) ⌝ }
+    pub fn monic(self, modulus: Modulus) -> Polynomial
+        requires { ⌜ ValidModulus modulus × ValidPolynomial (modulus .p) self ⌝ }
+        ensures { λ r. ⌜ Represents (modulus .p) r (monic (modulo (modulus .p)) (coefficientsOf self)) ⌝ }
     {
         if self.size == 0 {
             return self;
         }
-        self.scale(m.inverse(self.leading()), m)
+        self.scale(modulus.inverse(self.leading()), modulus)
     }
 }

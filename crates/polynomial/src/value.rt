@@ -14,19 +14,22 @@ ghost use Rattle.residue.specs.Modulus.{ValidModulus};
 ghost use Rattle.residue.specs.Sum.{SmallSum};
 ghost use Rattle.vector.specs.Reduced.{polynomial};
 ghost use Rattle.polynomial.specs.Decides.{Decides};
-ghost use Rattle.polynomial.specs.Value.{coefficientsOf, Represents};
+ghost use Rattle.polynomial.specs.Value.{polynomialRoom, coefficientsOf, Represents};
+
+// The most coefficients of a polynomial by value: as many as a certificate's polynomial (121) times a row sum (136) has.
+pub const POLYNOMIAL_ROOM: usize = 256;
 
 // `size` coefficients, lowest power first, the last not 0, and zeros behind them.
 pub struct Polynomial {
     pub size: usize,
-    pub coefficients: [u64; 256],
+    pub coefficients: [u64; POLYNOMIAL_ROOM],
 }
 
 // Returns words to compute in, all 0.
-pub fn zeros() -> [u64; 256]
-    ensures { λ r. ⌜ (length r ≡ 256) × ((i : ℕ) → getD r i 0 ≡ 0) ⌝ }
+pub fn zeros() -> [u64; POLYNOMIAL_ROOM]
+    ensures { λ r. ⌜ (length r ≡ polynomialRoom) × ((i : ℕ) → getD r i 0 ≡ 0) ⌝ }
 {
-    [0; 256]
+    [0; POLYNOMIAL_ROOM]
 }
 
 impl Polynomial {
@@ -54,15 +57,15 @@ impl Polynomial {
     }
 
     // Returns the polynomial that n words from the place a on stand for: sums that need not be reduced, with zeros at the end.
-    pub fn from_words(words: &[u64], a: usize, n: usize, m: Modulus) -> Polynomial
-        requires { ⌜ ValidModulus m × (n ≤ 256) × (a + n ≤ length (now words)) ⌝ }
-        requires small { ⌜ ((i : ℕ) → i < n → SmallSum (m .p) (getD (now words) (a + i) 0)) ⌝ }
-        ensures { λ r. ⌜ Represents (m .p) r (polynomial (m .p) (now (words .entry)) a n) ⌝ }
+    pub fn from_words(words: &[u64], a: usize, n: usize, modulus: Modulus) -> Polynomial
+        requires { ⌜ ValidModulus modulus × (n ≤ polynomialRoom) × (a + n ≤ length (now words)) ⌝ }
+        requires small { ⌜ ((i : ℕ) → i < n → SmallSum (modulus .p) (getD (now words) (a + i) 0)) ⌝ }
+        ensures { λ r. ⌜ Represents (modulus .p) r (polynomial (modulus .p) (now (words .entry)) a n) ⌝ }
     {
         let mut residues = zeros();
         copy(&mut residues, 0, words, a, n);
-        reduce_range(&mut residues, n, m);
-        let leading = find_leading(&residues, n, m);
+        reduce_range(&mut residues, n, modulus);
+        let leading = find_leading(&residues, n, modulus);
         Polynomial {
             size: leading.size,
             coefficients: residues,
@@ -78,7 +81,7 @@ impl Polynomial {
 
     // Returns the coefficient of the highest power; the zero polynomial's is 0.
     pub fn leading(self) -> u64
-        requires { ⌜ self .size ≤ 256 ⌝ }
+        requires { ⌜ self .size ≤ polynomialRoom ⌝ }
         ensures { λ r. ⌜ ((p : ℕ) → r ≡ leading (modulo p) (coefficientsOf self)) ⌝ }
     {
         let n = self.size;
@@ -90,7 +93,7 @@ impl Polynomial {
 
     // Tells whether the leading coefficient is 1.
     pub fn is_monic(self) -> bool
-        requires { ⌜ self .size ≤ 256 ⌝ }
+        requires { ⌜ self .size ≤ polynomialRoom ⌝ }
         ensures { λ r. ⌜ ((p : ℕ) → r ≡ eqb (leading (modulo p) (coefficientsOf self)) 1) ⌝ }
     {
         self.leading() == 1

@@ -9,10 +9,11 @@ ghost use lib.ListN.{length};
 ghost use Rattle.words.specs.Reading.{used, usedFrom};
 ghost use Rattle.words.specs.Polynomial.{coefficientsFrom, polynomialFrom, polynomialsFrom};
 ghost use Rattle.answers.specs.Answer.{countedOutcome};
+ghost use Rattle.answers.specs.Payload.{payloadBound};
 
 // Reads `count` coefficients, which stand from the second word on.
 fn read_coefficients(words: &[u32], p: u16, count: u32) -> Counted
-    requires { ⌜ (1 ≤ length (now words)) × (count < 268435456) ⌝ }
+    requires { ⌜ (1 ≤ length (now words)) × (count < payloadBound) ⌝ }
     ensures { λ r. ⌜ countedOutcome r ≡ usedFrom 1 (coefficientsFrom p count) (now (words .entry)) ⌝ }
 {
     let last = count as usize;

@@ -1,4 +1,5 @@
 // A word: its kind and its payload.
+use answers::payload::PAYLOAD_BOUND;
 ghost use mathlib.Core.Path.{_≡_};
 ghost use Rattle.words.specs.Word.{kind, payload};
 
@@ -6,12 +7,12 @@ ghost use Rattle.words.specs.Word.{kind, payload};
 pub fn kind_of(word: u32) -> u32
     ensures { λ r. ⌜ r ≡ kind word ⌝ }
 {
-    word / 268435456
+    word / PAYLOAD_BOUND
 }
 
 // Returns the other 28 bits.
 pub fn payload_of(word: u32) -> u32
     ensures { λ r. ⌜ r ≡ payload word ⌝ }
 {
-    word % 268435456
+    word % PAYLOAD_BOUND
 }

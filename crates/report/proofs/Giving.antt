@@ -83,7 +83,8 @@ module _ {h : Shape} {ws : List ℕ} (R : Read h ws) (output : List ℕ) (solved
         given-accepted (R .system) (R .read) a (subst (Answers (R .system)) e (held .answers)) w
 
     pub given-solution : solved ≡ true → {n : ℕ} → n ≡ sizeIn output 0
-        → Written (reportText (accepted (least (take n output)))) entry exit count → ReportGiven (readSystem office ws) entry exit count
+        → Written (reportText (accepted (least (take n output)))) entry exit count
+        → ReportGiven (readSystem office ws) entry exit count
     unfolding answerOf takenCertificate formWhen
     given-solution e {n} size w =
         by-answer (least (take n output))

@@ -36,6 +36,8 @@ unfoldable pub GivenUnless : Bool → Outcome System → (entry exit : List ℕ)
 GivenUnless true read entry exit count = (count ≡ 0) × (exit ≡ entry)
 GivenUnless false read entry exit count = ReportGiven read entry exit count
 
--- `reportSpace`, 1,024 bytes, suffices (`report-fits`): the bytes of a system's file, the lent bytes before and after, and the number of the report's bytes
+-- `reportSpace`, 1,024 bytes, suffices (`report-fits`): the bytes of a system's file, the lent bytes before and after, and the
+-- number of the report's bytes
 abbrev pub ReportsFile : Limits → List ℕ → (entry exit : List ℕ) → ℕ → Type 0
-ReportsFile limits file entry exit count = GivenUnless (ltb (length entry) reportSpace) (readSystemFile limits file) entry exit count
+ReportsFile limits file entry exit count =
+    GivenUnless (ltb (length entry) reportSpace) (readSystemFile limits file) entry exit count

@@ -67,7 +67,8 @@ module _ (file : List ℕ) where
   pub report-exists : (text : List ℕ) × ReportOf office file text
   report-exists = exists-by (readSystemFile office file) refl
 
--- no report is longer than the bytes that suffice: of the denominators of a system's certificates all are the same, and one keeps the limits
+-- no report is longer than the bytes that suffice: of the denominators of a system's certificates all are the same, and one keeps
+-- the limits
 certificate-reported : (h : Shape) → h .modulus ≤ largestModulus → (c : Certificate) → CertificateWithin office h c
     → ReportWithin office (accepted (answerOf c))
 unfolding ReportWithin CertificateWithin answerOf
@@ -78,13 +79,15 @@ answer-reported : (s : System) → SystemWithin office s → (a : Answer) → An
 answer-reported s h a answers =
     let R = office-certificate-exists s h in
     let c = R .certificate in
-    let same = answer-unique s (proper office s h) (answerOf c) a (right-answers office s h c (R .within) (chosen-right s c (R .chosen))) answers in
+    let right = right-answers office s h c (R .within) (chosen-right s c (R .chosen)) in
+    let same = answer-unique s (proper office s h) (answerOf c) a right answers in
     subst (λ b. ReportWithin office (accepted b)) same (certificate-reported (shape s) (h .shape .modulus) c (R .within))
 
 module _ (file : List ℕ) where
   number-small : (number place : ℕ) → readSystemFile office file ≡ refused number place → number < 256
   number-small number place e =
-      omega (arith, numbers-between number place 1 10 (fileRows (wordsOf file)) refl (file-rows office file .in-rows number place e))
+      let row = file-rows office file .in-rows number place e in
+      omega (arith, numbers-between number place 1 10 (fileRows (wordsOf file)) refl row)
 
   short-by : (o : Outcome System) → readSystemFile office file ≡ o → (text : List ℕ) → Reports o text → length text ≤ reportSpace
   unfolding Reports ReportWithin

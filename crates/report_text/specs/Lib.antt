@@ -1,5 +1,5 @@
--- interface, what contracts, other crates and PROVED.md cite: Ascii, Decimal, DecimalLaws, Text, Longest, Examples, Written
--- inside: WrittenLaws
+-- interface, what contracts, other crates and PROVED.md cite: Ascii, Decimal, DecimalLaws, Text, Longest, Examples, Written,
+-- WrittenLaws
 pub mod Ascii
 pub mod Decimal
 pub mod DecimalLaws

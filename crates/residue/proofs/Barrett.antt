@@ -6,13 +6,13 @@ use native.Mathlib.Nat.{mul-le-mul, mul-le-mul-left, mul-le-mul-right, mul-lt-mu
 use native.Mathlib.Omega.{arith}
 use lib.Pow.{pow-mono, pow-pos}
 use Rattle.residue.specs.declared.modulus.Modulus.{Modulus}
-use Rattle.residue.specs.Modulus.{ValidModulus}
+use Rattle.residue.specs.Modulus.{largestPrime, ValidModulus}
 use Rattle.residue.specs.Sum.{SmallSum}
 use Rattle.residue.specs.Barrett.{BarrettStep}
 use Rattle.residue.proofs.Remainder.{sub-mul-mod}
 
--- s is at most 2^14, as 2 s is a power of two and at most 65521
-pub shift-limit : (k p : ℕ) → 2 * 2 ^ k ≤ p → p ≤ 65521 → k ≤ 14
+-- s is at most 2^14, as 2 s is a power of two and at most p
+pub shift-limit : (k p : ℕ) → 2 * 2 ^ k ≤ p → p ≤ largestPrime → k ≤ 14
 shift-limit k p low limit =
     let above : (15 ≤ k → ⊥) = λ le. omega (arith, pow-mono le) in
     omega arith

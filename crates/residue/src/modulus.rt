@@ -3,12 +3,12 @@ ghost use mathlib.Core.Path.{_≡_};
 ghost use Prim.Native.Nat.{_+_, _*_, _%_, _<_, _≤_};
 ghost use Rattle.modular.specs.Prime.{Prime};
 ghost use Rattle.modular.specs.Modulo.{modulo};
-ghost use Rattle.residue.specs.Modulus.{ValidModulus};
+ghost use Rattle.residue.specs.Modulus.{largestPrime, ValidModulus};
 ghost use Rattle.residue.specs.Sum.{SmallSum};
 ghost use Rattle.residue.specs.Barrett.{BarrettStep};
 
-// A prime p of at most 65521, the shift by which 2 * 2^shift <= p < 4 * 2^shift, and 2^32 * 2^shift / p rounded down, with which
-// a remainder by p takes multiplications and shifts only.
+// A prime p of 16 bits, the shift by which 2 * 2^shift <= p < 4 * 2^shift, and 2^32 * 2^shift / p rounded down, with which a
+// remainder by p takes multiplications and shifts only.
 pub struct Modulus {
     pub p: u64,
     pub shift: u32,
@@ -18,7 +18,7 @@ pub struct Modulus {
 impl Modulus {
     // Returns the modulus p, with its shift and reciprocal. `scale` is 2^shift throughout.
     pub fn new(p: u64) -> Modulus
-        requires { ⌜ Prime p × (p ≤ 65521) ⌝ }
+        requires { ⌜ Prime p × (p ≤ largestPrime) ⌝ }
         ensures { λ r. ⌜ ValidModulus r × (r .p ≡ p) ⌝ }
     {
         let mut shift = 0;

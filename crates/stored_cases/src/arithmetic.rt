@@ -10,11 +10,12 @@ use division::gcd;
 use division::quotient;
 use division::remainder;
 use polynomial::Polynomial;
+use polynomial::value::POLYNOMIAL_ROOM;
 use residue::modulus::Modulus;
 use residue::prime::is_prime;
 ghost use Prim.Native.Nat.{_<_, _≤_};
 ghost use Rattle.residue.specs.Modulus.{ValidModulus};
-ghost use Rattle.polynomial.specs.Value.{ValidPolynomial};
+ghost use Rattle.polynomial.specs.Value.{polynomialRoom, ValidPolynomial};
 
 // Answers a case: its code, p and operands.
 pub fn answer(case: &[u32]) {
@@ -120,7 +121,7 @@ fn together(code: u32, f: Polynomial, g: Polynomial, modulus: Modulus)
 fn product(f: Polynomial, g: Polynomial, modulus: Modulus)
     requires { ⌜ ValidModulus modulus × ValidPolynomial (modulus .p) f × ValidPolynomial (modulus .p) g ⌝ }
 {
-    if f.size + g.size <= 257 {
+    if f.size + g.size <= POLYNOMIAL_ROOM + 1 {
         show(f.multiply(g, modulus));
     } else {
         skipped();
@@ -129,7 +130,7 @@ fn product(f: Polynomial, g: Polynomial, modulus: Modulus)
 
 // Prints whether f and g are equal.
 fn compare(f: Polynomial, g: Polynomial)
-    requires { ⌜ (f .size ≤ 256) × (g .size ≤ 256) ⌝ }
+    requires { ⌜ (f .size ≤ polynomialRoom) × (g .size ≤ polynomialRoom) ⌝ }
 {
     if f.equal(g) {
         line(b"equal");
@@ -155,7 +156,7 @@ fn by_divisor(code: u32, f: Polynomial, d: Polynomial, modulus: Modulus)
 
 // Prints the coefficients of f with one space between, `zero` for none.
 fn show(f: Polynomial)
-    requires { ⌜ f .size ≤ 256 ⌝ }
+    requires { ⌜ f .size ≤ polynomialRoom ⌝ }
 {
     let n = f.size;
     if n == 0 {

@@ -1,12 +1,13 @@
 // The operands of arithmetic.
 use crate::input::word;
 use polynomial::Polynomial;
+use polynomial::value::POLYNOMIAL_ROOM;
 use polynomial::value::zeros;
 use residue::modulus::Modulus;
 ghost use Prim.Native.Nat.{ℕ, _+_, _<_, _≤_};
 ghost use lib.ListN.{length, getD};
 ghost use Rattle.residue.specs.Modulus.{ValidModulus};
-ghost use Rattle.polynomial.specs.Value.{ValidPolynomial};
+ghost use Rattle.polynomial.specs.Value.{polynomialRoom, ValidPolynomial};
 
 // A polynomial read from a case, and the place behind it.
 pub struct Operand {
@@ -38,10 +39,10 @@ fn unpack(words: &mut [u64], case: &[u32], place: usize, n: usize, modulus: Modu
 // Reads the polynomial at a place: its number of coefficients, then these. Where there can be none, it is zero.
 pub fn read_operand(case: &[u32], place: usize, modulus: Modulus) -> Operand
     requires { ⌜ ValidModulus modulus × (place ≤ 60000) ⌝ }
-    ensures { λ r. ⌜ ValidPolynomial (modulus .p) (r .value) × (r .next ≤ place + 257) ⌝ }
+    ensures { λ r. ⌜ ValidPolynomial (modulus .p) (r .value) × (r .next ≤ place + polynomialRoom + 1) ⌝ }
 {
     let n = word(case, place) as usize;
-    if 256 < n {
+    if POLYNOMIAL_ROOM < n {
         let none = Polynomial::zero();
         return Operand {
             value: none,

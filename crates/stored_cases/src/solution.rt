@@ -1,5 +1,5 @@
-// The report, the solver and the check on a system's file: the lines of the report joined by `; `, and behind them, for a system that was
-// read, the words of the solver's certificate, or `not accepted` where the check does not accept it.
+// The report, the solver and the check on a system's file: the lines of the report joined by `; `, and behind them, for a system
+// that was read, the words of the solver's certificate, or `not accepted` where the check does not accept it.
 use crate::output::text;
 use crate::output::words;
 use answers::Counted;

@@ -91,7 +91,8 @@ module _ (p : ℕ) (positive : 0 < p) where
           ∙ add-mod (getD l i 0) y p
           ∙ ap₂ (λ (u v : ℕ). (u + v) % p) (sym (coefficient-reduced l i)) (sym ey)
           ∙ sym
-          (coefficient-add p positive (reduced p l) multiple i (canonical-reduced l) (canonical-multiple p positive k c (reduced p q)))
+          (coefficient-add p positive (reduced p l) multiple i (canonical-reduced l)
+          (canonical-multiple p positive k c (reduced p q)))
 
       pub reduced-multiple : reduced p m ≡ add (modulo p) (reduced p l) multiple
       reduced-multiple =

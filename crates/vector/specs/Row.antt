@@ -30,4 +30,5 @@ module _ (p : ℕ) (l : List ℕ) where
       → reduced p (take k l) ≡ reduced p (take a l)
   reduced-take-row k a next inside e =
       let parts = or-zero (orTo l a 3) (orTo l (a + 4) 3) e in
-      reduced-take-or k (a + 4) 3 (omega arith) inside (parts .1) ∙ reduced-take-or (a + 4) a 3 (omega arith) (omega arith) (parts .0)
+      reduced-take-or k (a + 4) 3 (omega arith) inside (parts .1)
+      ∙ reduced-take-or (a + 4) a 3 (omega arith) (omega arith) (parts .0)

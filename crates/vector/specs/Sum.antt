@@ -45,5 +45,8 @@ module _ (h : List ℕ) (d : ℕ) (s : List ℕ) (a n c : ℕ) (given : SumsFit 
   pub later-fit : (j m : ℕ) → j + m ≤ n → SumsFit h (d + j) s (a + j) m c
   later-fit j m within = (
     (omega arith, omega arith, given .0 .2),
-    (λ i lt. rw add-assoc (given .1 .0 (j + i) (omega arith)), λ i lt. rw (sum-later h d s a c j i) (given .1 .1 (j + i) (omega arith))),
+    (
+      λ i lt. rw add-assoc (given .1 .0 (j + i) (omega arith)),
+      λ i lt. rw (sum-later h d s a c j i) (given .1 .1 (j + i) (omega arith)),
+    ),
   )

@@ -1,5 +1,5 @@
--- A value at fault, said without trying (document 01, "Turned back"): "The first value at fault in written order decides, .., at the
--- place its word would have". Numbers are greater by so many for a certificate.
+-- A value at fault, said without trying (document 01, "Turned back"): "The first value at fault in written order decides, .., at
+-- the place its word would have". Numbers are greater by so many for a certificate.
 use mathlib.Core.Path.{_≡_}
 use mathlib.Core.List.{List, []}
 use Prim.Native.Nat.{ℕ, suc, _+_, _≤_, _<_}

@@ -1,6 +1,6 @@
 -- Trials refuse just the first value at fault.
 use mathlib.Core.Path.{_≡_, refl, sym, ap, ap₂, _∙_}
-use mathlib.Core.Bool.{Bool, true, false, _&&_}
+use mathlib.Core.Bool.{true, _&&_}
 use mathlib.Core.Logic.{_⊎_, inl, inr, ⊎-elim, _↔_}
 use mathlib.Core.List.{List, [], _∷_, _++_}
 use Prim.Native.Nat.{ℕ, zero, suc, _+_, _*_, _≤_, _<_}
@@ -12,8 +12,9 @@ use lib.Dec.{eqb, leb, ltb}
 use borrow.Author.Tests.{ltb-true, ltb-false, leb-true, leb-false, eqb-true, lt-ltb, le-ltb, le-leb, lt-leb, eq-eqb}
 use Rattle.modular.specs.Canonical.{Canonical}
 use Rattle.words.specs.Limits.{wordsFor}
-use Rattle.words.specs.Outcome.{Outcome, refuse}
+use Rattle.words.specs.Outcome.{Outcome}
 use Rattle.words.specs.Outcome.Outcome.{refused}
+use Rattle.words.specs.OutcomeLaws.{refuse-refused-iff}
 use Rattle.words.specs.Polynomial.{Within, AllWithin, polynomialWords, polynomialsWords}
 use Rattle.words.specs.PolynomialLaws.{length-polynomialWords, length-polynomialsWords}
 use Rattle.words.specs.Frame.{entryPlace}
@@ -22,14 +23,6 @@ use Rattle.write_frame.specs.TrialLaws.{ends-passed, coefficients-within
 use Rattle.write_frame.specs.Fault.{CoefficientFault, PolynomialFault, ValueFault}
 use Rattle.write_frame.specs.Fault.CoefficientFault.{large, last-zero}
 use Rattle.write_frame.specs.Fault.PolynomialFault.{many, coefficient}
-
--- a row refuses by its own number and place where its condition holds, else what comes next refuses
-pub refuse-iff : {A : Type 0} (b : Bool) (number place : ℕ) (next : Outcome A) (n k : ℕ)
-    → (refuse b number place next ≡ refused n k)
-    ↔ (((b ≡ true) × (n ≡ number) × (k ≡ place)) ⊎ ((b ≡ false) × (next ≡ refused n k)))
-refuse-iff true number place next n k =
-    (λ e. inl (refl, cc, cc), ⊎-elim (λ t. ap₂ refused (sym (t .1)) (sym (t .2))) (λ t. let z = t .0 in cc))
-refuse-iff false number place next n k = (λ e. inr (refl, e), ⊎-elim (λ t. let z = t .0 in cc) (λ t. t .1))
 
 -- ---- coefficients
 
@@ -64,8 +57,8 @@ module _ {A : Type 0} (p by : ℕ) (next : Outcome A) (n k : ℕ) where
       (λ found. inl (found-behind at a f below found))
       (λ rest. inr ((below, ends-passed a f (u .0), rest .0), rest .1))
       (coefficients-fault (at + 1) f (u .1)))
-      (refuse-iff (last? f && eqb a 0) (8 + by) at _ n k .0 (t .1)))
-      (refuse-iff (leb p a) (7 + by) at _ n k .0 e)
+      (refuse-refused-iff (last? f && eqb a 0) (8 + by) at _ n k .0 (t .1)))
+      (refuse-refused-iff (leb p a) (7 + by) at _ n k .0 e)
     where
       of-last : (at a : ℕ) (f : List ℕ) → a < p → last? f && eqb a 0 ≡ true → n ≡ 8 + by → k ≡ at → Found at (a ∷ f)
       of-last at a [] below e number place =
@@ -128,7 +121,7 @@ module _ {A : Type 0} (p limit by : ℕ) (next : Outcome A) (n k : ℕ) where
       (λ last. inr ((within, last .0), last .1))
       (polynomials-fault (at + 1 + length f) fs (rest .1)))
       (coefficients-fault p by (refusePolynomials p limit by (at + 1 + length f) fs next) n k (at + 1) f (t .1)))
-      (refuse-iff (ltb limit (length f)) (6 + by) at _ n k .0 e)
+      (refuse-refused-iff (ltb limit (length f)) (6 + by) at _ n k .0 e)
     where
       found-next : (at : ℕ) (f : List ℕ) (fs : List (List ℕ)) → Within p limit f → FoundFrom (at + 1 + length f) fs
           → FoundFrom at (f ∷ fs)

@@ -5,6 +5,7 @@ use mathlib.Core.List.{List}
 use lib.ListN.{length, getD}
 use Rattle.words.specs.Limits.{wordsFor}
 use Rattle.words.specs.Word.{AllBelow}
+use Rattle.answers.specs.Payload.{payloadBound}
 use Rattle.write_frame.specs.Overwriting.{overwritten}
 use Rattle.write_frame.specs.declared.format.Format.{Format}
 use Rattle.write_frame.specs.Values.{polynomialIn, polynomialsIn}
@@ -18,13 +19,13 @@ pub record Covers (format : Format) (sizes coefficients : List ℕ) : Type 0 whe
   pub sized : format .count ≤ length sizes
   pub roomy : format .stride * format .count ≤ length coefficients
   pub apart : format .limit ≤ format .stride
-  pub short : wordsFor (format .count) (format .limit) < 268435456
+  pub short : wordsFor (format .count) (format .limit) < payloadBound
   pub number : format .by ≤ 20
 
 -- the polynomials keep to their room, and their coefficients fit into words
 pub record Writable (format : Format) (sizes coefficients : List ℕ) : Type 0 where
   pub few : (k : ℕ) → k < format .count → getD sizes k 0 ≤ format .limit
-  pub payloads : (k : ℕ) → k < format .count → AllBelow 268435456 (polynomialIn (format .stride) sizes coefficients k)
+  pub payloads : (k : ℕ) → k < format .count → AllBelow payloadBound (polynomialIn (format .stride) sizes coefficients k)
 
 -- words were written over the first of those lent, and so many they are
 pub record Wrote (ws entry exit : List ℕ) (n : ℕ) : Type 0 where

@@ -9,12 +9,13 @@ ghost use Rattle.words.specs.Limits.{wordsFor};
 ghost use Rattle.words.specs.Word.{word, AllBelow};
 ghost use Rattle.words.specs.Polynomial.{polynomialWords, polynomialsWords};
 ghost use Rattle.words.specs.Frame.{framedWords};
+ghost use Rattle.answers.specs.Payload.{payloadBound};
 ghost use Rattle.write_frame.specs.Overwriting.{overwritten};
 ghost use Rattle.write_frame.specs.Framing.{Covers, Writable, Wrote, entriesIn};
 
 // Writes the words of the coefficients of f.
 fn write_coefficients(words: &mut [u32], f: &[u64])
-    requires { ⌜ (length (now f) ≤ length (now words)) × AllBelow 268435456 (now f) ⌝ }
+    requires { ⌜ (length (now f) ≤ length (now words)) × AllBelow payloadBound (now f) ⌝ }
     ensures { λ _. ⌜ now (words .exit) ≡ overwritten (map (word 3) (now (f .entry))) (now (words .entry)) ⌝ }
 {
     let mut i: usize = 0;
@@ -26,7 +27,7 @@ fn write_coefficients(words: &mut [u32], f: &[u64])
 
 // Writes the start word of f, then its coefficients.
 fn write_polynomial(words: &mut [u32], f: &[u64])
-    requires { ⌜ (1 + length (now f) ≤ length (now words)) × (length (now f) < 268435456) × AllBelow 268435456 (now f) ⌝ }
+    requires { ⌜ (1 + length (now f) ≤ length (now words)) × (length (now f) < payloadBound) × AllBelow payloadBound (now f) ⌝ }
     ensures { λ _. ⌜ now (words .exit) ≡ overwritten (polynomialWords (now (f .entry))) (now (words .entry)) ⌝ }
 {
     words[0] = 0x20000000 + f.len() as u32;

@@ -15,6 +15,7 @@ use Rattle.words.specs.System.{Shape}
 use Rattle.words.specs.Frame.{framedWords}
 use Rattle.words.specs.Certificate.{Form, formWord, entryCount}
 use Rattle.words.specs.Certificate.Form.{solving, absent}
+use Rattle.answers.specs.Payload.{payloadBound}
 use Rattle.write_frame.specs.declared.format.Format.{Format}
 use Rattle.write_frame.specs.Values.{numbersFrom, polynomialIn, polynomialsIn}
 use Rattle.write_frame.specs.ValuesLaws.{numbersFrom-below}
@@ -117,7 +118,7 @@ module _ (h : Shape) (rows : h .rows ≤ office .rows) (columns : h .columns ≤
     Ready lent f = Covers f sizes words × Writable f sizes words × (wordsFor (f .count) (f .limit) ≤ lent)
 
     pub output-ready : length sizes ≡ certificatePolynomials → length words ≡ certificateStride * certificatePolynomials
-        → AllBelow 268435456 words → {lent : ℕ} → longestCertificate office ≤ lent → Ready lent format
+        → AllBelow payloadBound words → {lent : ℕ} → longestCertificate office ≤ lent → Ready lent format
     unfolding polynomialIn
     output-ready s w below {lent} room =
         subst (λ (f : Format). SizesTaken words sizes (f .count) → Ready lent f) (sym is)
@@ -126,7 +127,7 @@ module _ (h : Shape) (rows : h .rows ≤ office .rows) (columns : h .columns ≤
           record { sized = omega arith; roomy = omega arith; apart = omega arith; short = omega arith; number = omega arith },
           record {
             few = λ k lt. let e = sized k lt in omega (arith, size-most words (certificateStride * k) 121);
-            payloads = λ k lt. numbersFrom-below 268435456 words (certificateStride * k) (getD sizes k 0) below;
+            payloads = λ k lt. numbersFrom-below payloadBound words (certificateStride * k) (getD sizes k 0) below;
           },
           omega arith,
         ))

@@ -10,7 +10,8 @@ use Rattle.words.specs.Bytes.{bytesOf}
 use Rattle.write_frame.specs.Overwriting.{overwritten}
 use Rattle.writer.specs.Packing.{PackedBytes}
 
-module _ {ws before after : List ℕ} {count : ℕ} (packed : PackedBytes ws before after count) (room : 4 * length ws ≤ length before) where
+module _ {ws before after : List ℕ} {count : ℕ} (packed : PackedBytes ws before after count)
+    (room : 4 * length ws ≤ length before) where
   pub packed-count : count ≡ length ws
   packed-count = packed .number ∙ min-eq-left {m = length before / 4} (omega arith)
 

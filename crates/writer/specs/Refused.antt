@@ -1,5 +1,5 @@
--- What the writers refuse, said without trying (document 01, "Turned back"): "p, n and m, tried first (2, then 3, at 0). The first value
--- at fault in written order decides, .., at the place its word would have; after these comes 11."
+-- What the writers refuse, said without trying (document 01, "Turned back"): "p, n and m, tried first (2, then 3, at 0). The first
+-- value at fault in written order decides, .., at the place its word would have; after these comes 11."
 use mathlib.Core.Path.{_≡_}
 use mathlib.Core.List.{List}
 use Prim.Native.Nat.{ℕ, _≤_, _<_}
@@ -19,9 +19,10 @@ abbrev pub MayBeSizes : Limits → Shape → Type 0
 MayBeSizes limits h =
     ((1 ≤ h .rows) × (h .rows ≤ limits .rows)) × ((1 ≤ h .columns) × (h .columns ≤ limits .columns))
 
--- Of a shape and polynomials of at most so many coefficients, where so many words are lent for a longest form: refusals of polynomials
--- have numbers that are greater by so many.
-pub data WriterFault (limits : Limits) (h : Shape) (limit by longest lent : ℕ) (fs : List (List ℕ)) (number place : ℕ) : Type 0 where
+-- Of a shape and polynomials of at most so many coefficients, where so many words are lent for a longest form: refusals of
+-- polynomials have numbers that are greater by so many.
+pub data WriterFault (limits : Limits) (h : Shape) (limit by longest lent : ℕ) (fs : List (List ℕ)) (number place : ℕ)
+    : Type 0 where
   modulus : ¬ MayBeModulus (h .modulus) → number ≡ 2 → place ≡ 0 → WriterFault limits h limit by longest lent fs number place
   sizes : MayBeModulus (h .modulus) → ¬ MayBeSizes limits h → number ≡ 3 → place ≡ 0
       → WriterFault limits h limit by longest lent fs number place

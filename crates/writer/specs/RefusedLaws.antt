@@ -13,7 +13,7 @@ use Rattle.modular.specs.Primality.{prime-of-true, true-of-prime}
 use Rattle.words.specs.Limits.{Limits, largestModulus, wordsFor, longestSystem, longestCertificate}
 use Rattle.words.specs.Outcome.{Outcome, refuse}
 use Rattle.words.specs.Outcome.Outcome.{accepted, refused}
-use Rattle.words.specs.OutcomeLaws.{refused-accepted, mapped-refused}
+use Rattle.words.specs.OutcomeLaws.{refused-accepted, refuse-refused-iff, mapped-refused}
 use Rattle.words.specs.System.{System, Shape, ShapeWithin, shape, oneTo, systemEntries, systemWords}
 use Rattle.words.specs.Certificate.{Certificate, certificateEntries, certificateWords}
 use Rattle.words.specs.ReadingLaws.{and-passed}
@@ -24,7 +24,7 @@ use Rattle.write_frame.specs.Trial.{refusePolynomials}
 use Rattle.write_frame.specs.Fault.{PolynomialFault}
 use Rattle.write_frame.specs.Fault.CoefficientFault.{large, last-zero}
 use Rattle.write_frame.specs.Fault.PolynomialFault.{many, coefficient}
-use Rattle.write_frame.specs.FaultLaws.{refuse-iff, polynomials-refused-iff, value-place}
+use Rattle.write_frame.specs.FaultLaws.{polynomials-refused-iff, value-place}
 use Rattle.writer.specs.Writing.{refuseShape, refuseRoom, writeSystem, writeCertificate, lentAfter, Writes}
 use Rattle.writer.specs.WritingLaws.{or-passed, shape-within}
 use Rattle.writer.specs.Refused.{MayBeModulus, MayBeSizes, WriterFault, SystemFault, CertificateFault}
@@ -88,27 +88,28 @@ module _ (limits : Limits) (h : Shape) (limit by longest lent : ℕ) (fs : List 
       (λ v. ⊎-elim
       (λ w. room within (v .0) (ltb-true lent longest (w .0)) (w .1) (w .2))
       (λ w. absurd (refused-accepted (sym (w .1))))
-      (refuse-iff (ltb lent longest) 11 0 (accepted words) n k .0 (v .1)))
+      (refuse-refused-iff (ltb lent longest) 11 0 (accepted words) n k .0 (v .1)))
       (polynomials-refused-iff (h .modulus) limit by lastTried n k fs .0 (u .1)))
-      (refuse-iff noSizes 3 0 tried n k .0 (t .1)))
-      (refuse-iff noModulus 2 0 (refuse noSizes 3 0 tried) n k .0 e)
+      (refuse-refused-iff noSizes 3 0 tried n k .0 (t .1)))
+      (refuse-refused-iff noModulus 2 0 (refuse noSizes 3 0 tried) n k .0 e)
 
   of-fault : Faulty → refuseShape limits h tried ≡ refused n k
   of-fault (modulus bad number place) =
-      refuse-iff noModulus 2 0 (refuse noSizes 3 0 tried) n k .1
+      refuse-refused-iff noModulus 2 0 (refuse noSizes 3 0 tried) n k .1
       (inl (failed-iff noModulus (modulus-iff (h .modulus)) .1 bad, number, place))
   of-fault (sizes good bad number place) =
-      refuse-iff noModulus 2 0 (refuse noSizes 3 0 tried) n k .1
+      refuse-refused-iff noModulus 2 0 (refuse noSizes 3 0 tried) n k .1
       (inr (
         modulus-iff (h .modulus) .1 good,
-        refuse-iff noSizes 3 0 tried n k .1 (inl (failed-iff noSizes (sizes-iff limits h) .1 bad, number, place)),
+        refuse-refused-iff noSizes 3 0 tried n k .1 (inl (failed-iff noSizes (sizes-iff limits h) .1 bad, number, place)),
       ))
   of-fault (value within fault) =
       shape-within limits h tried within ∙ polynomials-refused-iff (h .modulus) limit by lastTried n k fs .1 (inl fault)
   of-fault (room within all short number place) =
       shape-within limits h tried within
       ∙ polynomials-refused-iff (h .modulus) limit by lastTried n k fs .1
-      (inr (all, refuse-iff (ltb lent longest) 11 0 (accepted words) n k .1 (inl (lt-ltb lent longest short, number, place))))
+      (inr
+      (all, refuse-refused-iff (ltb lent longest) 11 0 (accepted words) n k .1 (inl (lt-ltb lent longest short, number, place))))
 
 -- ---- systems, and certificates
 

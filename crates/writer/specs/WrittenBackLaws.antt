@@ -1,5 +1,5 @@
--- "Every accepted form writes back as the same words" (demand 2 of the notice), of the writers' calls: on arrays that stand for what
--- was read, a call answers with the count of the words that were read, and writes just these over the first of the lent words.
+-- "Every accepted form writes back as the same words" (demand 2 of the notice), of the writers' calls: on arrays that stand for
+-- what was read, a call answers with the count of the words that were read, and writes just these over the first of the lent words.
 use mathlib.Core.Path.{_≡_, sym, ap, _∙_}
 use mathlib.Core.List.{List}
 use Prim.Native.Nat.{ℕ, _≤_}
@@ -39,8 +39,8 @@ writes-back {outcome} {ws} {entry} {exit} {answer} e w = record {
 }
 
 module _ (limits : Limits) (fit : LimitsFit limits) (ws sizes coefficients : List ℕ) {entry exit : List ℕ} {answer : Counted} where
-  pub system-written-back : (s : System) → readSystem limits ws ≡ accepted s → systemInArrays limits (shape s) sizes coefficients ≡ s
-      → longestSystem limits ≤ length entry
+  pub system-written-back : (s : System) → readSystem limits ws ≡ accepted s
+      → systemInArrays limits (shape s) sizes coefficients ≡ s → longestSystem limits ≤ length entry
       → Writes (writeSystem limits (length entry) (systemInArrays limits (shape s) sizes coefficients)) entry answer exit
       → WritesBack ws entry answer exit
   system-written-back s read held room w =

@@ -175,7 +175,8 @@ count-words (accepted ws) {entry} {exit} {n} w =
 count-words (refused number place) w = absurd (let t = w .told in let z : _≡_ {A = ℕ} 0 1 = cc in omega arith)
 
 module _ (limits : Limits) (fit : LimitsFit limits) (h : Shape) (sizes coefficients : List ℕ) {entry exit : List ℕ} {n : ℕ} where
-  pub system-call-is-read : Writes (writeSystem limits (length entry) (systemInArrays limits h sizes coefficients)) entry (Count n) exit
+  pub system-call-is-read :
+      Writes (writeSystem limits (length entry) (systemInArrays limits h sizes coefficients)) entry (Count n) exit
       → readSystem limits (take n exit) ≡ accepted (systemInArrays limits h sizes coefficients)
   system-call-is-read w = system-written-is-read limits (length entry) h sizes coefficients fit (take n exit) (count-words _ w)
 

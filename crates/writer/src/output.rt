@@ -16,6 +16,7 @@ ghost use Rattle.words.specs.Word.{AllBelow};
 ghost use Rattle.words.specs.Frame.{framedWords};
 ghost use Rattle.words.specs.Certificate.{formWord, entryCount};
 ghost use Rattle.answers.specs.Answer.{shapeOf, formOf};
+ghost use Rattle.answers.specs.Payload.{payloadBound};
 ghost use Rattle.write_frame.specs.Framing.{Wrote};
 ghost use Rattle.writer.specs.Output.{sizeIn, SizesTaken, polynomialsOf};
 
@@ -41,7 +42,8 @@ fn store_sizes(
     count: usize,
 )
     requires { ⌜ (count ≤ certificatePolynomials) × (length (now sizes) ≡ certificatePolynomials) ⌝ }
-    ensures { λ _. ⌜ SizesTaken (now (output .entry)) (now (sizes .exit)) count × (length (now (sizes .exit)) ≡ certificatePolynomials) ⌝ }
+    ensures { λ _. ⌜ SizesTaken (now (output .entry)) (now (sizes .exit)) count
+        × (length (now (sizes .exit)) ≡ certificatePolynomials) ⌝ }
 {
     let mut k: usize = 0;
     while k < count {
@@ -57,7 +59,7 @@ pub fn write_output(
     form: Form,
     shape: Shape,
 ) -> usize
-    requires { ⌜ (shape .rows ≤ office .rows) × (shape .columns ≤ office .columns) × AllBelow 268435456 (now output)
+    requires { ⌜ (shape .rows ≤ office .rows) × (shape .columns ≤ office .columns) × AllBelow payloadBound (now output)
         × (longestCertificate office ≤ length (now words)) ⌝ }
     ensures { λ r. ⌜ Wrote
         (framedWords (formWord (formOf form))

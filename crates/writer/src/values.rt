@@ -11,6 +11,7 @@ use write_frame::trial::try_polynomials;
 ghost use Prim.Native.Nat.{_*_, _≤_};
 ghost use lib.ListN.{length};
 ghost use Rattle.words.specs.Limits.{office, wordsFor};
+ghost use Rattle.answers.specs.Payload.{payloadBound};
 ghost use Rattle.write_frame.specs.Framing.{Covers};
 ghost use Rattle.writer.specs.Values.{shapeWith};
 ghost use Rattle.writer.specs.Formats.{writeFramed, formatOf, mostOf, strideOf};
@@ -25,7 +26,7 @@ fn write_values(
     format: Format,
     modulus: u64,
 ) -> Counted
-    requires { ⌜ Covers format (now sizes) (now coefficients) × (modulus ≤ 268435456)
+    requires { ⌜ Covers format (now sizes) (now coefficients) × (modulus ≤ payloadBound)
         × (wordsFor (format .count) (format .limit) ≤ format .longest) ⌝ }
     ensures { λ r. ⌜ Writes
         (writeFramed format modulus (length (now (words .entry))) (now (sizes .entry)) (now (coefficients .entry)))

@@ -6,7 +6,7 @@ use lib.ListN.{length}
 use borrow.Author.Needs.{needs}
 use Rattle.modular.specs.Modulo.{modulo}
 use Rattle.residue.specs.Modulus.{ValidModulus}
-use Rattle.polynomial.specs.Value.{coefficientsOf, word-below, leading-residue, represents-is}
+use Rattle.polynomial.specs.Value.{polynomialRoom, coefficientsOf, word-below, leading-residue, represents-is}
 use Rattle.division.proofs.Values.{divisor, divided}
 use Rattle.division.proofs.divide.Statement.{statement}
 use Rattle.division.proofs.divide.Tie as tie
@@ -14,8 +14,8 @@ use Rattle.division.proofs.divide.Tie as tie
 inverse-requires : tie.Need-inverse-requires
 inverse-requires c κs =
     let S = c .before in
-    let p : ℕ = S .args .m .p in
-    let m : ValidModulus (S .args .m) = S .pre .0 in
+    let p : ℕ = S .args .modulus .p in
+    let m : ValidModulus (S .args .modulus) = S .pre .0 in
     let first = leading-residue p (S .args .t2) (S .pre .2) (omega (arith, m .prime .large)) (S .pre .3) in
     let is = c .leading .ensures p in
     (m, rw is (first .0), rw is (first .1))
@@ -24,8 +24,8 @@ divide-words-requires : tie.Need-divide-words-requires
 unfolding coefficientsOf
 divide-words-requires c κs =
     let S = c .before .before .before .before .before .before .before .before .before in
-    let p : ℕ = S .args .m .p in
-    let m : ValidModulus (S .args .m) = S .pre .0 in
+    let p : ℕ = S .args .modulus .p in
+    let m : ValidModulus (S .args .modulus) = S .pre .0 in
     let positive : 0 < p = omega (arith, m .prime .large) in
     let f = S .pre .1 in
     let fresh = c .before .before .before .before .before .zeros in
@@ -46,22 +46,28 @@ from-words-requires : tie.Need-from-words-requires
 from-words-requires c κs =
     let S = c .before .before .before .before .before .before .before .before .before .before .before .before .before in
     let called = c .before .before .before .divide-words in
-    let long : length (called .last .1 .1 .0) ≡ 256 = search needs in
-    ((S .pre .0, omega (arith, S .pre .1 .within), omega (arith, S .pre .1 .within)), λ i lt. called .ensures .small-quotient (0 + i))
+    let long : length (called .last .1 .1 .0) ≡ polynomialRoom = search needs in (
+      (S .pre .0, omega (arith, S .pre .1 .within), omega (arith, S .pre .1 .within)),
+      λ i lt. called .ensures .small-quotient (0 + i),
+    )
 
 from-words-requires-2 : tie.Need-from-words-requires-2
 from-words-requires-2 c κs =
-    let S = c .before .before .before .before .before .before .before .before .before .before .before .before .before .before .before in
-    let called = c .before .before .before .before .before .divide-words in
-    let long : length (called .last .0) ≡ 256 = search needs in
-    ((S .pre .0, omega (arith, S .pre .1 .within), omega (arith, S .pre .1 .within)), λ i lt. called .ensures .small-remainder (0 + i))
+    let divided-by = c .before .before .before .before .before in
+    let S = divided-by .before .before .before .before .before .before .before .before .before .before in
+    let called = divided-by .divide-words in
+    let long : length (called .last .0) ≡ polynomialRoom = search needs in (
+      (S .pre .0, omega (arith, S .pre .1 .within), omega (arith, S .pre .1 .within)),
+      λ i lt. called .ensures .small-remainder (0 + i),
+    )
 
 returns : tie.Need-returns
 unfolding coefficientsOf
 returns c =
-    let S = c .before .before .before .before .before .before .before .before .before .before .before .before .before .before .before .before in
-    let p : ℕ = S .args .m .p in
-    let by = c .before .before .before .before .before .before .divide-words .ensures in
+    let divided-by = c .before .before .before .before .before .before in
+    let S = divided-by .before .before .before .before .before .before .before .before .before .before in
+    let p : ℕ = S .args .modulus .p in
+    let by = divided-by .divide-words .ensures in
     let done = divided p (omega (arith, S .pre .0 .prime .large)) (S .args .t2) (S .pre .2) (S .pre .3) by in (
       represents-is (c .before .before .from-words .ensures) (done .quotient),
       represents-is (c .from-words2 .ensures) (done .remainder),

@@ -1,5 +1,4 @@
 -- What is printed is among the bytes lent for it.
-use native.Mathlib.Omega.{arith}
 use borrow.Author.Needs.{needs}
 use Rattle.linkreport.specs.PrintingLaws.{prints-most}
 use Rattle.linkreport.proofs.main.Statement.{statement}

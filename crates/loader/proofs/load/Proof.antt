@@ -23,13 +23,15 @@ mul-payload-of c =
 shared-slice-read-payload-of : tie.Need-shared-slice-read-payload-of Inv-loop μ-loop
 shared-slice-read-payload-of c =
     let S = c .before .before .before .before .before in
-    omega (arith, turn-room (c .before .before .loop .inv) (c .before .loop-test .taken) (S .pre .1) (S .pre .0 .0) (S .pre .0 .1) (S .pre .0 .2))
+    let P = S .pre in
+    omega (arith, turn-room (c .before .before .loop .inv) (c .before .loop-test .taken) (P .1) (P .0 .0) (P .0 .1) (P .0 .2))
 
 mul-copy-payloads : tie.Need-mul-copy-payloads Inv-loop μ-loop
 mul-copy-payloads c =
     let S = c .before .before .before .before .before .before .before in
     let at = c .before .before .before .before in
-    omega (arith, turn-fits (at .loop .inv) (c .before .before .before .loop-test .taken) (S .pre .1) (S .pre .0 .0) (S .pre .0 .1) (S .pre .0 .2))
+    let P = S .pre in
+    omega (arith, turn-fits (at .loop .inv) (c .before .before .before .loop-test .taken) (P .1) (P .0 .0) (P .0 .1) (P .0 .2))
 
 copy-payloads-requires : tie.Need-copy-payloads-requires Inv-loop μ-loop
 copy-payloads-requires c κs =
@@ -66,7 +68,8 @@ loop-again c =
     let S = c .before .before .before .before .before .before .before .before .before .before in
     let at = c .before .before .before .before .before .before .before in
     let taken = c .before .before .before .before .before .before .loop-test .taken in
-    loads-turn (at .loop .inv) taken (S .pre .1) _ _ (omega (arith, c .before .before .before .before .payload-of .ensures)) (c .before .before .copy-payloads .ensures)
+    let count = c .before .before .before .before .payload-of .ensures in
+    loads-turn (at .loop .inv) taken (S .pre .1) _ _ (omega (arith, count)) (c .before .before .copy-payloads .ensures)
 
 same-length : tie.Need-same-length Inv-loop μ-loop
 same-length c = c .before .loop .inv .same-length

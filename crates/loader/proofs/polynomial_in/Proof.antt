@@ -12,7 +12,7 @@ use Rattle.loader.proofs.polynomial_in.Tie as tie
 from-words-requires : tie.Need-from-words-requires
 from-words-requires c κs =
     let S = c .before .before in
-    let p = S .args .m .p in
+    let p = S .args .modulus .p in
     let positive : 0 < p = omega (arith, S .pre .0 .prime .large) in
     let is = c .coefficients-in .ensures in (
       (S .pre .0, omega (arith, taken-size is (S .pre .1)), omega arith),
@@ -22,7 +22,7 @@ from-words-requires c κs =
 returns : tie.Need-returns
 returns c =
     let S = c .before .before .before in
-    let positive : 0 < S .args .m .p = omega (arith, S .pre .0 .prime .large) in
+    let positive : 0 < S .args .modulus .p = omega (arith, S .pre .0 .prime .large) in
     let is = c .before .coefficients-in .ensures in
     represents-is (c .from-words .ensures) (canonical-polynomial _ positive _ (taken-canonical is (S .pre .1)) ∙ is)
 

@@ -24,7 +24,8 @@ returns-2 : tie.Need-returns-2
 returns-2 c =
     let test = c .before .before .before .before in
     let certifies = test .before in
-    given-none (entry certifies .pre .0) _ _ (certifies .certify-words .ensures) (test .if1 .left) (c .before .before .write-none .ensures)
+    given-none (entry certifies .pre .0) _ _ (certifies .certify-words .ensures) (test .if1 .left)
+    (c .before .before .write-none .ensures)
 
 inside : tie.Need-array-share-prefix-output
 inside c =

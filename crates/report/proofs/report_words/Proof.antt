@@ -20,7 +20,8 @@ returns-2 c =
     let read = refuses .before .before .before in
     let told = read .before .before in
     let tells = ap systemOutcome (read .read2 .given .1) in
-    given-refused _ _ (was-refused _ _ (told .before .limits .ensures) (told .read-system .ensures) tells) (refuses .write-refusal .ensures)
+    given-refused _ _ (was-refused _ _ (told .before .limits .ensures) (told .read-system .ensures) tells)
+    (refuses .write-refusal .ensures)
 
 pub report-words-spec : {M : Type 1} → statement M
 report-words-spec =

@@ -18,7 +18,8 @@ use Rattle.report_text.proofs.write_refusal.Statement.{statement}
 use Rattle.report_text.proofs.write_refusal.Tie as tie
 
 abbrev Left : tie.Start → List (List ℕ) → List ℕ → ℕ → Type 0
-Left c parts out next = Due (reportText (refused (c .args .refusal .number) (c .args .refusal .place))) (c .args .out .now) 0 parts out next
+Left c parts out next =
+    Due (reportText (refused (c .args .refusal .number) (c .args .refusal .place))) (c .args .out .now) 0 parts out next
 
 -- what stands behind the number
 abbrev behind : ℕ → List (List ℕ)
@@ -31,7 +32,8 @@ parts-joined : (number place : ℕ) → reportText (refused number place) ≡ jo
 unfolding reportText
 parts-joined number place = line-three (ascii "refused") (decimal number) (ascii "at") (decimal place)
 
-fits : (c : tie.Start) → length (reportText (refused (c .args .refusal .number) (c .args .refusal .place))) ≤ length (c .args .out .now)
+fits : (c : tie.Start)
+    → length (reportText (refused (c .args .refusal .number) (c .args .refusal .place))) ≤ length (c .args .out .now)
 unfolding ReportWithin
 fits c = le-trans (report-fits (refused (c .args .refusal .number) (c .args .refusal .place)) (omega arith, omega arith)) (c .pre)
 

@@ -1,7 +1,6 @@
 -- The loop keeps: what is read is among the bytes lent.
 use Prim.Native.Nat.{_≤_, _-_}
 use mathlib.Core.Path.{_≡_}
-use native.Mathlib.Omega.{arith}
 use borrow.Author.Needs.{needs}
 use lib.ListN.{length}
 use Rattle.streams.proofs.read_start.Statement.{statement}

@@ -8,7 +8,7 @@ use lib.ListN.{length, getD, take}
 use borrow.Author.Needs.{needs}
 use Rattle.modular.specs.Canonical.{Canonical}
 use Rattle.residue.specs.declared.modulus.Modulus.{Modulus}
-use Rattle.residue.specs.Modulus.{ValidModulus}
+use Rattle.residue.specs.Modulus.{largestPrime, ValidModulus}
 use Rattle.residue.specs.Below.{mul-below, inverse-below}
 use Rattle.division.specs.Long.{Divisor}
 use Rattle.division.proofs.Dividing.{Task, Dividing, dividing-start, dividing-turn, dividing-end, word-small, factor-is}
@@ -30,32 +30,32 @@ abbrev μ-loop : tie.MeasureT-loop
 loop-holds : tie.Need-loop-holds Inv-loop μ-loop
 loop-holds c =
     let S = c .before .before .before in
-    let by = task (S .args .m) (S .pre .0 .0) (S .pre .0 .2) (S .pre .0 .3) (S .pre .1 .0 .0) (S .pre .1 .1 .0) in
+    let by = task (S .args .modulus) (S .pre .0 .0) (S .pre .0 .2) (S .pre .0 .3) (S .pre .1 .0 .0) (S .pre .1 .1 .0) in
     (dividing-start by (S .pre .1 .1 .1) (S .pre .1 .0 .1), omega arith)
 
 reduce-requires : tie.Need-reduce-requires Inv-loop μ-loop
 reduce-requires c κs =
     let S = c .before .before .before .before .before .before in
-    let m : ValidModulus (S .args .m) = S .pre .0 .0 in
-    let positive : 0 < S .args .m .p = omega (arith, m .prime .large) in
+    let m : ValidModulus (S .args .modulus) = S .pre .0 .0 in
+    let positive : 0 < S .args .modulus .p = omega (arith, m .prime .large) in
     let L = c .before .before .loop in
     let small = L .inv .0 .small-remainder in
-    let word = word-small (S .args .m .p) (S .args .n) (L .k - S .args .e) (L .h) positive (S .pre .0 .1) small in
+    let word = word-small (S .args .modulus .p) (S .args .n) (L .k - S .args .e) (L .h) positive (S .pre .0 .1) small in
     (m, omega (arith, word (L .k - 1)))
 
 mul-requires : tie.Need-mul-requires Inv-loop μ-loop
 mul-requires c κs =
     let S = c .before .before .before .before .before .before .before in
-    let m : ValidModulus (S .args .m) = S .pre .0 .0 in (
+    let m : ValidModulus (S .args .modulus) = S .pre .0 .0 in (
       m,
       rw (c .reduce .ensures) (mod-lt _ (omega (arith, m .prime .large))),
-      rw (S .pre .1 .1 .0 .inverts) (inverse-below (S .args .m .p) (m .prime .large) _),
+      rw (S .pre .1 .1 .0 .inverts) (inverse-below (S .args .modulus .p) (m .prime .large) _),
     )
 
 sub-add-scaled-2 : tie.Need-sub-add-scaled-2 Inv-loop μ-loop
 sub-add-scaled-2 c =
     let S = c .before .before .before .before .before .before .before .before .before .before in
-    let p : ℕ = S .args .m .p in
+    let p : ℕ = S .args .modulus .p in
     let below : c .before .before .mul .result < p =
     rw (c .before .before .mul .ensures) (mul-below p (S .pre .0 .0 .prime .large) _ _) in
     omega arith
@@ -63,13 +63,13 @@ sub-add-scaled-2 c =
 add-scaled-requires : tie.Need-add-scaled-requires Inv-loop μ-loop
 add-scaled-requires c κs =
     let S = c .before .before .before .before .before .before .before .before .before .before in
-    let m : ValidModulus (S .args .m) = S .pre .0 .0 in
+    let m : ValidModulus (S .args .modulus) = S .pre .0 .0 in
     let L = c .before .before .before .before .before .before .loop in
     let e : ℕ = S .args .e in
     let by = S .pre .1 .1 .0 in
-    let p : ℕ = S .args .m .p in
+    let p : ℕ = S .args .modulus .p in
     let v : ℕ = c .before .before .mul .result in
-    let limit : p ≤ 65521 = m .limit in
+    let limit : p ≤ largestPrime = m .limit in
     let positive : 0 < p = omega (arith, m .prime .large) in
     let small = L .inv .0 .small-remainder in
     let word = word-small p (S .args .n) (L .k - e) (L .h) positive (S .pre .0 .1) small in (
@@ -90,12 +90,12 @@ loop-again : tie.Need-loop-again Inv-loop μ-loop
 loop-again c =
     let S = c .before .before .before .before .before .before .before .before .before .before .before .before .before in
     let L = c .before .before .before .before .before .before .before .before .before .loop in
-    let p : ℕ = S .args .m .p in
+    let p : ℕ = S .args .modulus .p in
     let e : ℕ = S .args .e in
     let i : ℕ = L .k - 1 - e in
     let place : L .k - 1 ≡ i + e = omega arith in
     let next : L .k - e ≡ i + 1 = omega arith in
-    let by = task (S .args .m) (S .pre .0 .0) (S .pre .0 .2) (S .pre .0 .3) (S .pre .1 .0 .0) (S .pre .1 .1 .0) in
+    let by = task (S .args .modulus) (S .pre .0 .0) (S .pre .0 .2) (S .pre .0 .3) (S .pre .1 .0 .0) (S .pre .1 .1 .0) in
     let reduced = c .before .before .before .before .before .before .reduce .ensures in
     let multiplied = c .before .before .before .before .before .mul .ensures in
     let factor = factor-is p (getD (L .h) (L .k - 1) 0) (S .args .inverse) reduced multiplied in
@@ -110,8 +110,8 @@ loop-again c =
 returns : tie.Need-returns Inv-loop μ-loop
 returns c =
     let S = c .before .before .before .before .before in
-    let m : ValidModulus (S .args .m) = S .pre .0 .0 in
-    dividing-end (S .args .m .p) (omega (arith, m .prime .large)) (S .pre .0 .1) (omega arith) (c .before .loop .inv .0)
+    let m : ValidModulus (S .args .modulus) = S .pre .0 .0 in
+    dividing-end (S .args .modulus .p) (omega (arith, m .prime .large)) (S .pre .0 .1) (omega arith) (c .before .loop .inv .0)
 
 pub divide-words-spec : {M : Type 1} → statement M
 divide-words-spec =

@@ -19,4 +19,6 @@ add-words-for c =
     omega (arith, mul-le-mul n m)
 
 pub system-words-spec : {M : Type 1} → statement M
-system-words-spec = tie.close (tie.spec (λ c. search needs) (λ c. search needs) mul-words-for add-words-for (λ c κs. search needs) (λ c. search needs))
+system-words-spec =
+    tie.close
+    (tie.spec (λ c. search needs) (λ c. search needs) mul-words-for add-words-for (λ c κs. search needs) (λ c. search needs))

@@ -8,8 +8,11 @@ use Rattle.report_text.proofs.text.append_decimal.Statement.{statement}
 use Rattle.report_text.proofs.text.append_decimal.Tie as tie
 
 -- what was written into the array
-written : (c : tie.After-decimal) → take (c .decimal .result) (c .decimal .last .1 .0) ≡ decimal (c .before .before .before .args .n)
-written c = let e = c .decimal .ensures in e .1 .1 ∙ digits-decimal (c .decimal .result) (c .before .before .before .args .n) (e .1 .0)
+written : (c : tie.After-decimal)
+    → take (c .decimal .result) (c .decimal .last .1 .0) ≡ decimal (c .before .before .before .args .n)
+written c =
+    let e = c .decimal .ensures in
+    e .1 .1 ∙ digits-decimal (c .decimal .result) (c .before .before .before .args .n) (e .1 .0)
 
 append-requires : tie.Need-append-requires
 append-requires c κs = rw (written (c .before .before)) (c .before .before .before .before .before .pre)

@@ -19,7 +19,8 @@ start c = due-all _ (ap (λ t. c .args .label .now ++ t) (sym (append-nil _))) (
 abbrev entry : tie.After-append → tie.Start
 entry c = c .before .before .before .before
 
-labelled : (c : tie.After-append) → Left (entry c) (spaced (decimal (entry c .args .n)) ∷ []) (c .append .last .0) (c .append .result)
+labelled : (c : tie.After-append)
+    → Left (entry c) (spaced (decimal (entry c .args .n)) ∷ []) (c .append .last .0) (c .append .result)
 labelled c = due-next (start (entry c)) (c .append .ensures)
 
 append-requires : tie.Need-append-requires

@@ -11,4 +11,5 @@ returns c =
     appended-then (space .append .ensures) (number .append-decimal .ensures)
 
 pub append-number-spec : {M : Type 1} → statement M
-append-number-spec = tie.close (tie.spec (λ c. search needs) (λ c κs. search needs) (λ c κs. search needs) (λ c. search needs) returns)
+append-number-spec =
+    tie.close (tie.spec (λ c. search needs) (λ c κs. search needs) (λ c κs. search needs) (λ c. search needs) returns)

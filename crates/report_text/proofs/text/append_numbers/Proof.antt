@@ -46,7 +46,8 @@ append-number-requires c κs = due-room (left-at _ _ (c .before .before .loop-te
 loop-again : tie.Need-loop-again Inv-loop μ-loop
 loop-again c =
     let turn = c .before .before .before .before .before in
-    (omega arith, due-next (left-at _ _ (turn .loop-test .taken) (turn .before .loop .inv .1)) (c .before .before .append-number .ensures))
+    let left = left-at _ _ (turn .loop-test .taken) (turn .before .loop .inv .1) in
+    (omega arith, due-next left (c .before .before .append-number .ensures))
 
 abbrev entry : tie.After-loop Inv-loop μ-loop → tie.Start Inv-loop μ-loop
 entry c = c .before .before .before .before

@@ -5,6 +5,7 @@ use native.Mathlib.Nat.{le-mul-of-pos-right}
 use native.Mathlib.Omega.{arith}
 use lib.ListN.{length}
 use borrow.Author.Needs.{needs}
+use Rattle.polynomial.specs.Value.{polynomialRoom}
 use Rattle.stored_cases.proofs.operand.read_operand.Statement.{statement}
 use Rattle.stored_cases.proofs.operand.read_operand.Tie as tie
 
@@ -19,7 +20,7 @@ from-words-requires c κs =
     let p = S .args .modulus .p in
     let positive : 0 < p = omega (arith, S .pre .0 .prime .large) in
     let unpacked = c .before .before .unpack in
-    let long : length (unpacked .last .0) ≡ 256 = search needs in (
+    let long : length (unpacked .last .0) ≡ polynomialRoom = search needs in (
       (S .pre .0, omega arith, omega arith),
       λ i lt. omega (arith, unpacked .ensures (0 + i) (omega arith), le-mul-of-pos-right p positive),
     )

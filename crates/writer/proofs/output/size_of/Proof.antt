@@ -23,13 +23,15 @@ loop-again : tie.Need-loop-again Inv-loop μ-loop
 loop-again c =
     let L = c .before .before .before in
     let most = L .loop .inv .0 in
-    (omega arith, sym (size-down _ _ _ (c .before .before .loop-test .taken) (let left = c .if1 .left in omega arith)) ∙ L .loop .inv .1)
+    let left = c .if1 .left in
+    (omega arith, sym (size-down _ _ _ (c .before .before .loop-test .taken) (omega arith)) ∙ L .loop .inv .1)
 
 returns-2 : tie.Need-returns-2 Inv-loop μ-loop
 unfolding sizeFrom
 returns-2 c =
     let L = c .before in
-    omega (arith, L .loop .inv .1, c .loop-test .left, size-most (L .before .args .output .now) (certificateStride * L .before .args .k) (L .loop .size))
+    let most = size-most (L .before .args .output .now) (certificateStride * L .before .args .k) (L .loop .size) in
+    omega (arith, L .loop .inv .1, c .loop-test .left, most)
 
 pub size-of-spec : {M : Type 1} → statement M
 size-of-spec =

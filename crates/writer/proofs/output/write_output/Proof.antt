@@ -17,8 +17,8 @@ write-framed-requires c κs =
     let Z = c .before .before .before in
     let F = Z .before .before in
     let S = F .before .before .before .before in
-    output-ready (shapeOf (S .args .shape)) (S .pre .0) (S .pre .1) _ (F .certificate-format .ensures _) _ _ (Z .store-sizes .ensures .0)
-    (Z .store-sizes .ensures .1) (c .write-framed-arg2 .given .0) (S .pre .2) (S .pre .3)
+    output-ready (shapeOf (S .args .shape)) (S .pre .0) (S .pre .1) _ (F .certificate-format .ensures _) _ _
+    (Z .store-sizes .ensures .0) (Z .store-sizes .ensures .1) (c .write-framed-arg2 .given .0) (S .pre .2) (S .pre .3)
 
 returns : tie.Need-returns
 returns c =
@@ -26,8 +26,8 @@ returns c =
     let Z = W .before .before .before .before in
     let F = Z .before .before in
     let S = F .before .before .before .before in
-    output-wrote (shapeOf (S .args .shape)) (S .pre .0) (S .pre .1) _ (F .certificate-format .ensures _) _ _ (Z .store-sizes .ensures .0)
-    (W .write-framed .ensures)
+    output-wrote (shapeOf (S .args .shape)) (S .pre .0) (S .pre .1) _ (F .certificate-format .ensures _) _ _
+    (Z .store-sizes .ensures .0) (W .write-framed .ensures)
 
 pub write-output-spec : {M : Type 1} → statement M
 write-output-spec =

@@ -15,8 +15,8 @@ returns c =
     represents-is
     (c .add-multiple .ensures)
     (ap
-    (add (modulo (S .args .m .p)) _)
-    (scale-one (S .args .m .p) (omega (arith, S .pre .0 .prime .large)) _ (S .pre .2 .canonical)))
+    (add (modulo (S .args .modulus .p)) _)
+    (scale-one (S .args .modulus .p) (omega (arith, S .pre .0 .prime .large)) _ (S .pre .2 .canonical)))
 
 pub add-spec : {M : Type 1} → statement M
 add-spec = tie.close (tie.spec (λ c κs. search needs) returns)

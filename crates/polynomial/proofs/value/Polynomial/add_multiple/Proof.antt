@@ -5,7 +5,7 @@ use native.Mathlib.Omega.{arith}
 use lib.ListN.{length}
 use borrow.Author.Needs.{needs}
 use Rattle.residue.specs.Modulus.{ValidModulus}
-use Rattle.polynomial.specs.Value.{word-below, represents-is}
+use Rattle.polynomial.specs.Value.{polynomialRoom, word-below, represents-is}
 use Rattle.polynomial.proofs.Multiple.{multiple-fits, multiple-small, multiple-is}
 use Rattle.polynomial.proofs.value.Polynomial.add_multiple.Statement.{statement}
 use Rattle.polynomial.proofs.value.Polynomial.add_multiple.Tie as tie
@@ -13,38 +13,38 @@ use Rattle.polynomial.proofs.value.Polynomial.add_multiple.Tie as tie
 add-scaled-requires : tie.Need-add-scaled-requires
 add-scaled-requires c κs =
     let S = c .before .before .before .before .before in
-    let m : ValidModulus (S .args .m) = S .pre .0 in
-    let positive : 0 < S .args .m .p = omega (arith, m .prime .large) in
+    let m : ValidModulus (S .args .modulus) = S .pre .0 in
+    let positive : 0 < S .args .modulus .p = omega (arith, m .prime .large) in
     let g = S .pre .3 in (
       (omega (arith, S .pre .1 .room, g .within), omega (arith, g .room, g .within), omega (arith, m .limit, S .pre .2)),
       (
-        (λ j lt. omega (arith, word-below (S .args .m .p) (S .args .t3) g positive (0 + j), m .limit)),
-        multiple-fits (S .args .m .p) positive (S .pre .1) g (S .args .c) (S .pre .2) (m .limit),
+        (λ j lt. omega (arith, word-below (S .args .modulus .p) (S .args .t3) g positive (0 + j), m .limit)),
+        multiple-fits (S .args .modulus .p) positive (S .pre .1) g (S .args .c) (S .pre .2) (m .limit),
       ),
     )
 
 from-words-requires : tie.Need-from-words-requires
 from-words-requires c κs =
     let S = c .before .before .before .before .before .before .before .before .before in
-    let m : ValidModulus (S .args .m) = S .pre .0 in
-    let positive : 0 < S .args .m .p = omega (arith, m .prime .large) in
+    let m : ValidModulus (S .args .modulus) = S .pre .0 in
+    let positive : 0 < S .args .modulus .p = omega (arith, m .prime .large) in
     let called = c .before .before .before .add-scaled in
-    let p = S .args .m .p in
+    let p = S .args .modulus .p in
     let small = multiple-small p positive (S .pre .1) (S .pre .3) (S .args .c) (S .pre .2) (called .ensures .0) in
-    let long : length (called .last .0) ≡ 256 = search needs in
-    let fits : c .larger .result ≤ 256 = omega (arith, c .larger .ensures, S .pre .1 .within, S .pre .3 .within) in
+    let long : length (called .last .0) ≡ polynomialRoom = search needs in
+    let fits : c .larger .result ≤ polynomialRoom = omega (arith, c .larger .ensures, S .pre .1 .within, S .pre .3 .within) in
     ((m, fits, omega arith), λ i lt. small (0 + i))
 
 returns : tie.Need-returns
 returns c =
     let S = c .before .before .before .before .before .before .before .before .before .before in
-    let m : ValidModulus (S .args .m) = S .pre .0 in
-    let positive : 0 < S .args .m .p = omega (arith, m .prime .large) in
+    let m : ValidModulus (S .args .modulus) = S .pre .0 in
+    let positive : 0 < S .args .modulus .p = omega (arith, m .prime .large) in
     let called = c .before .before .before .before .add-scaled in
     represents-is
     (c .from-words .ensures)
     (multiple-is
-    (S .args .m .p)
+    (S .args .modulus .p)
     positive
     (S .pre .1)
     (S .pre .3)

@@ -5,7 +5,7 @@ use native.Mathlib.Omega.{arith}
 use lib.ListN.{length}
 use borrow.Author.Needs.{needs}
 use Rattle.residue.specs.Modulus.{ValidModulus}
-use Rattle.polynomial.specs.Value.{represents-is}
+use Rattle.polynomial.specs.Value.{polynomialRoom, represents-is}
 use Rattle.polynomial.proofs.Products.{words-at-most, products-small, products-are}
 use Rattle.polynomial.proofs.value.Polynomial.add_product.Statement.{statement}
 use Rattle.polynomial.proofs.value.Polynomial.add_product.Tie as tie
@@ -13,11 +13,11 @@ use Rattle.polynomial.proofs.value.Polynomial.add_product.Tie as tie
 add-rows-requires : tie.Need-add-rows-requires
 add-rows-requires c κs =
     let S = c .before .before .before .before .before .before .before .before in
-    let m : ValidModulus (S .args .m) = S .pre .0 .0 in
-    let positive : 0 < S .args .m .p = omega (arith, m .prime .large) in
-    let limit : S .args .m .p ≤ 65535 = omega (arith, m .limit) in
-    let small = words-at-most (S .args .m .p) positive 65535 limit in
-    let sum = words-at-most (S .args .m .p) positive 4611686018427387904 (omega arith) in
+    let m : ValidModulus (S .args .modulus) = S .pre .0 .0 in
+    let positive : 0 < S .args .modulus .p = omega (arith, m .prime .large) in
+    let limit : S .args .modulus .p ≤ 65535 = omega (arith, m .limit) in
+    let small = words-at-most (S .args .modulus .p) positive 65535 limit in
+    let sum = words-at-most (S .args .modulus .p) positive 4611686018427387904 (omega arith) in
     let s = S .pre .0 .1 in
     let f = S .pre .0 .2 in
     let g = S .pre .0 .3 in (
@@ -28,13 +28,13 @@ add-rows-requires c κs =
 from-words-requires : tie.Need-from-words-requires
 from-words-requires c κs =
     let S = c .before .before .before .before .before .before .before .before .before .before .before .before .before in
-    let m : ValidModulus (S .args .m) = S .pre .0 .0 in
+    let m : ValidModulus (S .args .modulus) = S .pre .0 .0 in
     let called = c .before .before .before .before .add-rows in
-    let long : length (called .last .0) ≡ 256 = search needs in
-    let fits : c .larger .result - 1 ≤ 256 = omega (arith, c .larger .ensures, S .pre .0 .1 .within) in
+    let long : length (called .last .0) ≡ polynomialRoom = search needs in
+    let fits : c .larger .result - 1 ≤ polynomialRoom = omega (arith, c .larger .ensures, S .pre .0 .1 .within) in
     let small =
     products-small
-    (S .args .m .p)
+    (S .args .modulus .p)
     (omega (arith, m .prime .large))
     (S .pre .0 .1)
     (S .pre .0 .2)
@@ -50,7 +50,7 @@ returns c =
     represents-is
     (c .from-words .ensures)
     (products-are
-    (S .args .m .p)
+    (S .args .modulus .p)
     (omega (arith, S .pre .0 .0 .prime .large))
     (S .pre .0 .1)
     (S .pre .0 .2)

@@ -4,7 +4,7 @@ use Prim.Native.Nat.{ℕ}
 use native.Mathlib.Omega.{arith}
 use lib.ListN.{length, take}
 use borrow.Author.Needs.{needs}
-use Rattle.polynomial.specs.Value.{coefficientsOf}
+use Rattle.polynomial.specs.Value.{polynomialRoom, coefficientsOf}
 use Rattle.polynomial.specs.Decides.{Decides}
 use Rattle.polynomial.proofs.Compared.{compared-sizes}
 use Rattle.polynomial.proofs.value.Polynomial.equal.Statement.{statement}
@@ -15,8 +15,8 @@ unfolding coefficientsOf
 returns c =
     let f = c .before .args .t1 in
     let g = c .before .args .t2 in
-    let room-f : length (f .coefficients) ≡ 256 = search needs in
-    let room-g : length (g .coefficients) ≡ 256 = search needs in
+    let room-f : length (f .coefficients) ≡ polynomialRoom = search needs in
+    let room-g : length (g .coefficients) ≡ polynomialRoom = search needs in
     compared-sizes (f .coefficients) (g .coefficients) (f .size) (g .size) (omega arith) (omega arith) (c .if1 .taken)
 
 returns-2 : tie.Need-returns-2

@@ -5,6 +5,7 @@ use native.Mathlib.Nat.{le-mul-of-pos-right}
 use native.Mathlib.Omega.{arith}
 use lib.ListN.{length}
 use borrow.Author.Needs.{needs}
+use Rattle.polynomial.specs.Value.{polynomialRoom}
 use Rattle.polynomial.proofs.Residues.{Copied, copied-word, residue-small, represents-words}
 use Rattle.polynomial.proofs.value.Polynomial.from_words.Statement.{statement}
 use Rattle.polynomial.proofs.value.Polynomial.from_words.Tie as tie
@@ -16,20 +17,20 @@ reduce-range-requires c κs =
     let copies = c .before .before .copy in
     let by : Copied (S .args .words .now) (S .args .a) (S .args .n) (fresh .result) (copies .last .0) =
     record { few = S .pre .0 .1; room = fresh .ensures .0; zero = fresh .ensures .1; copies = copies .ensures } in
-    let long : length (copies .last .0) ≡ 256 = search needs in
+    let long : length (copies .last .0) ≡ polynomialRoom = search needs in
     ((S .pre .0 .0, omega (arith, by .few)), λ j lt. rw (copied-word by j (omega arith)) (S .pre .1 j (omega arith)))
 
 find-leading-requires : tie.Need-find-leading-requires
 find-leading-requires c κs =
     let S = c .before .before .before .before .before .before .before .before .before in
-    let p = S .args .m .p in
+    let p = S .args .modulus .p in
     let positive : 0 < p = omega (arith, S .pre .0 .0 .prime .large) in
     let fresh = c .before .before .before .before .before .before .before .zeros in
     let copies = c .before .before .before .before .before .copy in
     let reduces = c .before .before .reduce-range in
     let by : Copied (S .args .words .now) (S .args .a) (S .args .n) (fresh .result) (copies .last .0) =
     record { few = S .pre .0 .1; room = fresh .ensures .0; zero = fresh .ensures .1; copies = copies .ensures } in
-    let long : length (reduces .last .0) ≡ 256 = search needs in
+    let long : length (reduces .last .0) ≡ polynomialRoom = search needs in
     let small = residue-small by p positive (reduces .ensures) in
     ((S .pre .0 .0, omega (arith, by .few)), λ j lt. omega (arith, small j (omega arith), le-mul-of-pos-right p positive))
 
@@ -42,7 +43,7 @@ returns c =
     record { few = S .pre .0 .1; room = fresh .ensures .0; zero = fresh .ensures .1; copies = copies .ensures } in
     represents-words
     by
-    (S .args .m .p)
+    (S .args .modulus .p)
     (omega (arith, S .pre .0 .0 .prime .large))
     (c .before .before .before .reduce-range .ensures)
     (c .find-leading .result .size)

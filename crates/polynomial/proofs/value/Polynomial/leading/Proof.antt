@@ -6,7 +6,7 @@ use lib.ListN.{length, take}
 use borrow.Author.Needs.{needs}
 use Rattle.algebra.specs.Coefficients.{leading}
 use Rattle.modular.specs.Modulo.{modulo}
-use Rattle.polynomial.specs.Value.{coefficientsOf}
+use Rattle.polynomial.specs.Value.{polynomialRoom, coefficientsOf}
 use Rattle.polynomial.proofs.Made.{leading-last}
 use Rattle.polynomial.proofs.value.Polynomial.leading.Statement.{statement}
 use Rattle.polynomial.proofs.value.Polynomial.leading.Tie as tie
@@ -19,7 +19,7 @@ returns-2 : tie.Need-returns-2
 unfolding coefficientsOf
 returns-2 c =
     let f = c .before .before .args .t1 in
-    let room : length (f .coefficients) ≡ 256 = search needs in
+    let room : length (f .coefficients) ≡ polynomialRoom = search needs in
     λ p. leading-last p (f .size) (f .coefficients) (omega arith) (omega arith)
 
 pub leading-spec : {M : Type 1} → statement M

@@ -16,14 +16,15 @@ use Rattle.polynomial.proofs.value.Polynomial.monic.Tie as tie
 returns : tie.Need-returns
 returns c =
     let S = c .before .before in
-    let none : length (coefficientsOf (S .args .self)) ≡ 0 = size-length (S .args .m .p) (S .args .self) (S .pre .1) ∙ omega arith in
-    record { valid = S .pre .1; same = sym (monic-zero (S .args .m .p) (coefficientsOf (S .args .self)) none) }
+    let none : length (coefficientsOf (S .args .self)) ≡ 0 =
+    size-length (S .args .modulus .p) (S .args .self) (S .pre .1) ∙ omega arith in
+    record { valid = S .pre .1; same = sym (monic-zero (S .args .modulus .p) (coefficientsOf (S .args .self)) none) }
 
 inverse-requires : tie.Need-inverse-requires
 inverse-requires c κs =
     let S = c .before .before .before in
-    let p : ℕ = S .args .m .p in
-    let m : ValidModulus (S .args .m) = S .pre .0 in
+    let p : ℕ = S .args .modulus .p in
+    let m : ValidModulus (S .args .modulus) = S .pre .0 in
     let first = leading-residue p (S .args .self) (S .pre .1) (omega (arith, m .prime .large)) (omega arith) in
     let is = c .leading .ensures p in
     (m, rw is (first .0), rw is (first .1))
@@ -37,7 +38,7 @@ returns-2 : tie.Need-returns-2
 unfolding monic
 returns-2 c =
     let S = c .before .before .before .before .before in
-    let p : ℕ = S .args .m .p in
+    let p : ℕ = S .args .modulus .p in
     represents-is
     (c .scale .ensures)
     (ap

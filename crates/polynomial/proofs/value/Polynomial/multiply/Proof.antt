@@ -12,13 +12,13 @@ use Rattle.polynomial.proofs.value.Polynomial.multiply.Tie as tie
 add-product-requires : tie.Need-add-product-requires
 add-product-requires c κs =
     let S = c .before in
-    ((S .pre .0, c .zero .ensures (S .args .m .p) .valid, S .pre .1, S .pre .2), S .pre .3)
+    ((S .pre .0, c .zero .ensures (S .args .modulus .p) .valid, S .pre .1, S .pre .2), S .pre .3)
 
 returns : tie.Need-returns
 unfolding add
 returns c =
     let S = c .before .before in
-    let p : ℕ = S .args .m .p in
+    let p : ℕ = S .args .modulus .p in
     represents-is
     (c .add-product .ensures)
     (ap

@@ -13,13 +13,13 @@ use Rattle.polynomial.proofs.value.Polynomial.scale.Tie as tie
 add-multiple-requires : tie.Need-add-multiple-requires
 add-multiple-requires c κs =
     let S = c .before in
-    (S .pre .0, c .zero .ensures (S .args .m .p) .valid, omega arith, S .pre .1)
+    (S .pre .0, c .zero .ensures (S .args .modulus .p) .valid, omega arith, S .pre .1)
 
 returns : tie.Need-returns
 unfolding add
 returns c =
     let S = c .before .before in
-    let p : ℕ = S .args .m .p in
+    let p : ℕ = S .args .modulus .p in
     represents-is
     (c .add-multiple .ensures)
     (ap

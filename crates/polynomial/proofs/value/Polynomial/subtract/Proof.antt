@@ -11,7 +11,7 @@ returns c =
     let S = c .before .before in
     represents-is
     (c .add-multiple .ensures)
-    (subtract-is (S .args .m .p) (omega (arith, S .pre .0 .prime .large)) _ _ (S .pre .2 .canonical))
+    (subtract-is (S .args .modulus .p) (omega (arith, S .pre .0 .prime .large)) _ _ (S .pre .2 .canonical))
 
 pub subtract-spec : {M : Type 1} → statement M
 subtract-spec = tie.close (tie.spec (λ c. search needs) (λ c κs. search needs) returns)

@@ -2,6 +2,7 @@
 use native.Mathlib.Nat.{mul-le-mul, le-of-lt}
 use native.Mathlib.Omega.{arith}
 use Rattle.modular.specs.Modulo.{modulo}
+use Rattle.residue.specs.Modulus.{largestPrime}
 use Rattle.residue.proofs.modulus.Modulus.mul.Statement.{statement}
 use Rattle.residue.proofs.modulus.Modulus.mul.Tie as tie
 
@@ -9,7 +10,7 @@ mul-reduce : tie.Need-mul-reduce
 mul-reduce c =
     omega (
       arith,
-      mul-le-mul {n₁ = c .args .a} {m₁ = c .args .b} {n₂ = 65521} {m₂ = 65521} (omega arith) (omega arith),
+      mul-le-mul {n₁ = c .args .a} {m₁ = c .args .b} {n₂ = largestPrime} {m₂ = largestPrime} (omega arith) (omega arith),
     )
 
 reduce-requires : tie.Need-reduce-requires
