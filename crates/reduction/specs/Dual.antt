@@ -1,7 +1,6 @@
 -- What the second system finds for slots U with tails: a row Y and w with Y·(block) = w·(tail) for each slot. So (Y | -w) kills
 -- the slots, and with them their span.
 use Prim.Native.Nat.{ℕ, suc, _<_, _≤_}
-use Prim.Native.Nat.{_+_ as _+ₙ_}
 use mathlib.Core.Path.{_≡_, refl, sym, _∙_, ap, ap₂}
 use mathlib.Core.List.{[], _∷_}
 use Rattle.ring.specs.Ring.{Ring}
@@ -28,7 +27,6 @@ module _ {A : Type 0} {R : Ring A} (S : Sized R) (n B : ℕ) (U : Slots A) (w : 
     pub empty : (k : ℕ) → k < n → U .size k ≡ 0 → Y k ≡ 𝟘
     pub equal : (i : ℕ) → i < n → 0 < U .size i → sum R n (λ k. Y k * U .at i k) ≡ w * U .at i n
     pub row-small : (k : ℕ) → k < n → size (Y k) ≤ suc B
-    pub row-room : (k : ℕ) → k < n → 0 < size (Y k) → size (Y k) +ₙ degrees n (U .size) ≤ size w +ₙ B
     -- w divides every κ for which there is such a row
     pub least : (κ : A) (y : ℕ → A) → ((k : ℕ) → k < n → U .size k ≡ 0 → y k ≡ 𝟘)
         → ((i : ℕ) → i < n → 0 < U .size i → sum R n (λ k. y k * U .at i k) ≡ κ * U .at i n) → Divides R w κ

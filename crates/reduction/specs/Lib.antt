@@ -1,9 +1,9 @@
 -- interface, what contracts, other crates and PROVED.md cite: Replace, Total, Pivot, Slots, Span, Independence, Euclidean,
 --   Moves, Tails, Trace, Kept, Insert, Inserting, Division, System, Link, Column, Filling, Levels, Descent, Numerators,
---   Reduced, Dual, Transpose, Second, Popov, Certificate, Certifying, Killing, LessTail, Solution, Unfinished, Absence,
---   Existence, Polynomials, Holds, Rounds, Flat, Held
--- inside: Step, Row, Least, Dependence, Lowering, Reducing, Clearing, LowerBounds, Round, Run, RunSecond, RunLevels,
---   RunDescent, RunPopov, Square, Joint, Lines, Units, Gathering, Shortening
+--   Reduced, Dual, Transpose, Second, Popov, Certificate, Certifying, Killing, Solution, Unfinished, Absence, Existence,
+--   Polynomials, Holds, Flat, Held
+-- inside: Step, Row, Least, Dependence, Lowering, Reducing, Clearing, LowerBounds, Run, RunSecond, RunLevels, RunDescent,
+--   RunPopov, Square, Joint, Lines, Units, Gathering
 -- Beside mathematics.md, from the bottom up.
 -- functions of an index, sums of numbers
 pub mod Replace
@@ -51,8 +51,6 @@ pub mod Clearing
 pub mod Certifying
 pub mod LowerBounds
 pub mod Killing
-pub mod Round
-pub mod LessTail
 pub mod Solution
 pub mod Unfinished
 pub mod Absence
@@ -72,7 +70,5 @@ pub mod Gathering
 -- K[x], and vectors over it in memory
 pub mod Polynomials
 pub mod Holds
-pub mod Shortening
-pub mod Rounds
 pub mod Flat
 pub mod Held

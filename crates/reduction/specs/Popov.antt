@@ -16,11 +16,9 @@ use Rattle.reduction.specs.Total.{degrees, degrees-ext}
 use Rattle.reduction.specs.Replace.{replace, replace-here, replace-other, replace-elim, below-suc}
 use Rattle.reduction.specs.Pivot.{Vanishes, Pivot, pivot-add, pivot-ext, HasPivot, find-pivot}
 use Rattle.reduction.specs.Pivot.{Low, low-none, low-ext, low-neg, low-add, low-sum}
-use Rattle.reduction.specs.Slots.{Slots, Filled, unweighted, put, put-here, put-sizes, put-same}
-use Rattle.reduction.specs.Slots.{Same, filled-same, filled-but}
+use Rattle.reduction.specs.Slots.{Slots, Filled, unweighted, put, put-here, put-sizes, put-same, filled-but}
 use Rattle.reduction.specs.Span.{combined, InSpan, InSpanWith, span-combine, span-change}
 use Rattle.reduction.specs.Row.{size-sum-leading}
-use Rattle.reduction.specs.Moves.{with-same}
 use Rattle.reduction.specs.Dual.{Dual}
 use Rattle.reduction.specs.Transpose.{Tops}
 
@@ -144,13 +142,6 @@ module _ {A : Type 0} {R : Ring A} (S : Sized R) (n : ℕ) (d : A) where
 
   pub reworked-none : (U : Slots A) → Reworked U U
   reworked-none U = record { sizes = λ q h. refl; filled = λ full. full; into = λ h z c e u s. s }
-
-  pub reworked-same : {U G G′ : Slots A} → Reworked U G → Same n G G′ → Reworked U G′
-  reworked-same W e = record {
-    sizes = λ q h. W .sizes q h ∙ e .sizes q h;
-    filled = λ full. filled-same e (W .filled full);
-    into = λ h z c m u s. with-same R e (λ k l. refl) u (W .into h z c m u s);
-  }
 
   -- the vector of slot i replaced
   pub reworked-more : {U G : Slots A} → Reworked U G → (i : ℕ) → i < n → 0 < G .size i → {v : ℕ → A} → SlotReduced G i v

@@ -51,20 +51,6 @@ module _ {A : Type 0} {R : Ring A} (S : Sized R) (n : ℕ) where
       product,
     )
 
-    -- the other terms
-    pub row-rest : size (sum R n (without R l (λ j. t j * v j))) < size (t l * v l)
-    row-rest = omega (
-      arith,
-      product,
-      P .positive,
-      size-sum S (size (t l * v l) - 1) n (without R l (λ j. t j * v j))
-          (λ j h. other j h (ℕ-discrete j l)),
-    )
-      where
-        other : (j : ℕ) → j < n → (d : Dec (j ≡ l)) → size (ite d 𝟘 (t j * v j)) ≤ size (t l * v l) - 1
-        other j h (yes q) = omega (arith, size-zero)
-        other j h (no q) = omega (arith, smaller j h q (decLt j l))
-
     row-leading : 0 < size (sum R n (λ j. t j * v j))
     row-leading = omega (arith, row-size, product, P .positive)
 

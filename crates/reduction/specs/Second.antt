@@ -168,27 +168,6 @@ module _ {A : Type 0} {R : Ring A} {S : Sized R} {n B D : ℕ} {U : Slots A} (O 
           )
           go (inr y) = omega (arith, size-of-zero S (w * g k) (ap (λ x. w * x) y ∙ mul-zero R w))
 
-      -- the same with w as it is
-      abbrev most : ℕ
-      most = (size (m .unit * X .now .hand n) +ₙ (B +ₙ D)) -ₙ suc (degrees n (U .size))
-
-      second-room-exact : (k : ℕ) → k < n → size (w * g k) ≤ most -ₙ ω k
-      second-room-exact k h = go (secondSide-cases O k h)
-        where
-          go : (size (g k) +ₙ degrees n (U .size) ≤ B +ₙ d k) ⊎ (g k ≡ 𝟘) → size (w * g k) ≤ most -ₙ ω k
-          go (inl y) = go′ (ℕ-discrete (size (g k)) 0)
-            where
-              go′ : Dec (size (g k) ≡ 0) → size (w * g k) ≤ most -ₙ ω k
-              go′ (yes e) = omega (arith, size-of-zero S (w * g k) (ap (λ x. w * x) (S .size-none (g k) e) ∙ mul-zero R w))
-              go′ (no e) = omega (
-                arith,
-                size-mul-le S w (g k) (size w) (size (g k)) (omega arith) (omega arith),
-                associate-size S m second-positive,
-                second-positive,
-                sizes-high O k h,
-              )
-          go (inr y) = omega (arith, size-of-zero S (w * g k) (ap (λ x. w * x) y ∙ mul-zero R w))
-
       -- Y from its coefficients, as division gives them
       module _ (s : InSpan R n n C (λ i. w * g i)) (Y : ℕ → A) (e : (k : ℕ) → k < n → Y k ≡ s .coefficient (back n k)) where
         abbrev c : ℕ → A
@@ -220,23 +199,6 @@ module _ {A : Type 0} {R : Ring A} {S : Sized R} {n B D : ℕ} {U : Slots A} (O 
           coefficient-size (transposed-filled O) (omega arith) s (B +ₙ D) second-room (back n k) (omega arith) (omega arith),
         )
 
-        row-room : (k : ℕ) → k < n → 0 < size (Y k) → size (Y k) +ₙ degrees n (U .size) ≤ size w +ₙ B
-        row-room k h p = go (ℕ-discrete (C .size (back n k)) 0)
-          where
-            p′ : 0 < size (c (back n k))
-            p′ = omega (arith, p, ap size (e k h))
-
-            go : Dec (C .size (back n k) ≡ 0) → size (Y k) +ₙ degrees n (U .size) ≤ size w +ₙ B
-            go (yes v) = absurd (omega (arith, p′, size-of-zero S (c (back n k)) (s .empty (back n k) (omega arith) v)))
-            go (no v) = omega (
-              arith,
-              ap size (e k h),
-              p,
-              p′,
-              size-filled O (back n k) (omega arith) .1,
-              coefficient-size (transposed-filled O) (omega arith) s most second-room-exact (back n k) (omega arith) p′,
-            )
-
         -- L8
         pub second-dual : Dual S n B U w Y
         second-dual = record {
@@ -246,6 +208,5 @@ module _ {A : Type 0} {R : Ring A} {S : Sized R} {n B D : ℕ} {U : Slots A} (O 
               ∙ s .empty (back n k) (omega arith) (masked-empty (d (back n k)) 0 D (ap (U .size) (twice k h) ∙ y));
           equal = row-equal;
           row-small = λ k h. row-small k h (ℕ-discrete (size (c (back n k))) 0) (ℕ-discrete (C .size (back n k)) 0);
-          row-room = row-room;
           least = second-least;
         }

@@ -1,9 +1,9 @@
 -- Slot i copied, reduced by the other slots, and its tail by d.
-use Prim.Native.Nat.{ℕ, suc, _+_, _-_, _*_, _%_, _<_, _≤_}
-use mathlib.Core.Path.{_≡_, refl, sym, _∙_, ap, subst}
+use Prim.Native.Nat.{ℕ, _+_, _-_, _*_, _%_, _<_, _≤_}
+use mathlib.Core.Path.{_≡_, sym, _∙_, ap, subst}
 use mathlib.Core.Logic.{inr}
 use mathlib.Core.List.{List}
-use native.Mathlib.Nat.{mul-le-mul-right, zero-add, zero-mod}
+use native.Mathlib.Nat.{mul-le-mul-right, zero-mod}
 use native.Mathlib.Omega.{arith}
 use lib.ListN.{length, getD}
 use Rattle.algebra.specs.Field.{Field}
@@ -12,7 +12,7 @@ use Rattle.algebra.specs.Polynomial.{Polynomial}
 use Rattle.algebra.specs.Size.{sized}
 use Rattle.modular.specs.Prime.{Prime}
 use Rattle.modular.specs.Residue.{residues}
-use Rattle.vector.specs.Bound.{AtMost, at-most-stored, at-most-reducible}
+use Rattle.vector.specs.Bound.{AtMost, at-most-stored}
 use Rattle.vector.specs.Stored.{stored, length-stored, stored-first, stored-outside}
 use Rattle.reduction.specs.Replace.{extend, extend-below, extend-at}
 use Rattle.reduction.specs.Slots.{Slots, unweighted}

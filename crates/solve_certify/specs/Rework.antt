@@ -5,7 +5,6 @@ use mathlib.Core.List.{List}
 use lib.ListN.{length, getD, set}
 use Rattle.algebra.specs.Polynomial.{Polynomial}
 use Rattle.algebra.specs.Size.{sized}
-use Rattle.algebra.specs.Monic.{Monic}
 use Rattle.modular.specs.Prime.{Prime}
 use Rattle.modular.specs.Residue.{residues}
 use Rattle.vector.specs.Bound.{Reducible}

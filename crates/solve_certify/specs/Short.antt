@@ -17,7 +17,7 @@ use Rattle.reduction.specs.Slots.{Slots, unweighted, put, put-sizes}
 use Rattle.reduction.specs.Transpose.{Tops}
 use Rattle.reduction.specs.Popov.{SlotPopov, Reworked, reworked-none, reworked-more, popov-put, popov-tops, popov-short}
 use Rattle.reduction.specs.Holds.{Holds}
-use Rattle.solve_lattice.specs.Room.{lanes, blockWords, blockDegrees, mostCoefficients}
+use Rattle.solve_lattice.specs.Room.{blockWords, blockDegrees, mostCoefficients}
 use Rattle.solve_lattice.specs.Word.{words}
 use Rattle.solve_lattice.specs.Memory.{Ends, Level, slotSize, ValidLevel}
 use Rattle.solve_lattice.specs.Holding.{HoldsSlots}

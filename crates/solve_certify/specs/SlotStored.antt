@@ -6,7 +6,7 @@ use mathlib.Core.List.{List}
 use native.Mathlib.Nat.{mod-lt, mod-eq-of-lt, zero-add, zero-mod}
 use native.Mathlib.Omega.{arith}
 use native.Mathlib.Decide.{ℕ-discrete, decLt}
-use lib.ListN.{length, getD, set, length-set, List·getD-eq-default}
+use lib.ListN.{length, getD, length-set, List·getD-eq-default}
 use lib.Seq.{getD-set-same, getD-set-other}
 use Rattle.algebra.specs.Expressions.{shift-zero}
 use Rattle.algebra.specs.Polynomial.{Polynomial}
@@ -26,7 +26,7 @@ use Rattle.solve_lattice.specs.Room.{sizesFrom, tailSizesFrom, inversesFrom}
 use Rattle.solve_lattice.specs.Word.{words, residue-zero, words-first}
 use Rattle.solve_lattice.specs.Memory.{row, height, ZeroFrom, Ends, Level, slotSize, tailSize, slotInverse, ValidSlot, ValidLevel}
 use Rattle.solve_lattice.specs.Holding.{HoldsSlots}
-use Rattle.solve_lattice.specs.Range.{ends-most, words-same, words-apart, words-zero, words-slot, zero-from-same}
+use Rattle.solve_lattice.specs.Range.{ends-most, words-same, words-zero, words-slot, zero-from-same}
 use Rattle.solve_lattice.specs.Reading.{held-same}
 use Rattle.solve_lattice.specs.Remainder.{HoldsReduced}
 use Rattle.solve_descent.specs.Kernel.{ValidKernel}

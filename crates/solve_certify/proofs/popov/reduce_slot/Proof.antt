@@ -1,5 +1,4 @@
 -- `reduce_slot` meets its contract: the law is `slot-reworked`.
-use Prim.Native.Nat.{_-_}
 use mathlib.Core.Path.{refl, sym, subst}
 use native.Mathlib.Omega.{arith}
 use borrow.Author.Needs.{needs}

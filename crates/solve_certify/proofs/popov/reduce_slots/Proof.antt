@@ -2,7 +2,6 @@
 use Prim.Native.Nat.{_-_, _≤_}
 use native.Mathlib.Nat.{pos-of-ne-zero}
 use native.Mathlib.Omega.{arith}
-use borrow.Author.Needs.{needs}
 use Rattle.solve_certify.specs.Rework.{SlotsReworked}
 use Rattle.solve_certify.specs.Short.{slots-none, slots-skip, slots-more, slots-end}
 use Rattle.solve_certify.proofs.popov.reduce_slots.Statement.{statement}
