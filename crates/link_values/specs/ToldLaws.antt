@@ -4,7 +4,7 @@ use Prim.Native.Nat.{ℕ, _+_, _*_, _/_, _%_, _≤_}
 use mathlib.Core.Path.{_≡_, refl, sym, ap, _∙_, subst}
 use mathlib.Core.Logic.{_↔_}
 use mathlib.Core.Bool.{Bool, true, false, _||_}
-use mathlib.Core.List.{List, [], _∷_, map}
+use mathlib.Core.List.{List, [], map}
 use native.Mathlib.Omega.{arith}
 use lib.ListN.{length, getD, drop}
 use lib.Dec.{leb}
@@ -23,13 +23,12 @@ use Rattle.words.specs.Certificate.{Certificate, CertificateWithin, certificate
 use Rattle.words.specs.Certificate.Certificate.{solution, absence}
 use Rattle.words.specs.CertificateLaws.{certificate-written-of-read}
 use Rattle.words.specs.Bytes.{wordsOf, bytesOf, broken, tooLong, readSystemFile}
-use Rattle.words.specs.Pair.{WrittenPair, WrittenFiles}
 use Rattle.words.specs.PairLaws.{pair-accepted-iff}
 use Rattle.lookup.specs.Lookup.{Side, Part, entriesOn, partOf, shown, polynomialLookup}
 use Rattle.verifier.specs.File.{filesBroken}
 use Rattle.verifier.specs.Checked.{words-of-files, files-of-words}
 use Rattle.link_values.specs.Files.{Pair, shapeNumber, readFiles, kindNumber, polynomialLooked, fileLookup}
-use Rattle.link_values.specs.FilesLaws.{asked, files-then, ReadAs, files-read, lookup-canonical}
+use Rattle.link_values.specs.FilesLaws.{asked, files-then, files-read, lookup-canonical}
 
 -- ---- the shape
 
