@@ -1,5 +1,5 @@
 -- A polynomial that is looked up: what is left in the lent numbers.
-use mathlib.Core.Path.{_≡_, refl, sym, ap, _∙_, subst}
+use mathlib.Core.Path.{_≡_, refl, sym, ap, _∙_}
 use mathlib.Core.Bool.{Bool, true, false}
 use mathlib.Core.List.{List, [], append-nil}
 use mathlib.Core.Logic.{⊎-elim}
@@ -25,7 +25,7 @@ use Rattle.lookup.specs.Lookup.{Side, Part, entriesOn, shown, polynomialLookup,
 use Rattle.lookup.specs.LookupLaws.{Shows, lookup-shown}
 use Rattle.vector.specs.Stored.{stored, length-stored, stored-first, stored-outside, below-or-not}
 use Rattle.write_frame.specs.Overwriting.{overwritten}
-use Rattle.link_values.specs.Files.{Pair, readBoth, polynomialLooked, lookupOf}
+use Rattle.link_values.specs.Files.{Pair, readBoth, lookupOf}
 use Rattle.link_values.specs.FilesLaws.{ReadAs, both-accepted, lookup-size, lookup-canonical}
 use Rattle.link_values.specs.Giving.{GivesList}
 use Rattle.link_values.specs.GivingLaws.{gives-list}

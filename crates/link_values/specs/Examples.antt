@@ -12,7 +12,7 @@ use Rattle.words.specs.Certificate.{certificateForm, certificateEntries}
 use Rattle.words.specs.Bytes.{wordsOf, bytesOf, readSystemFile}
 use Rattle.write_frame.specs.Trial.{refuseCoefficients, refusePolynomials}
 use Rattle.writer.specs.Writing.{writeSystem}
-use Rattle.link_values.specs.Files.{fileShape, readBoth, readFiles, fileKind, sideNumbered, fileLookup, writeSystemFile}
+use Rattle.link_values.specs.Files.{fileShape, readFiles, fileKind, sideNumbered, fileLookup, writeSystemFile}
 
 -- p = 2, A = (x), b = 1
 system1 : System

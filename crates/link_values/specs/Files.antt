@@ -5,7 +5,7 @@ use lib.ListN.{length, getD}
 use lib.Dec.{leb}
 use Rattle.words.specs.Limits.{Limits}
 use Rattle.words.specs.Outcome.{Outcome, refuse, followedBy, mapped}
-use Rattle.words.specs.Outcome.Outcome.{accepted, refused}
+use Rattle.words.specs.Outcome.Outcome.{accepted}
 use Rattle.words.specs.System.{System, shape, readSystem}
 use Rattle.words.specs.Certificate.{Certificate, certificateForm, readCertificate}
 use Rattle.words.specs.Bytes.{wordsOf, bytesOf, readSystemFile}

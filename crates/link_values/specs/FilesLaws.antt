@@ -1,15 +1,14 @@
 -- Laws of what is told of files: what is asked of the values comes last; the first words of a certificate's decide; numbers and
 -- places of refusals; sizes.
-use Prim.Native.Nat.{ℕ, zero, suc, _+_, _*_, _/_, _≤_, _<_, min}
+use Prim.Native.Nat.{ℕ, suc, _+_, _*_, _≤_, _<_, min}
 use native.Mathlib.Nat.{min-eq-left, min-eq-right, min-le-left, min-le-right}
 use mathlib.Core.Path.{_≡_, refl, sym, ap, _∙_, subst}
-use mathlib.Core.Logic.{_⊎_, inl, inr}
-use mathlib.Core.Bool.{Bool, true, false, not, _&&_, _||_}
+use mathlib.Core.Bool.{Bool, true, false, _||_}
 use mathlib.Core.List.{List, []}
 use native.Mathlib.Omega.{arith}
 use lib.ListN.{length, getD, take, length-take}
 use lib.Seq.{take-length}
-use lib.Dec.{leb, ltb}
+use lib.Dec.{leb}
 use borrow.Author.Tests.{leb-true, leb-false, ltb-false}
 use Rattle.modular.specs.Canonical.{Canonical}
 use Rattle.words.specs.Limits.{Limits, longestSystem, longestCertificate}
@@ -32,10 +31,10 @@ use Rattle.lookup.specs.Lookup.Side.{system, certificate}
 use Rattle.lookup.specs.FramedLaws.{system-framed, certificate-framed, framed-size}
 use Rattle.truth.specs.Verdict.{verdict, certificateVerdict}
 use Rattle.verifier.specs.File.{filesBroken, fileVerdict}
-use Rattle.link_values.specs.Refusals.{Numbers, Places, refusals-row, refusals-refused, refusals-followed, refusals-mapped}
-use Rattle.link_values.specs.Refusals.{refusals-accepted, refusals-same, numbers-wider, places-wider}
+use Rattle.link_values.specs.Refusals.{Numbers, Places, refusals-row, refusals-followed, refusals-mapped}
+use Rattle.link_values.specs.Refusals.{refusals-accepted, refusals-same, numbers-wider}
 use Rattle.answers.specs.Heads.{shapeNumber}
-use Rattle.link_values.specs.Files.{Pair, fileShape, readBoth, readFiles, fileKind, polynomialLooked, fileLookup}
+use Rattle.link_values.specs.Files.{Pair, fileShape, readBoth, readFiles, fileKind, fileLookup}
 
 -- ---- what is asked of the values: the system is read first, then the certificate for it, then that is tried
 

@@ -1,10 +1,10 @@
 -- What is told of files, in the terms of their words: which files are read, as what; the numbers are those of the heads, the
 -- coefficients those that the lookup shows.
-use Prim.Native.Nat.{ℕ, _+_, _*_, _/_, _%_, _≤_}
+use Prim.Native.Nat.{ℕ, _≤_}
 use mathlib.Core.Path.{_≡_, refl, sym, ap, _∙_, subst}
 use mathlib.Core.Logic.{_↔_}
 use mathlib.Core.Bool.{Bool, true, false, _||_}
-use mathlib.Core.List.{List, [], _∷_, map}
+use mathlib.Core.List.{List, [], map}
 use native.Mathlib.Omega.{arith}
 use lib.ListN.{length, getD, drop}
 use lib.Dec.{leb}
@@ -17,20 +17,18 @@ use Rattle.words.specs.Outcome.Outcome.{accepted, refused}
 use Rattle.words.specs.OutcomeLaws.{refuse-passed}
 use Rattle.words.specs.Polynomial.{polynomialWords}
 use Rattle.words.specs.PlaceLaws.{payloads-of}
-use Rattle.words.specs.System.{System, Shape, shape, ShapeWithin, SystemWithin, systemWords, readSystem}
+use Rattle.words.specs.System.{System, shape, SystemWithin, systemWords, readSystem}
 use Rattle.words.specs.SystemLaws.{system-written-of-read}
 use Rattle.words.specs.Certificate.{Certificate, CertificateWithin, certificateForm, certificateWords, readCertificate}
-use Rattle.words.specs.Certificate.Certificate.{solution, absence}
 use Rattle.words.specs.CertificateLaws.{certificate-written-of-read}
 use Rattle.words.specs.Bytes.{wordsOf, bytesOf, broken, tooLong, readSystemFile}
-use Rattle.words.specs.Pair.{WrittenPair, WrittenFiles}
 use Rattle.words.specs.PairLaws.{pair-accepted-iff}
 use Rattle.lookup.specs.Lookup.{Side, Part, entriesOn, partOf, shown, polynomialLookup}
 use Rattle.verifier.specs.File.{filesBroken}
 use Rattle.verifier.specs.Checked.{words-of-files, files-of-words}
 use Rattle.answers.specs.Heads.{shapeNumber, kindNumber, shape-written, form-written}
 use Rattle.link_values.specs.Files.{Pair, readFiles, polynomialLooked, fileLookup}
-use Rattle.link_values.specs.FilesLaws.{asked, files-then, ReadAs, files-read, lookup-canonical}
+use Rattle.link_values.specs.FilesLaws.{asked, files-then, files-read, lookup-canonical}
 
 -- ---- the shape
 

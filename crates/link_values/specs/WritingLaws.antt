@@ -1,7 +1,7 @@
 -- A system's file from values: room is tried last; numbers and places of refusals; what is written is read back.
-use Prim.Native.Nat.{ℕ, suc, _+_, _*_, _/_, _%_, _≤_, _<_}
-use mathlib.Core.Path.{_≡_, refl, sym, ap, ap₂, _∙_, subst}
-use mathlib.Core.Bool.{Bool, true, false, not, _&&_, _||_}
+use Prim.Native.Nat.{ℕ, _+_, _*_, _/_, _%_, _≤_, _<_}
+use mathlib.Core.Path.{_≡_, refl, sym, ap, ap₂, _∙_}
+use mathlib.Core.Bool.{not, _&&_, _||_}
 use mathlib.Core.List.{List, [], _∷_, _++_}
 use native.Mathlib.Omega.{arith}
 use lib.ListN.{length, take, length-append}
@@ -10,7 +10,7 @@ use borrow.Author.Tests.{lt-ltb, le-ltb, ltb-false}
 use Rattle.modular.specs.Prime.{prime?}
 use Rattle.words.specs.Limits.{Limits, office, systemCount, longestSystem, largestModulus}
 use Rattle.words.specs.LimitsLaws.{LimitsFit, office-fits, systemCount-most, wordsFor-most}
-use Rattle.words.specs.Outcome.{Outcome, refuse, mapped}
+use Rattle.words.specs.Outcome.{Outcome, mapped}
 use Rattle.words.specs.Outcome.Outcome.{accepted, refused}
 use Rattle.words.specs.OutcomeLaws.{refused-accepted, mapped-accepted, refuse-passed, passed-refuse}
 use Rattle.words.specs.System.{System, Shape, ShapeWithin, shape, oneTo, systemEntries, systemWords, readSystem}
@@ -28,7 +28,7 @@ use Rattle.answers.specs.Heads.{shapeNumber}
 use Rattle.link_values.specs.Files.{Pair, fileShape, readFiles, writeSystemFile}
 use Rattle.link_values.specs.FilesLaws.{files-read}
 use Rattle.link_values.specs.Giving.{GivesPacked}
-use Rattle.link_values.specs.Refusals.{Refusals, Numbers, Places, refusals-row, refusals-followed, refusals-mapped}
+use Rattle.link_values.specs.Refusals.{Refusals, Numbers, Places, refusals-row, refusals-mapped}
 use Rattle.link_values.specs.Refusals.{refusals-accepted, numbers-wider}
 use Rattle.link_values.specs.Unpacked.{given-counted}
 

@@ -7,7 +7,6 @@ use native.Mathlib.Numerals.{add-one}
 use native.Mathlib.Omega.{arith}
 use lib.ListN.{length, getD, take, drop, set, length-map, length-set}
 use lib.Seq.{take-at, take-suc, drop-drop, take-all, length-take-le, getD-drop}
-use Rattle.modular.specs.Canonical.{Canonical}
 use Rattle.words.specs.Word.{payload, word}
 use Rattle.words.specs.WordLaws.{payload-word}
 use Rattle.words.specs.Polynomial.{polynomialWords}

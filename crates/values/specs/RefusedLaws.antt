@@ -11,8 +11,8 @@ use borrow.Author.Tests.{le-ltb, ltb-false, not-false}
 use Rattle.modular.specs.Prime.{prime?}
 use Rattle.modular.specs.Primality.{prime-of-true, true-of-prime}
 use Rattle.words.specs.Limits.{Limits, largestModulus}
-use Rattle.words.specs.Outcome.{Outcome, refuse, mapped}
-use Rattle.words.specs.Outcome.Outcome.{accepted, refused}
+use Rattle.words.specs.Outcome.{Outcome, refuse}
+use Rattle.words.specs.Outcome.Outcome.{refused}
 use Rattle.words.specs.OutcomeLaws.{mapped-refused-iff, refuse-refused-iff}
 use Rattle.words.specs.ReadingLaws.{and-passed}
 use Rattle.words.specs.System.{Shape, ShapeWithin, shape, oneTo, readSystem}

@@ -27,8 +27,8 @@ pack-counted-requires c κs =
 
 returns : tie.Need-returns
 returns c =
-    let t = c .before .before .before .before in
-    sym (ap packed (told (t .before .before) _ (t .read .given .1)))
+    let t = c .before .before in
+    c .pack-shape .ensures ∙ sym (ap packed (told (t .before .before) _ (t .read .given .1)))
 
 returns-2 : tie.Need-returns-2
 returns-2 c =
@@ -41,14 +41,7 @@ shape-of-file-spec =
     (tie.spec
     (λ c κs. search needs)
     (λ c. search needs)
-    (λ c. search needs)
-    (λ c. search needs)
-    (λ c. search needs)
-    (λ c. search needs)
-    (λ c. search needs)
-    (λ c. search needs)
-    (λ c. search needs)
-    (λ c. search needs)
+    (λ c κs. search needs)
     (λ c. search needs)
     pack-counted-requires
     returns
