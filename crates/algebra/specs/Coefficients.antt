@@ -1,5 +1,6 @@
 -- Polynomials as lists of coefficients, lowest power first, the last not zero; the empty list is the zero polynomial. The
--- operations are those that contracts cite: they are executable over any operations on coefficients, and `Polynomial` has their laws.
+-- operations are those that contracts cite: they are executable over any operations on coefficients, and `Polynomial` has their
+-- laws.
 use mathlib.Core.Bool.{Bool, true, false}
 use mathlib.Core.List.{List, [], _∷_}
 use Prim.Native.Nat.{ℕ, zero, suc, _-_}

@@ -16,7 +16,8 @@ use Rattle.algebra.specs.Polynomial.{Polynomial, polynomials, list-mul}
 use Rattle.algebra.specs.Sized.{Sized, zero-decided, mul-cancel}
 use Rattle.algebra.specs.Size.{size, leading, sized, size-mul}
 use Rattle.algebra.specs.Division.{quotient, list-quotient}
-use Rattle.algebra.specs.Divides.{Divides, divides-refl, divides-equal, divides-trans, divides-product, one-divides, zero-divides, divides-size}
+use Rattle.algebra.specs.Divides.{Divides, divides-refl, divides-equal, divides-trans, divides-product, one-divides}
+use Rattle.algebra.specs.Divides.{zero-divides, divides-size}
 use Rattle.algebra.specs.Exact.{quotient-exact}
 use Rattle.algebra.specs.Monic.{Monic, monic-one, monic-positive, monic-mul, monic-cofactor, monic-associates}
 use Rattle.algebra.specs.Bezout.{Greatest}
@@ -52,7 +53,8 @@ module _ {A : Type 0} {R : Ring A} (S : Sized R) where
               (combination R (g * c) (g * ((w .s * v + w .t * u) * (a * y)))
               (given c (w .bezout) ∷ given (w .s * x) (k .product) ∷ given (w .t * y) (h .product)
               ∷ given (y * (w .s * v + w .t * u)) e ∷ [])
-              (identity R (a ∷ c ∷ u ∷ v ∷ x ∷ y ∷ g ∷ w .s ∷ w .t ∷ []) (λ ρ qa qc qu qv qx qy qg qs qt. search quotes depth 20) refl));
+              (identity R (a ∷ c ∷ u ∷ v ∷ x ∷ y ∷ g ∷ w .s ∷ w .t ∷ []) (λ ρ qa qc qu qv qx qy qg qs qt. search quotes depth 20)
+              refl));
         };
   }
     where

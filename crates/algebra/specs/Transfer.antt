@@ -7,7 +7,8 @@ use Prim.Native.Nat.{ℕ, zero, suc, _-_}
 use lib.ListN.{length, length-map}
 use Rattle.algebra.specs.Operations.{Operations}
 use Rattle.algebra.specs.Coefficients.{Division, single, cons, constant, one, coefficient, leading, add, negate, subtract}
-use Rattle.algebra.specs.Coefficients.{scale, shift, mul, monic, factor, extendDivision, divide, quotient, remainder, euclid, gcd}
+use Rattle.algebra.specs.Coefficients.{scale, shift, mul, monic, factor, extendDivision, divide, quotient, remainder, euclid}
+use Rattle.algebra.specs.Coefficients.{gcd}
 
 pub record Homomorphism {A B : Type 0} (o : Operations A) (o′ : Operations B) (φ : A → B) : Type 0 where
   pub add : (a b : A) → φ (o .add a b) ≡ o′ .add (φ a) (φ b)

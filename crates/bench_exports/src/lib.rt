@@ -58,7 +58,8 @@ pub extern "C" fn bench_add_scaled(
     counts: &[u64],
 ) -> usize
     ensures count { λ r. ⌜ r ≡ allowed (now (h .entry)) (now (s .entry)) (now (factors .entry)) (now (counts .entry)) ⌝ }
-    ensures words { λ r. ⌜ now (h .exit) ≡ rounds r (now (factors .entry)) (now (counts .entry)) (now (s .entry)) (now (h .entry)) ⌝ }
+    ensures words { λ r. ⌜ now (h .exit) ≡ rounds r (now (factors .entry)) (now (counts .entry)) (now (s .entry)) (now (h .entry))
+        ⌝ }
 {
     if !steps_fit(h, s, factors, counts) {
         return 0;

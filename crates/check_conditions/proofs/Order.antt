@@ -6,7 +6,8 @@ use Rattle.words.specs.Outcome.{Outcome}
 use Rattle.words.specs.Outcome.Outcome.{accepted, refused}
 use Rattle.words.specs.System.{System}
 use Rattle.truth.specs.Verdict.{solutionVerdict, absenceVerdict}
-use Rattle.check_conditions.specs.Table.{tryMonic, tryRows, tryColumns, tryDenominators, tryProducts, trySide, both, solution-rows}
+use Rattle.check_conditions.specs.Table.{tryMonic, tryRows, tryColumns, tryDenominators, tryProducts, trySide, both}
+use Rattle.check_conditions.specs.Table.{solution-rows}
 use Rattle.check_conditions.specs.Table.{absence-rows}
 
 -- a row before others: where it turns back it decides, else the others do

@@ -15,7 +15,8 @@ ghost use Rattle.check_conditions.specs.Table.{productWrong, tryProducts
 fn product_wrong(system: &[u64], certificate: &[u64], dimensions: Dimensions, j: usize) -> bool
     requires { ⌜ Loaded dimensions (dimensions .rows) (now system) (now certificate) × (j < dimensions .columns) ⌝ }
     ensures { λ r. ⌜ r ≡
-        productWrong (systemInSlots dimensions (now (system .entry))) (vectorIn (dimensions .rows) 0 (now (certificate .entry))) j ⌝ }
+        productWrong (systemInSlots dimensions (now (system .entry))) (vectorIn (dimensions .rows) 0 (now (certificate .entry))) j
+        ⌝ }
 {
     let sum = column(system, certificate, 0, dimensions, j);
     !sum.is_zero()
@@ -60,7 +61,8 @@ fn try_side(system: &[u64], certificate: &[u64], dimensions: Dimensions) -> Verd
 pub fn check_absence(system: &[u64], certificate: &[u64], dimensions: Dimensions) -> Verdict
     requires { ⌜ Loaded dimensions (dimensions .rows) (now system) (now certificate) ⌝ }
     ensures { λ r. ⌜ verdictOutcome r ≡
-        absenceVerdict (systemInSlots dimensions (now (system .entry))) (vectorIn (dimensions .rows) 0 (now (certificate .entry))) ⌝ }
+        absenceVerdict (systemInSlots dimensions (now (system .entry))) (vectorIn (dimensions .rows) 0 (now (certificate .entry)))
+        ⌝ }
 {
     let products = try_products(system, certificate, dimensions);
     let Verdict::Accepted = products else {

@@ -14,7 +14,8 @@ ghost use Rattle.check_conditions.specs.Areas.{Loaded, systemInSlots, ve
 
 // Returns row i of A·N.
 pub fn row(system: &[u64], certificate: &[u64], dimensions: Dimensions, i: usize) -> Polynomial
-    requires { ⌜ Loaded dimensions (dimensions .columns + 2 + dimensions .rows) (now system) (now certificate) × (i < dimensions .rows) ⌝ }
+    requires { ⌜ Loaded dimensions (dimensions .columns + 2 + dimensions .rows) (now system) (now certificate)
+        × (i < dimensions .rows) ⌝ }
     ensures { λ r. ⌜ Represents (dimensions .modulus .p) r
         (rowOf (systemInSlots dimensions (now (system .entry))) (vectorIn (dimensions .columns) 1 (now (certificate .entry))) i) ⌝ }
 {
@@ -25,7 +26,8 @@ pub fn row(system: &[u64], certificate: &[u64], dimensions: Dimensions, i: usize
 
 // Returns row i of d·b.
 pub fn target(system: &[u64], certificate: &[u64], dimensions: Dimensions, i: usize) -> Polynomial
-    requires { ⌜ Loaded dimensions (dimensions .columns + 2 + dimensions .rows) (now system) (now certificate) × (i < dimensions .rows) ⌝ }
+    requires { ⌜ Loaded dimensions (dimensions .columns + 2 + dimensions .rows) (now system) (now certificate)
+        × (i < dimensions .rows) ⌝ }
     ensures { λ r. ⌜ Represents (dimensions .modulus .p) r
         (mul (modulo (dimensions .modulus .p)) (slot certificateWidth (now (certificate .entry)) 0)
         (sideEntry (systemInSlots dimensions (now (system .entry))) i)) ⌝ }
@@ -46,7 +48,8 @@ pub fn column(
 ) -> Polynomial
     requires { ⌜ Loaded dimensions (start + dimensions .rows) (now system) (now certificate) × (j < dimensions .columns) ⌝ }
     ensures { λ r. ⌜ Represents (dimensions .modulus .p) r
-        (columnOf (systemInSlots dimensions (now (system .entry))) (vectorIn (dimensions .rows) start (now (certificate .entry))) j) ⌝ }
+        (columnOf (systemInSlots dimensions (now (system .entry))) (vectorIn (dimensions .rows) start (now (certificate .entry)))
+        j) ⌝ }
 {
     let rows = dimensions.rows;
     let columns = dimensions.columns;

@@ -58,7 +58,8 @@ fn try_monic(certificate: &[u64], dimensions: Dimensions) -> Verdict
 
 // Tells whether A·N is not d·b in row i.
 fn row_wrong(system: &[u64], certificate: &[u64], dimensions: Dimensions, i: usize) -> bool
-    requires { ⌜ Loaded dimensions (dimensions .columns + 2 + dimensions .rows) (now system) (now certificate) × (i < dimensions .rows) ⌝ }
+    requires { ⌜ Loaded dimensions (dimensions .columns + 2 + dimensions .rows) (now system) (now certificate)
+        × (i < dimensions .rows) ⌝ }
     ensures { λ r. ⌜ r ≡
         rowWrong (systemInSlots dimensions (now (system .entry))) (denominatorIn (now (certificate .entry)))
         (numeratorsIn dimensions (now (certificate .entry))) i ⌝ }
@@ -135,7 +136,8 @@ fn try_denominators(system: &[u64], certificate: &[u64], dimensions: Dimensions)
     requires divisor { ⌜ 0 < length (certifyingDenominatorIn dimensions (now certificate)) ⌝ }
     ensures { λ r. ⌜ verdictOutcome r ≡
         tryDenominators (systemInSlots dimensions (now (system .entry))) (denominatorIn (now (certificate .entry)))
-        (certifyingDenominatorIn dimensions (now (certificate .entry))) (certifyingNumeratorsIn dimensions (now (certificate .entry))) ⌝ }
+        (certifyingDenominatorIn dimensions (now (certificate .entry)))
+        (certifyingNumeratorsIn dimensions (now (certificate .entry))) ⌝ }
 {
     let modulus = dimensions.modulus;
     let d = polynomial_in(certificate, CERTIFICATE_WIDTH, 0, modulus);
@@ -163,7 +165,8 @@ pub fn check_solution(system: &[u64], certificate: &[u64], dimensions: Dimension
     ensures { λ r. ⌜ verdictOutcome r ≡
         solutionVerdict (systemInSlots dimensions (now (system .entry)))
         (denominatorIn (now (certificate .entry))) (numeratorsIn dimensions (now (certificate .entry)))
-        (certifyingDenominatorIn dimensions (now (certificate .entry))) (certifyingNumeratorsIn dimensions (now (certificate .entry))) ⌝ }
+        (certifyingDenominatorIn dimensions (now (certificate .entry)))
+        (certifyingNumeratorsIn dimensions (now (certificate .entry))) ⌝ }
 {
     let monic = try_monic(certificate, dimensions);
     let Verdict::Accepted = monic else {

@@ -1,5 +1,5 @@
--- What the number means that `yezsdolak_check` gives: 0 exactly for files of which demand 2's conditions hold, and 64 times a place plus a
--- number exactly where the check on files refuses with these.
+-- What the number means that `yezsdolak_check` gives: 0 exactly for files of which demand 2's conditions hold, and 64 times a place
+-- plus a number exactly where the check on files refuses with these.
 use Prim.Native.Nat.{ℕ, _+_, _*_, _≤_}
 use mathlib.Core.Path.{_≡_, refl, ap, ap₂}
 use mathlib.Core.Logic.{_↔_}

@@ -1,5 +1,5 @@
--- A packed answer can be taken apart (`link_values`, `Unpacked`): what the calls give has numbers 1 to 36, so `r % 64` is the number and
--- `r / 64` the place or the count, and different answers are different numbers.
+-- A packed answer can be taken apart (`link_values`, `Unpacked`): what the calls give has numbers 1 to 36, so `r % 64` is the
+-- number and `r / 64` the place or the count, and different answers are different numbers.
 use Prim.Native.Nat.{ℕ, _+_, _*_, _/_, _%_, _≤_}
 use mathlib.Core.Path.{_≡_, refl, sym, ap, ap₂, _∙_, subst}
 use mathlib.Core.Logic.{_↔_}

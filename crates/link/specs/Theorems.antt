@@ -1,9 +1,9 @@
 -- The customer's three demands, each sentence as a field, each proved from the laws below it. "Sheet" is a system here, "card" a
--- certificate. What a call gives is what its contract says: `SolvesPacked` for the number and the bytes of `yezsdolak_solve`, `checkGives`
--- for the number of `yezsdolak_check`, `GivesPacked` and `packed` for `yezsdolak_write_system`, `_lookup`, `_shape` and `_kind`,
--- `Writes` for the writers, `LoadsSystem` and `LoadsCertificate` for the calls that hand out values, `polynomialLookup` for the
--- lookup. Each of these has a contract without `requires`, so it is proved for all that is lent that the call reads and writes
--- nothing beside it and returns.
+-- certificate. What a call gives is what its contract says: `SolvesPacked` for the number and the bytes of `yezsdolak_solve`,
+-- `checkGives` for the number of `yezsdolak_check`, `GivesPacked` and `packed` for `yezsdolak_write_system`, `_lookup`, `_shape`
+-- and `_kind`, `Writes` for the writers, `LoadsSystem` and `LoadsCertificate` for the calls that hand out values,
+-- `polynomialLookup` for the lookup. Each of these has a contract without `requires`, so it is proved for all that is lent that the
+-- call reads and writes nothing beside it and returns.
 use Prim.Native.Nat.{ℕ, _+_, _*_, _/_, _%_, _≤_}
 use mathlib.Core.Path.{_≡_}
 use mathlib.Core.Logic.{_↔_}
@@ -61,13 +61,14 @@ use Rattle.link.specs.PackedLaws.{solver-refused-iff, packed-same, packe
 use Rattle.link.specs.Checked.{checkGives, checked-iff, checked-says, checked-refused-iff, checked-agree}
 use Rattle.link.specs.Together.{checkedAfter, CardIn, every-system-checked, every-system-card, refused-unchanged}
 
--- 1. "No words handed in, for sheet or card, can make a call read outside them, fail to end, or change a lent word when it refuses; each
--- refusal has the number and place on the table, and is given under that condition only."
+-- 1. "No words handed in, for sheet or card, can make a call read outside them, fail to end, or change a lent word when it refuses;
+-- each refusal has the number and place on the table, and is given under that condition only."
 pub record Demand1 : Type 0 where
   -- a refusal of the solver, of the writers, of the calls that hand out values, on words and on files. What other calls are lent
   -- they cannot change, but for `open_file` (`reader`, `opened-unchanged`) and the report, which refuses nothing.
   pub unchanged : {file entry exit : List ℕ} {r : ℕ} → SolvesPacked office file entry exit r → ¬ (r % 64 ≡ 0) → exit ≡ entry
-  pub unchanged-writing : {o : Outcome (List ℕ)} {entry exit : List ℕ} {r : Refusal} → Writes o entry (Refused r) exit → exit ≡ entry
+  pub unchanged-writing : {o : Outcome (List ℕ)} {entry exit : List ℕ} {r : Refusal} → Writes o entry (Refused r) exit
+      → exit ≡ entry
   pub unchanged-system : {ws sizes sizes′ values values′ : List ℕ} {answer : SystemRead}
       → LoadsSystem office ws answer sizes sizes′ values values′ → {number place : ℕ} → systemOutcome answer ≡ refused number place
       → (sizes′ ≡ sizes) × (values′ ≡ values)
@@ -154,21 +155,25 @@ demand-1 = record {
   write-system-file = λ h sizes values gives. write-gives-iff office h sizes values gives;
 }
 
--- 2. "The check accepts a card for a sheet exactly when the conditions for a certified solution, or for a certified absence of solutions,
--- in Mulders and Storjohann hold of it, any stated denominator is monic, and the solution's is in lowest terms. Every sheet and card
--- within the limits has one written form; it reads back as the same values, and every accepted form writes back as the same words."
+-- 2. "The check accepts a card for a sheet exactly when the conditions for a certified solution, or for a certified absence of
+-- solutions, in Mulders and Storjohann hold of it, any stated denominator is monic, and the solution's is in lowest terms. Every
+-- sheet and card within the limits has one written form; it reads back as the same values, and every accepted form writes back as
+-- the same words."
 pub record Demand2 : Type 0 where
   pub accepts : (f g : List ℕ) → Bytes f → Bytes g → (checkGives f g ≡ 0) ↔ CertifiedFiles office f g
-  pub system-form : (ws : List ℕ) (s : System) → (readSystem office ws ≡ accepted s) ↔ ((ws ≡ systemWords s) × SystemWithin office s)
+  pub system-form : (ws : List ℕ) (s : System) → (readSystem office ws ≡ accepted s)
+      ↔ ((ws ≡ systemWords s) × SystemWithin office s)
   pub system-once : (s t : System) → SystemWithin office s → SystemWithin office t → systemWords s ≡ systemWords t → s ≡ t
   pub certificate-form : (h : Shape) → ShapeWithin office h → (cs : List ℕ) (c : Certificate)
       → (readCertificate office h cs ≡ accepted c) ↔ ((cs ≡ certificateWords c) × CertificateWithin office h c)
-  pub certificate-once : (h : Shape) → ShapeWithin office h → (c e : Certificate) → CertificateWithin office h c → CertificateWithin office h e
+  pub certificate-once : (h : Shape) → ShapeWithin office h → (c e : Certificate) → CertificateWithin office h c
+      → CertificateWithin office h e
       → certificateWords c ≡ certificateWords e → c ≡ e
-  -- of the calls: the arrays hold every value within the limits; what is written is loaded as the same values, and what is loaded is
-  -- written as the same words
+  -- of the calls: the arrays hold every value within the limits; what is written is loaded as the same values, and what is loaded
+  -- is written as the same words
   pub system-fits : (s : System) → SystemWithin office s
-      → InArrays (systemCount (office .rows) (office .columns)) (office .systemCoefficients * systemCount (office .rows) (office .columns))
+      → InArrays (systemCount (office .rows) (office .columns))
+      (office .systemCoefficients * systemCount (office .rows) (office .columns))
       (λ sizes values. systemInArrays office (shape s) sizes values ≡ s)
   pub system-back : (sizes values : List ℕ) {entry exit : List ℕ} {h : Shape} {n : ℕ}
       → WritesSystem office office-fits sizes values h entry (Count n) exit
@@ -180,14 +185,17 @@ pub record Demand2 : Type 0 where
       → {h : Shape} → systemOutcome read ≡ accepted h → longestSystem office ≤ length entry
       → {answer : Counted} → WritesSystem office office-fits sizes values h entry answer exit → WritesBack ws entry answer exit
   pub certificate-fits : (h : Shape) → ShapeWithin office h → (c : Certificate) → CertificateWithin office h c
-      → InArrays (solutionCount (office .rows) (office .columns)) (certificateStride * solutionCount (office .rows) (office .columns))
+      → InArrays (solutionCount (office .rows) (office .columns))
+      (certificateStride * solutionCount (office .rows) (office .columns))
       (λ sizes values. certificateIn h (certificateForm c) sizes values ≡ c)
   pub certificate-back : (h : Shape) (sizes values : List ℕ) {entry exit : List ℕ} {form : Form} {n : ℕ}
       → WritesCertificate office office-fits sizes values form h entry (Count n) exit
       → {lentSizes sizes′ lentValues values′ : List ℕ} {answer : CertificateRead}
-      → LoadsCertificate office h (take n exit) answer lentSizes sizes′ lentValues values′ → CertificateRoom office office-fits lentValues
+      → LoadsCertificate office h (take n exit) answer lentSizes sizes′ lentValues values′
+      → CertificateRoom office office-fits lentValues
       → (certificateOutcome answer ≡ accepted form) × (certificateIn h form sizes′ values′ ≡ certificateIn h form sizes values)
-  pub certificate-words-back : (h : Shape) (sizes values : List ℕ) {entry exit ws lentSizes lentValues : List ℕ} {read : CertificateRead}
+  pub certificate-words-back : (h : Shape) (sizes values : List ℕ) {entry exit ws lentSizes lentValues : List ℕ}
+      {read : CertificateRead}
       → LoadsCertificate office h ws read lentSizes sizes lentValues values → CertificateRoom office office-fits lentValues
       → {form : Form} → certificateOutcome read ≡ accepted form → longestCertificate office ≤ length entry
       → {answer : Counted} → WritesCertificate office office-fits sizes values form h entry answer exit
@@ -204,18 +212,20 @@ demand-2 = record {
   system-back = λ sizes values w loads room. system-reads-back office office-fits sizes values w loads room;
   words-back = λ sizes values loads room is enough w. system-loads-back office office-fits sizes values loads room is enough w;
   certificate-fits = certificate-held office office-fits (omega arith);
-  certificate-back = λ h sizes values w loads room. certificate-reads-back office office-fits (omega arith) h sizes values w loads room;
+  certificate-back = λ h sizes values w loads room. certificate-reads-back office office-fits (omega arith) h sizes values w loads
+      room;
   certificate-words-back = λ h sizes values loads room is enough w.
       certificate-loads-back office office-fits (omega arith) h sizes values loads room is enough w;
 }
 
--- 3. "However a card came about, whatever its words: once the check accepts it for a sheet, it tells the truth. Its solution solves the
--- system, and the denominator it states is that solution's own and divides the denominator of every rational solution; or, on a card of
--- absence, no rational solution exists. No sheet can have accepted cards of both kinds. For every sheet within the limits, whatever stood
--- in the space lent for the card, if it is the stated space or more, the solver gives a card there, and the check accepts that card for
--- that sheet."
+-- 3. "However a card came about, whatever its words: once the check accepts it for a sheet, it tells the truth. Its solution solves
+-- the system, and the denominator it states is that solution's own and divides the denominator of every rational solution; or, on a
+-- card of absence, no rational solution exists. No sheet can have accepted cards of both kinds. For every sheet within the limits,
+-- whatever stood in the space lent for the card, if it is the stated space or more, the solver gives a card there, and the check
+-- accepts that card for that sheet."
 pub record Demand3 : Type 0 where
-  pub truth : (f g : List ℕ) → Bytes f → Bytes g → checkGives f g ≡ 0 → (a : CertifiedFiles office f g) × Says (a .system) (a .certificate)
+  pub truth : (f g : List ℕ) → Bytes f → Bytes g → checkGives f g ≡ 0 → (a : CertifiedFiles office f g)
+      × Says (a .system) (a .certificate)
   pub one-kind : (f g h : List ℕ) → Bytes f → Bytes g → Bytes h → checkGives f g ≡ 0 → checkGives f h ≡ 0
       → (a : CertifiedFiles office f g) × (b : CertifiedFiles office f h) × Agree (a .certificate) (b .certificate)
   pub solved : (s : System) → SystemWithin office s → {entry exit : List ℕ} {r : ℕ} → 4 * longestCertificate office ≤ length entry

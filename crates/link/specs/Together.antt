@@ -1,5 +1,5 @@
--- The two exported calls together (demand 3, its last sentence, on bytes): `yezsdolak_check` gives 0 on what `yezsdolak_solve` gave,
--- and for every system's file `yezsdolak_solve` gives a count.
+-- The two exported calls together (demand 3, its last sentence, on bytes): `yezsdolak_check` gives 0 on what `yezsdolak_solve`
+-- gave, and for every system's file `yezsdolak_solve` gives a count.
 use Prim.Native.Nat.{ℕ, _*_, _/_, _%_, _≤_}
 use mathlib.Core.Path.{_≡_, refl, ap, _∙_, subst}
 use mathlib.Core.List.{List}
@@ -35,7 +35,8 @@ module _ {file entry exit : List ℕ} {r : ℕ} where
       ap packedVerdict (solved-file-accepted office office-fits file entry exit (unpacked r) (solves-unpacked h) (r / 64) counted)
 
 -- for every system within the limits, with as many bytes lent as the longest certificate's file has, it is a count of no more
-module _ (s : System) (within : SystemWithin office s) {entry exit : List ℕ} {r : ℕ} (room : 4 * longestCertificate office ≤ length entry) where
+module _ (s : System) (within : SystemWithin office s) {entry exit : List ℕ} {r : ℕ}
+    (room : 4 * longestCertificate office ≤ length entry) where
   pub every-system-checked : SolvesPacked office (bytesOf (systemWords s)) entry exit r
       → (r % 64 ≡ 0) × (checkedAfter (bytesOf (systemWords s)) exit r ≡ 0)
   every-system-checked h =
@@ -64,4 +65,5 @@ refused-unchanged {file} {entry} {exit} h some =
     by : (answer : Outcome ℕ) → ¬ (packed answer % 64 ≡ 0) → SolvesFile office file entry exit answer → exit ≡ entry
     by (accepted count) none solves = absurd (none (omega arith))
     by (refused number place) none solves =
-        solver.refused-unchanged office certificateBytes (fileToSolve office (length entry) file) entry exit (refused number place) solves refl
+        solver.refused-unchanged office certificateBytes (fileToSolve office (length entry) file) entry exit (refused number place)
+        solves refl

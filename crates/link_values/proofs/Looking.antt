@@ -32,7 +32,8 @@ use Rattle.link_values.specs.GivingLaws.{gives-list}
 
 -- ---- numbers stored one after another, as a list over the first of those lent
 
-module _ (f lent : List ℕ) (numbers : ℕ → ℕ) (same : (i : ℕ) → i < length f → numbers i ≡ getD f i 0) (room : length f ≤ length lent) where
+module _ (f lent : List ℕ) (numbers : ℕ → ℕ) (same : (i : ℕ) → i < length f → numbers i ≡ getD f i 0)
+    (room : length f ≤ length lent) where
   stored-over : stored numbers lent 0 (length f) ≡ overwritten f lent
   stored-over = ext-getD 0 _ _ lengths each
     where
@@ -81,8 +82,10 @@ module _ (ws cs : List ℕ) (side : Side) (k : ℕ) where
   by-row false a b e = absurd (refused-accepted (sym e))
 
   by-values : (o : Outcome System) {number place : ℕ}
-      → followedBy o (λ s. followedBy (readCertificate office (shape s) cs) (λ c. shown k (entriesOn side s c))) ≡ refused number place
-      → lookupOf side k (followedBy o (λ s. mapped (λ c. record { system = s; certificate = c }) (readCertificate office (shape s) cs)))
+      → followedBy o (λ s. followedBy (readCertificate office (shape s) cs) (λ c. shown k (entriesOn side s c)))
+      ≡ refused number place
+      → lookupOf side k (followedBy o (λ s. mapped (λ c. record { system = s; certificate = c })
+      (readCertificate office (shape s) cs)))
       ≡ refused number place
   by-values (refused n p) e = cc
   by-values (accepted s) {number} {place} e = by (readCertificate office (shape s) cs) e
@@ -136,7 +139,13 @@ module _ (ws cs : List ℕ) (side : Side) (k : ℕ) where
           let same = ap (λ l. companion (Told l)) (is ∙ sym is′) in
           let part = mapped-accepted (λ part. tt) (Told limits) (same ∙ sym passed) in
           let s = lookup-shown limits ws cs side k (part .0) (part .1) in
-          omega (arith, none, ap length (shows ∙ ap wordsShown (part .1) ∙ s .words), length-polynomialWords (getD (entriesOn side (s .system) (s .certificate)) k []))
+          omega (
+            arith,
+            none,
+            ap length (shows ∙ ap wordsShown (part .1) ∙ s .words),
+            length-polynomialWords
+                (getD (entriesOn side (s .system) (s .certificate)) k []),
+          )
 
       pub some-shown : ¬ (length words ≡ 0) → Found words
       some-shown some = by (Told limits) refl

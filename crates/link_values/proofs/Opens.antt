@@ -47,7 +47,8 @@ module _ (f g : List ℕ) where
       second-refused r = passed ∙ opened-stops second r all-words
 
       -- the words of the certificate's file for which there was room tell what all tell
-      pub both-opened : {m : ℕ} → told′ ≡ accepted m → longestSystem office ≤ length before → longestCertificate office < length before′
+      pub both-opened : {m : ℕ} → told′ ≡ accepted m → longestSystem office ≤ length before
+          → longestCertificate office < length before′
           → length after ≡ length before → length after′ ≡ length before′ → OpensWords office f g after after′ n m
       both-opened {m} r room room′ same same′ = record {
         system-room = omega (arith, opened-room first e);

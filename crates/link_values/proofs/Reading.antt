@@ -14,10 +14,12 @@ use Rattle.link_values.specs.FilesLaws.{both-system-refused, both-certif
 
 -- the limits as the code has them
 module _ (ws cs : List ℕ) (limits : Limits) (is : limits ≡ office) where
-  system-told : {told o : Outcome Shape} → told ≡ mapped shape (readSystem limits ws) → told ≡ o → mapped shape (readSystem office ws) ≡ o
+  system-told : {told o : Outcome Shape} → told ≡ mapped shape (readSystem limits ws) → told ≡ o
+      → mapped shape (readSystem office ws) ≡ o
   system-told tells e = ap (λ (l : Limits). mapped shape (readSystem l ws)) (sym is) ∙ sym tells ∙ e
 
-  pub system-refused : {told : Outcome Shape} {number place : ℕ} → told ≡ mapped shape (readSystem limits ws) → told ≡ refused number place
+  pub system-refused : {told : Outcome Shape} {number place : ℕ} → told ≡ mapped shape (readSystem limits ws)
+      → told ≡ refused number place
       → refused number place ≡ kindOf (readBoth office ws cs)
   system-refused tells e = sym (ap kindOf (both-system-refused office ws cs (mapped-refused shape _ (system-told tells e))))
 
@@ -33,11 +35,13 @@ module _ (ws cs : List ℕ) (limits : Limits) (is : limits ≡ office) where
         ∙ ap (λ (l : Limits). mapped certificateForm (readCertificate l h cs)) (sym is′)
         ∙ sym tells′ ∙ r
 
-    pub certificate-refused : {number place : ℕ} → told′ ≡ refused number place → refused number place ≡ kindOf (readBoth office ws cs)
+    pub certificate-refused : {number place : ℕ} → told′ ≡ refused number place
+        → refused number place ≡ kindOf (readBoth office ws cs)
     certificate-refused r =
         sym (ap kindOf (both-certificate-refused office ws cs (found .1) (mapped-refused certificateForm _ (certificate-told r))))
 
-    pub kind-read : {form : Form} → told′ ≡ accepted form → {n : ℕ} → n ≡ kindNumber form → accepted n ≡ kindOf (readBoth office ws cs)
+    pub kind-read : {form : Form} → told′ ≡ accepted form → {n : ℕ} → n ≡ kindNumber form
+        → accepted n ≡ kindOf (readBoth office ws cs)
     kind-read r is-kind =
         let c = mapped-accepted certificateForm _ (certificate-told r) in
         ap accepted (is-kind ∙ ap kindNumber (sym (c .2)))

@@ -43,7 +43,8 @@ kind-small f g = record {
   places = kind-places office office-fits packedMost (omega arith) (omega arith) f g .each;
 }
 
-pub lookup-small : (f g : List ℕ) (side : Side) (k : ℕ) → AnswerMost packedMost packedMost (mapped length (fileLookup office f g side k))
+pub lookup-small : (f g : List ℕ) (side : Side) (k : ℕ) → AnswerMost packedMost packedMost
+    (mapped length (fileLookup office f g side k))
 lookup-small f g side k = record {
   counts = λ n e.
       let f′ = mapped-accepted length (fileLookup office f g side k) e in

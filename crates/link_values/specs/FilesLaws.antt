@@ -119,7 +119,8 @@ module _ (limits : Limits) (fit : LimitsFit limits) (cs : List ℕ) (count : ℕ
 -- ---- the system first, then the certificate for it
 
 module _ (limits : Limits) (ws cs : List ℕ) where
-  pub both-system-refused : {number place : ℕ} → readSystem limits ws ≡ refused number place → readBoth limits ws cs ≡ refused number place
+  pub both-system-refused : {number place : ℕ} → readSystem limits ws ≡ refused number place
+      → readBoth limits ws cs ≡ refused number place
   unfolding readBoth
   both-system-refused e = rw e refl
 
@@ -175,7 +176,10 @@ module _ (limits : Limits) where
 module _ (limits : Limits) where
   pub system-numbers : (ws : List ℕ) → Numbers 1 9 (readSystem limits ws)
   system-numbers ws =
-      record { each = λ number place e. numbers-between number place 1 9 (systemRows ws) refl (system-rows limits ws .in-rows number place e) }
+      record {
+        each = λ number place e. numbers-between number place 1 9 (systemRows ws) refl
+            (system-rows limits ws .in-rows number place e);
+      }
 
   pub certificate-numbers : (h : Shape) (cs : List ℕ) → Numbers 21 29 (readCertificate limits h cs)
   certificate-numbers h cs = record {
@@ -219,12 +223,14 @@ not-either true b e = absurd (let z : _≡_ {A = ℕ} 0 1 = cc in omega arith)
 not-either false b e = (refl, e)
 
 -- no place is behind the words
-system-place : (limits : Limits) (ws : List ℕ) {number place : ℕ} → readSystem limits ws ≡ refused number place → place < suc (length ws)
+system-place : (limits : Limits) (ws : List ℕ) {number place : ℕ} → readSystem limits ws ≡ refused number place
+    → place < suc (length ws)
 system-place limits ws {number} {place} e =
     places-below number place (suc (length ws)) (systemRows ws) (omega arith, (omega arith, (omega arith, tt)))
     (system-rows limits ws .in-rows number place e)
 
-certificate-place : (limits : Limits) (h : Shape) (cs : List ℕ) {number place : ℕ} → readCertificate limits h cs ≡ refused number place
+certificate-place : (limits : Limits) (h : Shape) (cs : List ℕ) {number place : ℕ}
+    → readCertificate limits h cs ≡ refused number place
     → place < suc (length cs)
 certificate-place limits h cs {number} {place} e =
     places-below number place (suc (length cs)) (certificateRows cs) (omega arith, (omega arith, (omega arith, tt)))

@@ -1,5 +1,5 @@
--- What a call leaves that is to give a list of numbers: the list stands over the first of the lent ones, and its count is answered. On
--- a refusal all stand as they were.
+-- What a call leaves that is to give a list of numbers: the list stands over the first of the lent ones, and its count is answered.
+-- On a refusal all stand as they were.
 use Prim.Native.Nat.{ℕ}
 use mathlib.Core.Path.{_≡_}
 use mathlib.Core.List.{List}

@@ -1,4 +1,5 @@
--- A packed answer taken apart, as include/yezsdolak.h does: the number is what is left by 64, the place or the count what is above it.
+-- A packed answer taken apart, as include/yezsdolak.h does: the number is what is left by 64, the place or the count what is above
+-- it.
 use Prim.Native.Nat.{ℕ, _+_, _*_, _/_, _%_, _≤_}
 use mathlib.Core.Path.{_≡_, refl, sym, ap, ap₂, _∙_}
 use mathlib.Core.Logic.{_↔_}

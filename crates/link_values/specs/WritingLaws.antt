@@ -48,7 +48,8 @@ module _ (limits : Limits) (s : System) where
   unfolding writeSystem
   in-turn lent =
       shape-first limits (shape s) _
-      ∙ ap (nextAfter shape-trial) (polynomials-first (s .modulus) (limits .systemCoefficients) 0 (room-trial lent) 1 (systemEntries s))
+      ∙ ap (nextAfter shape-trial) (polynomials-first (s .modulus) (limits .systemCoefficients) 0 (room-trial lent) 1
+      (systemEntries s))
 
   module _ (lent : ℕ) where
     abbrev with-room : Outcome (List ℕ)
@@ -155,7 +156,8 @@ module _ (limits : Limits) (lent : ℕ) (h : Shape) (sizes coefficients : List �
 
   pub write-numbers : Numbers 2 11 written
   write-numbers = refusals-mapped bytesOf _
-      (write-refusals limits (lent / 4) h sizes coefficients (omega arith, omega arith) (omega arith, omega arith) (omega arith, omega arith)
+      (write-refusals limits (lent / 4) h sizes coefficients (omega arith, omega arith) (omega arith, omega arith)
+      (omega arith, omega arith)
       (λ number place low high inside. (omega arith, omega arith)))
 
   pub write-places : (most : ℕ) → longestSystem limits ≤ most → Places most written
@@ -187,7 +189,8 @@ module _ (h : Shape) (sizes coefficients : List ℕ) {entry exit : List ℕ} {r 
 
   pub file-of-values : readSystemFile office file ≡ accepted (systemInArrays office h sizes coefficients)
   file-of-values = written-read office (length entry) h sizes coefficients office-fits file
-      (given-counted _ (numbers-wider 2 11 (omega arith) (omega arith) (write-numbers office (length entry) h sizes coefficients)) gives counts)
+      (given-counted _ (numbers-wider 2 11 (omega arith) (omega arith) (write-numbers office (length entry) h sizes coefficients))
+      gives counts)
 
   pub shape-of-values : fileShape office file ≡ accepted (shapeNumber h)
   unfolding systemInArrays

@@ -26,7 +26,8 @@ pub fn open_both(
     system: &[u8],
     certificate: &[u8],
 ) -> FilesOpened
-    requires { ⌜ (longestSystem office ≤ length (now «system_words»)) × (longestCertificate office < length (now «certificate_words»)) ⌝ }
+    requires { ⌜ (longestSystem office ≤ length (now «system_words»))
+        × (longestCertificate office < length (now «certificate_words»)) ⌝ }
     ensures { λ r. ⌜ OpensBoth office (now (system .entry)) (now (certificate .entry))
         (now («system_words» .exit)) (now («certificate_words» .exit)) r ⌝ }
 {

@@ -145,7 +145,8 @@ module _ {ws : List ℕ} {k at : ℕ} (s : StartsAt ws k at) where
           next-place h k at e (some-by-kind h k at e two) count counted;
     }
 
-    pub stands-shown : (fs : List (List ℕ)) → HasPolynomials ws fs → partOutcome (Words at (at + 1 + count)) ≡ boundsShown (shown k fs)
+    pub stands-shown : (fs : List (List ℕ)) → HasPolynomials ws fs
+        → partOutcome (Words at (at + 1 + count)) ≡ boundsShown (shown k fs)
     stands-shown fs h =
         let e = s .place fs h in
         let some = some-by-kind h k at e two in

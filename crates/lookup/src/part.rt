@@ -38,7 +38,8 @@ fn start_of(words: &[u32], number: usize) -> usize
 // Finds where polynomial `number` stands.
 pub fn part_of(words: &[u32], number: usize) -> Part
     requires { ⌜ Holding (now words) ⌝ }
-    ensures { λ r. ⌜ ((fs : List (List ℕ)) → HasPolynomials (now (words .entry)) fs → partOutcome r ≡ boundsShown (shown number fs)) ⌝ }
+    ensures { λ r. ⌜ ((fs : List (List ℕ)) → HasPolynomials (now (words .entry)) fs
+        → partOutcome r ≡ boundsShown (shown number fs)) ⌝ }
 {
     let from = start_of(words, number);
     let word = words[from];

@@ -210,15 +210,19 @@ module _ {A : Type 0} {R : Ring A} {S : Sized R} (E : Euclidean S) (T : LinearSy
         y-kills : (x : ℕ → A) → InSpan R n n U x → sum R n (λ i. y i * x i) ≡ 𝟘
         y-kills x s = mul-cancel S (q₀ h) (sum R n (λ i. y i * x i)) 𝟘 w-nonzero
             (sym (sum-mul R n (q₀ h) (λ i. y i * x i))
-            ∙ sum-ext R n (λ i. q₀ h * (y i * x i)) (λ i. c * (q₀ i * x i)) (λ i l. combination R (q₀ h * (y i * x i)) (c * (q₀ i * x i))
-            (given (- x i) (terms i l) ∷ []) (identity R (q₀ h ∷ y i ∷ x i ∷ c ∷ q₀ i ∷ []) (λ ρ q1 q2 q3 q4 q5. search quotes depth 16) refl))
+            ∙ sum-ext R n (λ i. q₀ h * (y i * x i)) (λ i. c * (q₀ i * x i))
+            (λ i l. combination R (q₀ h * (y i * x i)) (c * (q₀ i * x i))
+            (given (- x i) (terms i l) ∷ []) (identity R (q₀ h ∷ y i ∷ x i ∷ c ∷ q₀ i ∷ [])
+            (λ ρ q1 q2 q3 q4 q5. search quotes depth 16) refl))
             ∙ sum-mul R n c (λ i. q₀ i * x i) ∙ ap (λ v. c * v) (kills x s) ∙ mul-zero R c ∙ sym (mul-zero R (q₀ h)))
 
         y-row : (x : ℕ → A) → InSpan R n n U x → sum R n (λ i. y′ i * x i) ≡ c * x h
         unfolding y′
         y-row x s = combination R (sum R n (λ i. y′ i * x i)) (c * x h)
-            (given 𝟙 changed ∷ given 𝟙 minus ∷ given (- 𝟙) (y-kills x s) ∷ given (x h) (replace-here (λ k. - y k) h 𝟘) ∷ given (x h) y-at ∷ [])
-            (identity R (sum R n (λ i. y′ i * x i) ∷ c ∷ x h ∷ sum R n (λ i. (- y i) * x i) ∷ sum R n (λ i. y i * x i) ∷ y′ h ∷ y h ∷ [])
+            (given 𝟙 changed ∷ given 𝟙 minus ∷ given (- 𝟙) (y-kills x s) ∷ given (x h) (replace-here (λ k. - y k) h 𝟘) ∷ given
+            (x h) y-at ∷ [])
+            (identity R (sum R n (λ i. y′ i * x i) ∷ c ∷ x h ∷ sum R n (λ i. (- y i) * x i) ∷ sum R n (λ i. y i * x i) ∷ y′ h ∷ y h
+            ∷ [])
             (λ ρ q1 q2 q3 q4 q5 q6 q7. search quotes depth 20) refl)
           where
             changed : sum R n (λ i. y′ i * x i) + (- y h) * x h ≡ sum R n (λ i. (- y i) * x i) + y′ h * x h
@@ -246,8 +250,10 @@ module _ {A : Type 0} {R : Ring A} {S : Sized R} (E : Euclidean S) (T : LinearSy
         spanned = record {
           parts = C .parts;
           part = t .hand n;
-          equal = λ k l. combination R (t .hand k) (sum R m (λ j. M k j * C .parts j) + t .hand n * b k) (given 𝟙 (C .equal k l) ∷ [])
-              (identity R (t .hand k ∷ sum R m (λ j. M k j * C .parts j) ∷ t .hand n ∷ b k ∷ []) (λ ρ q1 q2 q3 q4. search quotes depth 16) refl);
+          equal = λ k l. combination R (t .hand k) (sum R m (λ j. M k j * C .parts j) + t .hand n * b k)
+              (given 𝟙 (C .equal k l) ∷ [])
+              (identity R (t .hand k ∷ sum R m (λ j. M k j * C .parts j) ∷ t .hand n ∷ b k ∷ [])
+              (λ ρ q1 q2 q3 q4. search quotes depth 16) refl);
         };
         length = t .size;
         pivot = P;

@@ -1,5 +1,5 @@
--- Right certificates (document 01's right card and absence card) over a ring with a size, and what bounds their sizes. Of systems and
--- certificates as values, what right means is said by `truth`.
+-- Right certificates (document 01's right card and absence card) over a ring with a size, and what bounds their sizes. Of systems
+-- and certificates as values, what right means is said by `truth`.
 use Prim.Native.Nat.{ℕ, _<_, _≤_}
 use mathlib.Core.Path.{_≡_}
 use native.Mathlib.Omega.{arith}

@@ -1,5 +1,5 @@
--- Which w and Z: of all z = Z/w with z·A integral and z·b = 1/d modulo polynomials, the one that is short against the vectors of the
--- span of A and b, in lowest terms. There is only one.
+-- Which w and Z: of all z = Z/w with z·A integral and z·b = 1/d modulo polynomials, the one that is short against the vectors of
+-- the span of A and b, in lowest terms. There is only one.
 use Prim.Native.Nat.{ℕ, zero, suc, _<_, _≤_}
 use Prim.Native.Nat.{_+_ as _+ₙ_}
 use mathlib.Core.Path.{_≡_, refl, sym, _∙_, ap, ap₂}
@@ -129,7 +129,8 @@ module _ {A : Type 0} {R : Ring A} (S : Sized R) (n m : ℕ) (M : ℕ → ℕ �
             ∙ sum-add R n (λ i. w₁ * (Z i * x i)) (λ i. (- w) * (Z₁ i * x i))
             ∙ ap₂ _+_ (sum-mul R n w₁ (λ i. Z i * x i)) (sum-mul R n (- w) (λ i. Z₁ i * x i))
 
-    -- the two are equal as fractions: else take their difference where it is greatest last, and a shortest vector with its pivot there
+    -- the two are equal as fractions: else take their difference where it is greatest last, and a shortest vector with its pivot
+    -- there
     module _ (l : Last S n Y) where
       abbrev p : ℕ
       p = l .at

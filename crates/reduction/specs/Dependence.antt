@@ -1,5 +1,5 @@
--- When a column depends on those before it, in the terms of the link that it makes: just where the link has a kernel; and the kernel
--- then takes the whole span after it back into the span before.
+-- When a column depends on those before it, in the terms of the link that it makes: just where the link has a kernel; and the
+-- kernel then takes the whole span after it back into the span before.
 use Prim.Native.Nat.{ℕ, zero, suc, _<_, _≤_}
 use mathlib.Core.Path.{_≡_, refl, sym, _∙_, ap₂, subst}
 use mathlib.Core.Logic.{_⊎_, inl, inr}

@@ -49,7 +49,8 @@ filled-with-blocks {A} R {n} {U} {W} q a d τ e = record {
     vector i k h f l (no r) =
         ap (λ x. x k) (replace-other (W .at) q (extend n a τ) i r)
         ∙ e .vectors i k h (omega (arith, replace-other (W .size) q d i r)) l
-        ∙ sym (ap (λ x. x k) (replace-other (cleared R n U .at) q (extend n a (R .one)) i r) ∙ extend-below n (U .at i) (R .zero) k l)
+        ∙ sym (ap (λ x. x k) (replace-other (cleared R n U .at) q (extend n a (R .one)) i r)
+        ∙ extend-below n (U .at i) (R .zero) k l)
 
 module _ {A : Type 0} {R : Ring A} (S : Sized R) (n δ : ℕ) {U : Slots A} (full : Filled S n unweighted U) {a : ℕ → A} {q d : ℕ}
     (P : Pivot S n unweighted a q d) (empty : U .size q ≡ 0) where

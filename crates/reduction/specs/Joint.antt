@@ -1,5 +1,6 @@
--- Columns that depend on the columns of A have one denominator in common, no longer than that of one of them alone may be: the product
--- of the kernels that they leave when they go, one after another, into the last level. Each kernel is paid for by the sum of degrees.
+-- Columns that depend on the columns of A have one denominator in common, no longer than that of one of them alone may be: the
+-- product of the kernels that they leave when they go, one after another, into the last level. Each kernel is paid for by the sum
+-- of degrees.
 use Prim.Native.Nat.{ℕ, zero, suc, _<_, _≤_, min}
 use Prim.Native.Nat.{_+_ as _+ₙ_, _*_ as _*ₙ_}
 use mathlib.Core.Path.{_≡_, refl, sym, subst}
@@ -153,11 +154,17 @@ module _ {A : Type 0} {R : Ring A} {S : Sized R} (T : LinearSystem S) (a : ℕ �
       e = J .e;
       nonzero = J .nonzero;
       small = omega (arith, bound, J .small);
-      solved = λ k l. let C = J .solved k l in record { N = C .N; solves = C .solves; small = λ j g. omega (arith, bound, C .small j g) };
+      solved = λ k l. let C = J .solved k l in record {
+        N = C .N;
+        solves = C .solves;
+        small = λ j g. omega
+            (arith, bound, C .small j g);
+      };
     }
       where
         J : Joint c (suc (joint .rank *ₙ δ))
         J = joint .joint
 
         bound : joint .rank *ₙ δ ≤ B
-        bound = let k : joint .rank ≤ min n m = omega (arith, joint .rank-rows, joint .rank-columns) in omega (arith, mul-le-mul-right δ k)
+        bound = let k : joint .rank ≤ min n m = omega (arith, joint .rank-rows, joint .rank-columns) in omega
+            (arith, mul-le-mul-right δ k)

@@ -1,5 +1,5 @@
--- Which q: of all rows that kill A, the one that is supported on the pivots of the span of A and on the one pivot h that b adds, in lowest
--- terms against its entry at h. There is only one.
+-- Which q: of all rows that kill A, the one that is supported on the pivots of the span of A and on the one pivot h that b adds, in
+-- lowest terms against its entry at h. There is only one.
 use Prim.Native.Nat.{ℕ, _<_}
 use Prim.Native.Nat.{_+_ as _+ₙ_, _-_ as _-ₙ_}
 use mathlib.Core.Path.{_≡_, refl, sym, _∙_, ap, ap₂}
@@ -86,9 +86,11 @@ module _ {A : Type 0} {R : Ring A} (S : Sized R) (n m : ℕ) (M : ℕ → ℕ �
     equal k l =
         combination R (β₁ * K .vector k + (- β) * K₁ .vector k) (β₁ * s + (- β) * s₁)
         (given β₁ (K .spanned .equal k l) ∷ given (- β) (K₁ .spanned .equal k l) ∷ [])
-        (identity R (β ∷ β₁ ∷ K .vector k ∷ K₁ .vector k ∷ s ∷ s₁ ∷ b k ∷ []) (λ ρ q1 q2 q3 q4 q5 q6 q7. search quotes depth 20) refl)
+        (identity R (β ∷ β₁ ∷ K .vector k ∷ K₁ .vector k ∷ s ∷ s₁ ∷ b k ∷ []) (λ ρ q1 q2 q3 q4 q5 q6 q7. search quotes depth 20)
+        refl)
         ∙ sym (sum-ext R m (λ j. M k j * parts j) (λ j. β₁ * (M k j * K .spanned .parts j) + (- β) * (M k j * K₁ .spanned .parts j))
-        (λ j g. identity R (β ∷ β₁ ∷ M k j ∷ K .spanned .parts j ∷ K₁ .spanned .parts j ∷ []) (λ ρ q1 q2 q3 q4 q5. search quotes depth 16) refl)
+        (λ j g. identity R (β ∷ β₁ ∷ M k j ∷ K .spanned .parts j ∷ K₁ .spanned .parts j ∷ [])
+        (λ ρ q1 q2 q3 q4 q5. search quotes depth 16) refl)
         ∙ sum-add R m (λ j. β₁ * (M k j * K .spanned .parts j)) (λ j. (- β) * (M k j * K₁ .spanned .parts j))
         ∙ ap₂ _+_ (sum-mul R m β₁ (λ j. M k j * K .spanned .parts j)) (sum-mul R m (- β) (λ j. M k j * K₁ .spanned .parts j)))
       where
@@ -157,7 +159,8 @@ module _ {A : Type 0} {R : Ring A} (S : Sized R) (n m : ℕ) (M : ℕ → ℕ �
 
     killed : {q : ℕ → A} (K : Killing q) {i : ℕ} (X : PivotOf i) → sum R n (λ k. q k * X .vector k) ≡ 𝟘
     killed {q} K X =
-        sum-ext R n (λ k. q k * X .vector k) (λ k. q k * sum R m (λ j. M k j * X .parts j)) (λ k l. ap (λ y. q k * y) (X .equal k l))
+        sum-ext R n (λ k. q k * X .vector k) (λ k. q k * sum R m (λ j. M k j * X .parts j))
+        (λ k l. ap (λ y. q k * y) (X .equal k l))
         ∙ sum-assoc R n m q M (X .parts)
         ∙ sum-none R m (λ j. sum R n (λ k. q k * M k j) * X .parts j)
         (λ j l. ap (λ y. y * X .parts j) (K .kills j l) ∙ zero-mul R (X .parts j))
@@ -197,7 +200,8 @@ module _ {A : Type 0} {R : Ring A} (S : Sized R) (n m : ℕ) (M : ℕ → ℕ �
 
   -- where the entries at h are monic: those are the same, and then all others
   pub killing-unique : {q q₁ : ℕ → A} (K : Killing q) (K₁ : Killing q₁)
-      → (Divides R (q (K .at)) (q₁ (K .at)) → Divides R (q₁ (K₁ .at)) (q (K₁ .at)) → q (K .at) ≡ q₁ (K .at)) → (i : ℕ) → i < n → q i ≡ q₁ i
+      → (Divides R (q (K .at)) (q₁ (K .at)) → Divides R (q₁ (K₁ .at)) (q (K₁ .at)) → q (K .at) ≡ q₁ (K .at)) → (i : ℕ) → i < n
+      → q i ≡ q₁ i
   killing-unique {q} {q₁} K K₁ monic i l = mul-cancel S (q (K .at)) (q i) (q₁ i) (K .nonzero)
       (ap (λ y. y * q i) same ∙ killing-proportional K K₁ i l ∙ R .mul-comm (q₁ i) (q (K .at)))
     where

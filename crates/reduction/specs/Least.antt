@@ -1,4 +1,5 @@
--- The tail with which an insertion of a into U ends generates the ideal of all κ with κ·a in the span of U; where it is stuck, that is 0.
+-- The tail with which an insertion of a into U ends generates the ideal of all κ with κ·a in the span of U; where it is stuck, that
+-- is 0.
 use Prim.Native.Nat.{ℕ, suc, _-_ as _-ₙ_, _+_ as _+ₙ_, _<_, _≤_}
 use mathlib.Core.Path.{_≡_, refl, sym, _∙_, ap, ap₂}
 use mathlib.Core.List.{[], _∷_}
@@ -76,7 +77,8 @@ module _ {A : Type 0} {R : Ring A} {S : Sized R} {n : ℕ} {ω : ℕ → ℕ} {U
 
   -- μ·(hand) would have its pivot at the empty slot
   pub inserting-none : Stuck S n ω (X .now) → κ ≡ 𝟘
-  inserting-none K = multiple (λ k h. ap (λ y. y * t .hand k) none ∙ zero-mul R (t .hand k)) ∙ ap (λ y. y * t .hand n) none ∙ zero-mul R (t .hand n)
+  inserting-none K = multiple (λ k h. ap (λ y. y * t .hand k) none ∙ zero-mul R (t .hand k)) ∙ ap (λ y. y * t .hand n) none
+      ∙ zero-mul R (t .hand n)
     where
       none : μ ≡ 𝟘
       none = go (zero-decided S μ)

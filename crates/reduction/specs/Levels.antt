@@ -48,7 +48,8 @@ module _ {A : Type 0} {R : Ring A} {S : Sized R} (T : LinearSystem S) where
     degrees-le = omega (arith, degrees-ext n (U .size) (λ q. 0) z, total-constant n 0);
   }
     where
-      nothing : (x : ℕ → A) (s : InSpan R n n U x) (i : ℕ) → combined R n (s .coefficient) U i ≡ sum R 0 (λ k. R .mul (M i k) (R .zero))
+      nothing : (x : ℕ → A) (s : InSpan R n n U x) (i : ℕ) → combined R n (s .coefficient) U i ≡ sum R 0
+          (λ k. R .mul (M i k) (R .zero))
       nothing x s i = sum-none R n (λ q. R .mul (s .coefficient q) (U .at q i))
           (λ q h. ap (λ y. R .mul y (U .at q i)) (s .empty q h (z q h)) ∙ zero-mul R (U .at q i))
 
@@ -66,7 +67,8 @@ module _ {A : Type 0} {R : Ring A} {S : Sized R} (T : LinearSystem S) where
       same = rank-ext n (U .size) (U′ .size) (λ q h. ap (min 1) (e .sizes q h))
 
   -- L5: one column more; L6: its degrees
-  pub level-next : {j : ℕ} {U U′ : Slots A} {kernel : A} → LevelKnown j U → Link S n δ (λ i. M i j) U U′ kernel → LevelKnown (suc j) U′
+  pub level-next : {j : ℕ} {U U′ : Slots A} {kernel : A} → LevelKnown j U → Link S n δ (λ i. M i j) U U′ kernel
+      → LevelKnown (suc j) U′
   unfolding sum
   level-next {j} {U} {U′} {kernel} L K = record {
     filled = K .filled;
@@ -93,8 +95,10 @@ module _ {A : Type 0} {R : Ring A} {S : Sized R} (T : LinearSystem S) where
 
           equal : (i : ℕ) → i < n → x i ≡ sum R (suc j) (λ k. R .mul (M i k) (replace p j τ k))
           equal i h =
-              combination R (x i) (R .add (sum R j (λ k. R .mul (M i k) (p k))) (R .mul (M i j) τ)) (given (R .one) (C .equal i h) ∷ [])
-              (identity R (x i ∷ M i j ∷ τ ∷ sum R j (λ k. R .mul (M i k) (p k)) ∷ []) (λ ρ qx qm qτ qs. search quotes depth 16) refl)
+              combination R (x i) (R .add (sum R j (λ k. R .mul (M i k) (p k))) (R .mul (M i j) τ))
+              (given (R .one) (C .equal i h) ∷ [])
+              (identity R (x i ∷ M i j ∷ τ ∷ sum R j (λ k. R .mul (M i k) (p k)) ∷ []) (λ ρ qx qm qτ qs. search quotes depth 16)
+              refl)
               ∙ sym (ap₂ (R .add) (sum-ext R j (λ k. R .mul (M i k) (replace p j τ k)) (λ k. R .mul (M i k) (p k))
               (λ k l. ap (R .mul (M i k)) (replace-other p j τ k (λ e. omega arith)))) (ap (R .mul (M i j)) (replace-here p j τ)))
 
@@ -112,7 +116,8 @@ module _ {A : Type 0} {R : Ring A} {S : Sized R} (T : LinearSystem S) where
       upto zero h = span-zero R U (λ i. R .zero) (λ i g. refl)
       upto (suc k) h = span-combine R (R .one) (C .parts k) (upto k (omega arith)) (L .spanned k h)
           (λ i. R .add (sum R k (λ l. R .mul (M i l) (C .parts l))) (R .mul (M i k) (C .parts k)))
-          (λ i g. identity R (sum R k (λ l. R .mul (M i l) (C .parts l)) ∷ M i k ∷ C .parts k ∷ []) (λ ρ qs qm qp. search quotes depth 16) refl)
+          (λ i g. identity R (sum R k (λ l. R .mul (M i l) (C .parts l)) ∷ M i k ∷ C .parts k ∷ [])
+          (λ ρ qs qm qp. search quotes depth 16) refl)
 
   -- the levels 0 to i, with the kernels of the columns
   pub record Levels (level : ℕ → Slots A) (kernel : ℕ → A) (i : ℕ) : Type 0 where

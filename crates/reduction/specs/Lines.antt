@@ -1,5 +1,5 @@
--- Several right sides over one matrix: line k is the system with the right side a k. The least common multiple of the lines' denominators
--- is the least denominator for all of them at once, and no longer than that of one line may be.
+-- Several right sides over one matrix: line k is the system with the right side a k. The least common multiple of the lines'
+-- denominators is the least denominator for all of them at once, and no longer than that of one line may be.
 use Prim.Native.Nat.{ℕ, suc, _<_, _≤_, min}
 use Prim.Native.Nat.{_*_ as _*ₙ_}
 use mathlib.Core.Path.{sym, _∙_, ap}

@@ -1,6 +1,6 @@
--- Rows that bound denominators from below, found one by one and put together: (w, Z) with w dividing Z·B, and Z·c = k modulo w for a
--- divisor k of w, shows that L = w / k divides every denominator of B·y = c. Keeping Z·c at k itself, not at any multiple of it, two of
--- them join by Bézout's multipliers of their L alone.
+-- Rows that bound denominators from below, found one by one and put together: (w, Z) with w dividing Z·B, and Z·c = k modulo w for
+-- a divisor k of w, shows that L = w / k divides every denominator of B·y = c. Keeping Z·c at k itself, not at any multiple of it,
+-- two of them join by Bézout's multipliers of their L alone.
 use Prim.Native.Nat.{ℕ, _<_}
 use Prim.Native.Nat.{_-_ as _-ₙ_}
 use mathlib.Core.Path.{_≡_, refl, sym, _∙_, ap, ap₂}
@@ -71,7 +71,8 @@ module _ {A : Type 0} (R : Ring A) (n m : ℕ) (B : ℕ → ℕ → A) (c : ℕ 
     }));
     multiple = τ * C .multiple - times μ c;
     side = combination R (times Z′ c) (τ * s + (τ * C .multiple - times μ c) * w) (given 𝟙 (row c) ∷ given τ (C .side) ∷ [])
-        (identity R (times Z′ c ∷ times Z c ∷ times μ c ∷ τ ∷ s ∷ w ∷ C .multiple ∷ []) (λ ρ q1 q2 q3 q4 q5 q6 q7. search quotes depth 20) refl);
+        (identity R (times Z′ c ∷ times Z c ∷ times μ c ∷ τ ∷ s ∷ w ∷ C .multiple ∷ [])
+        (λ ρ q1 q2 q3 q4 q5 q6 q7. search quotes depth 20) refl);
   }
     where
       row : (y : ℕ → A) → times Z′ y ≡ τ * times Z y + (- w) * times μ y
@@ -80,7 +81,8 @@ module _ {A : Type 0} (R : Ring A) (n m : ℕ) (B : ℕ → ℕ → A) (c : ℕ 
 
   -- two rows, each times what its w lacks of W, added
   pub congruent-join : {w₁ w₂ s₁ s₂ : A} {Z₁ Z₂ : ℕ → A} (W W₁ W₂ : A) → W ≡ W₁ * w₁ → W ≡ W₂ * w₂ → (Z : ℕ → A)
-      → ((i : ℕ) → i < n → Z i ≡ W₁ * Z₁ i + W₂ * Z₂ i) → Congruent w₁ Z₁ s₁ → Congruent w₂ Z₂ s₂ → Congruent W Z (W₁ * s₁ + W₂ * s₂)
+      → ((i : ℕ) → i < n → Z i ≡ W₁ * Z₁ i + W₂ * Z₂ i) → Congruent w₁ Z₁ s₁ → Congruent w₂ Z₂ s₂
+      → Congruent W Z (W₁ * s₁ + W₂ * s₂)
   congruent-join {w₁} {w₂} {s₁} {s₂} {Z₁} {Z₂} W W₁ W₂ e₁ e₂ Z e C₁ C₂ = record {
     columns = λ j l. divides-equal (sym (row-combine W₁ W₂ Z₁ Z₂ Z e (λ i. B i j))) (divides-add
         (whole W₁ w₁ e₁ (C₁ .columns j l)) (whole W₂ w₂ e₂ (C₂ .columns j l)));
@@ -107,8 +109,8 @@ module _ {A : Type 0} (R : Ring A) (n m : ℕ) (B : ℕ → ℕ → A) (c : ℕ 
     };
   }
 
-  -- of one row U with h dividing U·B: r is U·c modulo h, k the greatest common divisor of h and r, τ its multiplier of r, and Z is τ·U
-  -- modulo h
+  -- of one row U with h dividing U·B: r is U·c modulo h, k the greatest common divisor of h and r, τ its multiplier of r, and Z is
+  -- τ·U modulo h
   pub bound-row : {h l : A} {U : ℕ → A} (θ r k σ τ : A) (μ Z : ℕ → A) → ((j : ℕ) → j < m → Divides R h (sum R n (λ i. U i * B i j)))
       → sum R n (λ i. U i * c i) ≡ θ * h + r → k ≡ σ * h + τ * r → h ≡ l * k
       → ((i : ℕ) → i < n → τ * U i ≡ μ i * h + Z i) → LowerBound h Z l
@@ -121,8 +123,9 @@ module _ {A : Type 0} (R : Ring A) (n m : ℕ) (B : ℕ → ℕ → A) (c : ℕ 
         (congruent-times τ μ Z e (record { columns = columns; multiple = θ; side = er ∙ R .add-comm (θ * h) r }));
   }
 
-  -- two of them: g = σ·L₁ + τ·L₂ with L·g = L₁·L₂, as their greatest common divisor and least common multiple, and W any common multiple
-  -- of w₁ and w₂. With K i = (W i)·(k i), W = (K i)·(L i), so that g·L·(τ·K₁ + σ·K₂) = L₁·L₂·(τ·K₁ + σ·K₂) = (τ·L₂ + σ·L₁)·W
+  -- two of them: g = σ·L₁ + τ·L₂ with L·g = L₁·L₂, as their greatest common divisor and least common multiple, and W any common
+  -- multiple of w₁ and w₂. With K i = (W i)·(k i), W = (K i)·(L i), so that g·L·(τ·K₁ + σ·K₂) = L₁·L₂·(τ·K₁ + σ·K₂) = (τ·L₂ +
+  -- σ·L₁)·W
   pub bound-join : (S : Sized R) {w₁ w₂ L₁ L₂ : A} {Z₁ Z₂ : ℕ → A} → LowerBound w₁ Z₁ L₁ → LowerBound w₂ Z₂ L₂
       → (g σ τ L : A) → ¬ (g ≡ 𝟘) → g ≡ σ * L₁ + τ * L₂ → L * g ≡ L₁ * L₂ → (W W₁ W₂ : A) → W ≡ W₁ * w₁ → W ≡ W₂ * w₂
       → (μ₁ μ₂ X₁ X₂ Z : ℕ → A) → ((i : ℕ) → i < n → τ * Z₁ i ≡ μ₁ i * w₁ + X₁ i) → ((i : ℕ) → i < n → σ * Z₂ i ≡ μ₂ i * w₂ + X₂ i)

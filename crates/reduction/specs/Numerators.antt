@@ -1,4 +1,5 @@
--- Which numerators: of all N with A·N = f, those in which each N j is shorter than every relation of the columns up to j leaves at j.
+-- Which numerators: of all N with A·N = f, those in which each N j is shorter than every relation of the columns up to j leaves at
+-- j.
 use Prim.Native.Nat.{ℕ, zero, suc, _<_, _≤_}
 use Prim.Native.Nat.{_+_ as _+ₙ_}
 use mathlib.Core.Path.{_≡_, refl, sym, _∙_, ap, ap₂, subst}
@@ -58,7 +59,11 @@ module _ {A : Type 0} {R : Ring A} (S : Sized R) (n m : ℕ) (M : ℕ → ℕ �
         go : Dec (v j ≡ 𝟘) → N j ≡ N′ j
         go (yes z) = combination R (N j) (N′ j) (given 𝟙 z ∷ [])
             (identity R (N j ∷ N′ j ∷ []) (λ ρ qn qo. search quotes depth 16) refl)
-        go (no z) = absurd (omega (arith, size-sub-less S (size (v j)) (N j) (N′ j) (reduced j h v relation z) (reduced′ j h v relation z)))
+        go (no z) = absurd (omega (
+          arith,
+          size-sub-less S (size (v j)) (N j) (N′ j) (reduced j h v relation z)
+              (reduced′ j h v relation z),
+        ))
 
     from : (i j : ℕ) → j +ₙ i ≡ m → (k : ℕ) → j ≤ k → k < m → N k ≡ N′ k
     from zero j e k h l = absurd (omega arith)

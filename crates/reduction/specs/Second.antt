@@ -152,8 +152,10 @@ module _ {A : Type 0} {R : Ring A} {S : Sized R} {n B D : ℕ} {U : Slots A} (O 
             let e = inserting-least (transposed-filled O) X κ spanned z in
             record {
               cofactor = e .cofactor * m .inverse;
-              product = combination R κ (e .cofactor * m .inverse * w) (given 𝟙 (e .product) ∷ given (- (e .cofactor * t .hand n)) (m .unit-inverse) ∷ [])
-                  (identity R (κ ∷ e .cofactor ∷ m .inverse ∷ m .unit ∷ t .hand n ∷ []) (λ ρ q1 q2 q3 q4 q5. search quotes depth 16) refl);
+              product = combination R κ (e .cofactor * m .inverse * w)
+                  (given 𝟙 (e .product) ∷ given (- (e .cofactor * t .hand n)) (m .unit-inverse) ∷ [])
+                  (identity R (κ ∷ e .cofactor ∷ m .inverse ∷ m .unit ∷ t .hand n ∷ [])
+                  (λ ρ q1 q2 q3 q4 q5. search quotes depth 16) refl);
             }
 
       -- room: its weighted size

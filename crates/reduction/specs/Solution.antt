@@ -151,7 +151,8 @@ module _ {A : Type 0} {R : Ring A} {S : Sized R} (E : Euclidean S) (T : LinearSy
           times x =
               sym (sum-mul R n c (λ i. Y i * x i))
               ∙ sum-ext R n (λ i. c * (Y i * x i)) (λ i. w * (y i * x i)) (λ i h. combination R (c * (Y i * x i)) (w * (y i * x i))
-              (given (x i) (terms i h) ∷ []) (identity R (c ∷ Y i ∷ x i ∷ d ∷ w′ ∷ y i ∷ []) (λ ρ q1 q2 q3 q4 q5 q6. search quotes depth 16) refl))
+              (given (x i) (terms i h) ∷ []) (identity R (c ∷ Y i ∷ x i ∷ d ∷ w′ ∷ y i ∷ [])
+              (λ ρ q1 q2 q3 q4 q5 q6. search quotes depth 16) refl))
               ∙ sum-mul R n w (λ i. y i * x i)
 
           c′ : A
@@ -161,7 +162,8 @@ module _ {A : Type 0} {R : Ring A} {S : Sized R} (E : Euclidean S) (T : LinearSy
           unfolding c′
           c-is = mul-cancel S w′ c (d * c′) (K .nonzero) (combination R (w′ * c) (w′ * (d * c′))
               (given 𝟙 (times b) ∷ given (- c) Yb ∷ [])
-              (identity R (w′ ∷ c ∷ d ∷ k₁ ∷ sum R n (λ i. y i * b i) ∷ sum R n (λ i. Y i * b i) ∷ []) (λ ρ q1 q2 q3 q4 q5 q6. search quotes depth 16) refl))
+              (identity R (w′ ∷ c ∷ d ∷ k₁ ∷ sum R n (λ i. y i * b i) ∷ sum R n (λ i. Y i * b i) ∷ [])
+              (λ ρ q1 q2 q3 q4 q5 q6. search quotes depth 16) refl))
 
           w-nonzero : ¬ (w ≡ 𝟘)
           w-nonzero = mul-nonzero S d w′ (associate-nonzero S μ solution-positive) (K .nonzero)
@@ -189,7 +191,8 @@ module _ {A : Type 0} {R : Ring A} {S : Sized R} (E : Euclidean S) (T : LinearSy
             parts = C .parts;
             part = x n;
             equal = λ k l. combination R (x k) (sum R m (λ j. M k j * C .parts j) + x n * b k) (given 𝟙 (C .equal k l) ∷ [])
-                (identity R (x k ∷ sum R m (λ j. M k j * C .parts j) ∷ x n ∷ b k ∷ []) (λ ρ q1 q2 q3 q4. search quotes depth 16) refl);
+                (identity R (x k ∷ sum R m (λ j. M k j * C .parts j) ∷ x n ∷ b k ∷ []) (λ ρ q1 q2 q3 q4. search quotes depth 16)
+                refl);
           };
           length = t .slots .size i;
           pivot = kept (L .filled) X .filled i h f;

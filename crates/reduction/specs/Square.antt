@@ -1,5 +1,5 @@
--- Independent columns leave no kernel, so that there are no more of them than rows; where there are as many, every slot of the last level
--- is filled, the rows are independent too, and there is a solution for every right side.
+-- Independent columns leave no kernel, so that there are no more of them than rows; where there are as many, every slot of the last
+-- level is filled, the rows are independent too, and there is a solution for every right side.
 use Prim.Native.Nat.{ℕ, zero, suc, _<_, _≤_, min}
 use Prim.Native.Nat.{_*_ as _*ₙ_}
 use mathlib.Core.Path.{_≡_, refl, sym, _∙_, ap, ap₂}
@@ -104,7 +104,8 @@ module _ {A : Type 0} {R : Ring A} {S : Sized R} (T : LinearSystem S) (level : �
 
       killed : (p : ℕ) → p < n → sum R n (λ i. q i * U .at p i) ≡ 𝟘
       killed p l =
-          sum-ext R n (λ i. q i * U .at p i) (λ i. q i * sum R m (λ j. M i j * X .parts j)) (λ i g. ap (λ y. q i * y) (X .equal i g))
+          sum-ext R n (λ i. q i * U .at p i) (λ i. q i * sum R m (λ j. M i j * X .parts j))
+          (λ i g. ap (λ y. q i * y) (X .equal i g))
           ∙ sum-assoc R n m q M (X .parts)
           ∙ sum-none R m (λ j. sum R n (λ i. q i * M i j) * X .parts j)
           (λ j g. ap (λ y. y * X .parts j) (kills j g) ∙ zero-mul R (X .parts j))
@@ -149,5 +150,6 @@ module _ {A : Type 0} {R : Ring A} {S : Sized R} (E : Euclidean S) (T : LinearSy
       go : Solved E T (suc B) ⊎ Unsolvable E T (suc B) → Solved E T (suc B)
       go (inl s) = s
       go (inr u) = absurd (u .right .nonzero (sum-none R n (λ i. u .q i * b i)
-          (λ i l. ap (λ y. y * b i) (square-rows T (level E T) (kernel E T) (levels E T) independent square (u .q) (u .right .kills) i l)
+          (λ i l. ap (λ y. y * b i) (square-rows T (level E T) (kernel E T) (levels E T) independent square (u .q)
+          (u .right .kills) i l)
           ∙ zero-mul R (b i))))

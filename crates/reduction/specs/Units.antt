@@ -1,5 +1,6 @@
--- Independent rows: the unit columns have one denominator e in common, no longer than suc (n·δ); and h divides e wherever h divides U·A
--- for a row of fractions U / f in lowest terms whose f is a multiple of h. That bounds the w of certificates that are found one by one.
+-- Independent rows: the unit columns have one denominator e in common, no longer than suc (n·δ); and h divides e wherever h divides
+-- U·A for a row of fractions U / f in lowest terms whose f is a multiple of h. That bounds the w of certificates that are found one
+-- by one.
 use Prim.Native.Nat.{ℕ, zero, suc, _<_, _≤_, min}
 use Prim.Native.Nat.{_*_ as _*ₙ_}
 use mathlib.Core.Path.{_≡_, refl, sym, _∙_, ap}
@@ -30,7 +31,8 @@ module _ {A : Type 0} {R : Ring A} {S : Sized R} (E : Euclidean S) (T : LinearSy
 
   infixl 70 _*_
   unit-short : (k i : ℕ) → k < n → i < n → size (unitColumn R k i) ≤ suc δ
-  unit-short k i l h = replace-elim (λ i x. size x ≤ suc δ) (λ i. 𝟘) k 𝟙 (omega (arith, size-one)) i (λ ne. omega (arith, size-zero))
+  unit-short k i l h = replace-elim (λ i x. size x ≤ suc δ) (λ i. 𝟘) k 𝟙 (omega (arith, size-one)) i
+      (λ ne. omega (arith, size-zero))
 
   -- a row that kills A is zero, and excludes no column
   pub units-joint : IndependentRows R n m M → (B : ℕ) → min n m *ₙ δ ≤ B → Joint T (unitColumn R) n (suc B)
@@ -72,7 +74,8 @@ module _ {A : Type 0} {R : Ring A} {S : Sized R} (E : Euclidean S) (T : LinearSy
     -- f = u·h divides u·e·(U i) for every i, and so u·e
     pub units-divides : (f u : A) → ¬ (f ≡ 𝟘) → f ≡ u * h → ((t : A) → ((i : ℕ) → i < n → Divides R f (t * U i)) → Divides R f t)
         → Divides R h (J .e)
-    units-divides f u nonzero e lowest = mul-divides-cancel S u h (J .e) (mul-nonzero-left S u h (λ z. nonzero (e ∙ z))) (rw e at whole)
+    units-divides f u nonzero e lowest = mul-divides-cancel S u h (J .e) (mul-nonzero-left S u h (λ z. nonzero (e ∙ z)))
+        (rw e at whole)
       where
         whole : Divides R f (u * J .e)
         whole = lowest (u * J .e)

@@ -19,11 +19,13 @@ module _ {A : Type 0} (R : Ring A) where
   squares : (a b : A) → (a + b) * (a - b) ≡ a * a - b * b
   squares a b = identity R (a ∷ b ∷ []) (λ ρ qa qb. search quotes depth 16) refl
 
-  cyclic : (a b c : A) → (a - b) * (b - c) + (b - c) * (c - a) + (c - a) * (a - b) ≡ (a * b + b * c + c * a) - (a * a + b * b + c * c)
+  cyclic : (a b c : A) → (a - b) * (b - c) + (b - c) * (c - a) + (c - a) * (a - b) ≡ (a * b + b * c + c * a) -
+      (a * a + b * b + c * c)
   cyclic a b c = identity R (a ∷ b ∷ c ∷ []) (λ ρ qa qb qc. search quotes depth 16) refl
 
   -- the sum of two squares times a sum of two squares
-  brahmagupta : (a b c d : A) → (a * a + b * b) * (c * c + d * d) ≡ (a * c - b * d) * (a * c - b * d) + (a * d + b * c) * (a * d + b * c)
+  brahmagupta : (a b c d : A) → (a * a + b * b) * (c * c + d * d) ≡ (a * c - b * d) * (a * c - b * d) + (a * d + b * c) *
+      (a * d + b * c)
   brahmagupta a b c d = identity R (a ∷ b ∷ c ∷ d ∷ []) (λ ρ qa qb qc qd. search quotes depth 16) refl
 
   horner : (a b c d x : A) → a + x * (b + x * (c + x * d)) ≡ a + b * x + c * x * x + d * x * x * x

@@ -17,7 +17,21 @@ pub record Ring (A : Type 0) : Type 0 where
   pub mul-add : (a b c : A) → mul a (add b c) ≡ add (mul a b) (mul a c)
 
 module _ {A : Type 0} (R : Ring A) where
-  open Ring R using (add as _+_, mul as _*_, neg as -_, zero as 𝟘, one as 𝟙, add-comm, add-assoc, add-zero, add-neg, mul-comm, mul-assoc, mul-one, mul-add)
+  open Ring R using (
+    add as _+_,
+    mul as _*_,
+    neg as -_,
+    zero as 𝟘,
+    one as 𝟙,
+    add-comm,
+    add-assoc,
+    add-zero,
+    add-neg,
+    mul-comm,
+    mul-assoc,
+    mul-one,
+    mul-add,
+  )
 
   infixl 65 _+_
   infixl 70 _*_
@@ -44,7 +58,8 @@ module _ {A : Type 0} (R : Ring A) where
   add-add-add-comm a b c d = simp (add-assoc, add-left-comm)
 
   pub add-cancel : (a b c : A) → a + c ≡ b + c → a ≡ b
-  add-cancel a b c h = sym (add-zero a) ∙ ap (λ x. a + x) (sym (add-neg c)) ∙ sym (add-assoc a c (- c)) ∙ ap (λ x. x + (- c)) h ∙ add-assoc b c (- c) ∙ ap (λ x. b + x) (add-neg c) ∙ add-zero b
+  add-cancel a b c h = sym (add-zero a) ∙ ap (λ x. a + x) (sym (add-neg c)) ∙ sym (add-assoc a c (- c)) ∙ ap (λ x. x + (- c)) h
+      ∙ add-assoc b c (- c) ∙ ap (λ x. b + x) (add-neg c) ∙ add-zero b
 
   pub mul-zero : (a : A) → a * 𝟘 ≡ 𝟘
   mul-zero a = add-cancel (a * 𝟘) 𝟘 (a * 𝟘) (sym (mul-add a 𝟘 𝟘) ∙ ap (λ x. a * x) (add-zero 𝟘) ∙ sym (zero-add (a * 𝟘)))
@@ -62,7 +77,8 @@ module _ {A : Type 0} (R : Ring A) where
   neg-zero = sym (neg-unique 𝟘 𝟘 (add-zero 𝟘))
 
   pub neg-add-distrib : (a b : A) → - (a + b) ≡ (- a) + (- b)
-  neg-add-distrib a b = sym (neg-unique (a + b) ((- a) + (- b)) (add-add-add-comm a b (- a) (- b) ∙ ap₂ _+_ (add-neg a) (add-neg b) ∙ add-zero 𝟘))
+  neg-add-distrib a b = sym (neg-unique (a + b) ((- a) + (- b)) (add-add-add-comm a b (- a) (- b) ∙ ap₂ _+_ (add-neg a) (add-neg b)
+      ∙ add-zero 𝟘))
 
   pub mul-neg : (a b : A) → a * (- b) ≡ - (a * b)
   mul-neg a b = neg-unique (a * b) (a * (- b)) (sym (mul-add a b (- b)) ∙ ap (λ x. a * x) (add-neg b) ∙ mul-zero a)

@@ -6,7 +6,8 @@ use mathlib.Core.List.{List, [], _∷_}
 use native.Mathlib.Nat.{add-suc, mul-suc}
 use native.Mathlib.Nat.{add-zero as addₙ-zero, mul-zero as mulₙ-zero}
 use native.Mathlib.Omega.{arith}
-use Rattle.ring.specs.Ring.{Ring, zero-add, neg-add, add-mul, add-left-comm, mul-left-comm, add-add-add-comm, add-cancel, mul-zero, zero-mul, neg-neg, neg-zero, neg-add-distrib, mul-neg, neg-mul}
+use Rattle.ring.specs.Ring.{Ring, zero-add, neg-add, add-mul, add-left-comm, mul-left-comm, add-add-add-comm, add-cancel}
+use Rattle.ring.specs.Ring.{mul-zero, zero-mul, neg-neg, neg-zero, neg-add-distrib, mul-neg, neg-mul}
 
 infixl 65 _:+_
 infixl 65 _:-_
@@ -88,7 +89,21 @@ norm (a :- b) = addH (norm a) (negH (norm b))
 norm (:- a) = negH (norm a)
 
 module _ {A : Type 0} (R : Ring A) where
-  open Ring R using (add as _+_, mul as _*_, neg as -_, zero as 𝟘, one as 𝟙, add-comm, add-assoc, add-zero, add-neg, mul-comm, mul-assoc, mul-one, mul-add)
+  open Ring R using (
+    add as _+_,
+    mul as _*_,
+    neg as -_,
+    zero as 𝟘,
+    one as 𝟙,
+    add-comm,
+    add-assoc,
+    add-zero,
+    add-neg,
+    mul-comm,
+    mul-assoc,
+    mul-one,
+    mul-add,
+  )
 
   infixl 65 _+_
   infixl 70 _*_
@@ -134,7 +149,8 @@ module _ {A : Type 0} (R : Ring A) where
   nat-mul : (m n : ℕ) → nat (m *ₙ n) ≡ nat m * nat n
   unfolding nat
   nat-mul m zero = rw mulₙ-zero (sym (mul-zero R (nat m)))
-  nat-mul m (suc n) = rw mul-suc (nat-add (m *ₙ n) m ∙ ap₂ _+_ (nat-mul m n) (sym (mul-one (nat m))) ∙ sym (mul-add (nat m) (nat n) 𝟙))
+  nat-mul m (suc n) = rw mul-suc (nat-add (m *ₙ n) m ∙ ap₂ _+_ (nat-mul m n) (sym (mul-one (nat m)))
+      ∙ sym (mul-add (nat m) (nat n) 𝟙))
 
   neg-add-cancel : (b d : A) → (- b) + (b + d) ≡ d
   neg-add-cancel b d = sym (add-assoc (- b) b d) ∙ ap (λ x. x + d) (neg-add R b) ∙ zero-add R d
@@ -163,7 +179,8 @@ module _ {A : Type 0} (R : Ring A) where
 
   int-add : (a b c d : ℕ) → int (a +ₙ c) (b +ₙ d) ≡ int a b + int c d
   unfolding int
-  int-add a b c d = ap₂ (λ x y. x + (- y)) (nat-add a c) (nat-add b d) ∙ ap (λ x. nat a + nat c + x) (neg-add-distrib R (nat b) (nat d)) ∙ add-add-add-comm R (nat a) (nat c) (- nat b) (- nat d)
+  int-add a b c d = ap₂ (λ x y. x + (- y)) (nat-add a c) (nat-add b d)
+      ∙ ap (λ x. nat a + nat c + x) (neg-add-distrib R (nat b) (nat d)) ∙ add-add-add-comm R (nat a) (nat c) (- nat b) (- nat d)
 
   int-neg : (a b : ℕ) → int b a ≡ - int a b
   unfolding int
@@ -193,7 +210,8 @@ module _ {A : Type 0} (R : Ring A) where
   addk-ok : (a b : ℕ) (q : H) (ρ : List A) → evH (addk a b q) ρ ≡ int a b + evH q ρ
   unfolding evH
   addk-ok a b (k c d) ρ = kk-ok (a +ₙ c) (b +ₙ d) ∙ int-add a b c d
-  addk-ok a b (h p q) ρ = hh-ok (addk a b p) q ρ ∙ ap (λ x. x + hd ρ * evH q ρ) (addk-ok a b p (tl ρ)) ∙ add-assoc (int a b) (evH p (tl ρ)) (hd ρ * evH q ρ)
+  addk-ok a b (h p q) ρ = hh-ok (addk a b p) q ρ ∙ ap (λ x. x + hd ρ * evH q ρ) (addk-ok a b p (tl ρ))
+      ∙ add-assoc (int a b) (evH p (tl ρ)) (hd ρ * evH q ρ)
 
   addK-ok : (a b : ℕ) (q : H) (ρ : List A) → evH (addK a b q) ρ ≡ int a b + evH q ρ
   addK-ok zero zero q ρ = sym (ap (λ x. x + evH q ρ) int-zero ∙ zero-add R (evH q ρ))
@@ -204,7 +222,9 @@ module _ {A : Type 0} (R : Ring A) where
   unfolding evH
   addH-ok (k a b) q ρ = addK-ok a b q ρ
   addH-ok (h p q) (k a b) ρ = addK-ok a b (h p q) ρ ∙ add-comm (int a b) (evH p (tl ρ) + hd ρ * evH q ρ)
-  addH-ok (h p q) (h r s) ρ = hh-ok (addH p r) (addH q s) ρ ∙ ap₂ (λ x y. x + hd ρ * y) (addH-ok p r (tl ρ)) (addH-ok q s ρ) ∙ ap (λ x. evH p (tl ρ) + evH r (tl ρ) + x) (mul-add (hd ρ) (evH q ρ) (evH s ρ)) ∙ add-add-add-comm R (evH p (tl ρ)) (evH r (tl ρ)) (hd ρ * evH q ρ) (hd ρ * evH s ρ)
+  addH-ok (h p q) (h r s) ρ = hh-ok (addH p r) (addH q s) ρ ∙ ap₂ (λ x y. x + hd ρ * y) (addH-ok p r (tl ρ)) (addH-ok q s ρ)
+      ∙ ap (λ x. evH p (tl ρ) + evH r (tl ρ) + x) (mul-add (hd ρ) (evH q ρ) (evH s ρ))
+      ∙ add-add-add-comm R (evH p (tl ρ)) (evH r (tl ρ)) (hd ρ * evH q ρ) (hd ρ * evH s ρ)
 
   under : (c p x q : A) → c * p + x * (c * q) ≡ c * (p + x * q)
   under c p x q = simp (mul-add, mul-left-comm R)
@@ -212,7 +232,8 @@ module _ {A : Type 0} (R : Ring A) where
   mulk-ok : (a b : ℕ) (q : H) (ρ : List A) → evH (mulk a b q) ρ ≡ int a b * evH q ρ
   unfolding evH
   mulk-ok a b (k c d) ρ = kk-ok (a *ₙ c +ₙ b *ₙ d) (a *ₙ d +ₙ b *ₙ c) ∙ int-mul a b c d
-  mulk-ok a b (h p q) ρ = hh-ok (mulk a b p) (mulk a b q) ρ ∙ ap₂ (λ x y. x + hd ρ * y) (mulk-ok a b p (tl ρ)) (mulk-ok a b q ρ) ∙ under (int a b) (evH p (tl ρ)) (hd ρ) (evH q ρ)
+  mulk-ok a b (h p q) ρ = hh-ok (mulk a b p) (mulk a b q) ρ ∙ ap₂ (λ x y. x + hd ρ * y) (mulk-ok a b p (tl ρ)) (mulk-ok a b q ρ)
+      ∙ under (int a b) (evH p (tl ρ)) (hd ρ) (evH q ρ)
 
   mulK-ok : (a b : ℕ) (q : H) (ρ : List A) → evH (mulK a b q) ρ ≡ int a b * evH q ρ
   unfolding evH
@@ -220,10 +241,13 @@ module _ {A : Type 0} (R : Ring A) where
   mulK-ok zero (suc b) q ρ = mulk-ok zero (suc b) q ρ
   mulK-ok (suc a) b q ρ = mulk-ok (suc a) b q ρ
 
-  mapH-ok : (p : H) (f : H → H) → ((s : H) (ρ : List A) → evH (f s) ρ ≡ evH p ρ * evH s ρ) → (r : H) (ρ : List A) → evH (mapH f r) ρ ≡ evH p (tl ρ) * evH r ρ
+  mapH-ok : (p : H) (f : H → H) → ((s : H) (ρ : List A) → evH (f s) ρ ≡ evH p ρ * evH s ρ) → (r : H) (ρ : List A)
+      → evH (mapH f r) ρ ≡ evH p (tl ρ) * evH r ρ
   unfolding evH
-  mapH-ok p f e (k a b) ρ = hh-ok (f (k a b)) (k 0 0) ρ ∙ add-mul-zero (evH (f (k a b)) (tl ρ)) (hd ρ) (int 0 0) int-zero ∙ e (k a b) (tl ρ)
-  mapH-ok p f e (h s q) ρ = hh-ok (f s) (mapH f q) ρ ∙ ap₂ (λ x y. x + hd ρ * y) (e s (tl ρ)) (mapH-ok p f e q ρ) ∙ under (evH p (tl ρ)) (evH s (tl ρ)) (hd ρ) (evH q ρ)
+  mapH-ok p f e (k a b) ρ = hh-ok (f (k a b)) (k 0 0) ρ ∙ add-mul-zero (evH (f (k a b)) (tl ρ)) (hd ρ) (int 0 0) int-zero
+      ∙ e (k a b) (tl ρ)
+  mapH-ok p f e (h s q) ρ = hh-ok (f s) (mapH f q) ρ ∙ ap₂ (λ x y. x + hd ρ * y) (e s (tl ρ)) (mapH-ok p f e q ρ)
+      ∙ under (evH p (tl ρ)) (evH s (tl ρ)) (hd ρ) (evH q ρ)
 
   shift : (z p r x q : A) → z ≡ 𝟘 → p * r + (z + x * (q * r)) ≡ (p + x * q) * r
   shift z p r x q e = ap (λ y. p * r + (y + x * (q * r))) e ∙ simp (zero-add R, add-mul R, mul-assoc)
@@ -231,7 +255,9 @@ module _ {A : Type 0} (R : Ring A) where
   mulH-ok : (p r : H) (ρ : List A) → evH (mulH p r) ρ ≡ evH p ρ * evH r ρ
   unfolding evH
   mulH-ok (k a b) r ρ = mulK-ok a b r ρ
-  mulH-ok (h p q) r ρ = addH-ok (mapH (λ s. mulH p s) r) (hh (k 0 0) (mulH q r)) ρ ∙ ap₂ _+_ (mapH-ok p (λ s. mulH p s) (λ s σ. mulH-ok p s σ) r ρ) (hh-ok (k 0 0) (mulH q r) ρ ∙ ap (λ y. int 0 0 + hd ρ * y) (mulH-ok q r ρ)) ∙ shift (int 0 0) (evH p (tl ρ)) (evH r ρ) (hd ρ) (evH q ρ) int-zero
+  mulH-ok (h p q) r ρ = addH-ok (mapH (λ s. mulH p s) r) (hh (k 0 0) (mulH q r)) ρ
+      ∙ ap₂ _+_ (mapH-ok p (λ s. mulH p s) (λ s σ. mulH-ok p s σ) r ρ) (hh-ok (k 0 0) (mulH q r) ρ
+      ∙ ap (λ y. int 0 0 + hd ρ * y) (mulH-ok q r ρ)) ∙ shift (int 0 0) (evH p (tl ρ)) (evH r ρ) (hd ρ) (evH q ρ) int-zero
 
   negH-ok : (p : H) (ρ : List A) → evH (negH p) ρ ≡ - evH p ρ
   unfolding evH

@@ -89,7 +89,8 @@ module _ {A : Type 0} (R : Ring A) where
   sum-out n k f h =
       sum-ext n f (λ i. only i + without k f i) (λ i g. split i (ℕ-discrete i k))
       ∙ sum-add n only (without k f)
-      ∙ ap (λ x. x + sum n (without k f)) (sum-single n k only h (λ i g ne. if-neg (ℕ-discrete i k) ne (f i) 𝟘) ∙ if-pos (ℕ-discrete k k) refl (f k) 𝟘)
+      ∙ ap (λ x. x + sum n (without k f)) (sum-single n k only h (λ i g ne. if-neg (ℕ-discrete i k) ne (f i) 𝟘)
+      ∙ if-pos (ℕ-discrete k k) refl (f k) 𝟘)
     where
       only : ℕ → A
       only i = ite (ℕ-discrete i k) (f i) 𝟘
@@ -138,7 +139,8 @@ module _ {A : Type 0} (R : Ring A) where
   sum-assoc n m Z M x =
       sum-ext n (λ i. Z i * sum m (λ j. M i j * x j)) (λ i. sum m (λ j. Z i * M i j * x j)) (λ i h. inward i)
       ∙ sum-swap n m (λ i j. Z i * M i j * x j)
-      ∙ sum-ext m (λ j. sum n (λ i. Z i * M i j * x j)) (λ j. sum n (λ i. Z i * M i j) * x j) (λ j h. mul-sum n (x j) (λ i. Z i * M i j))
+      ∙ sum-ext m (λ j. sum n (λ i. Z i * M i j * x j)) (λ j. sum n (λ i. Z i * M i j) * x j)
+      (λ j h. mul-sum n (x j) (λ i. Z i * M i j))
     where
       inward : (i : ℕ) → Z i * sum m (λ j. M i j * x j) ≡ sum m (λ j. Z i * M i j * x j)
       inward i =

@@ -71,7 +71,8 @@ abbrev storedAbsence : (p n h : ℕ) (w rows : List ℕ) → List ℕ
 storedAbsence p n h w rows =
     stored (λ j. getD w (0 + j) 0) (stored (λ j. modulo p .neg (getD rows j 0)) rows 0 (blockWords * n)) (blockWords * h) blockWords
 
-module _ (p : ℕ) (prime₀ : Prime p) (n h : ℕ) (few-rows : n ≤ lanes) (inside : h < lanes) (w rows : List ℕ) (valid : ValidOutput p rows) where
+module _ (p : ℕ) (prime₀ : Prime p) (n h : ℕ) (few-rows : n ≤ lanes) (inside : h < lanes) (w rows : List ℕ)
+    (valid : ValidOutput p rows) where
   abbrev first : List ℕ
   first = stored (λ j. modulo p .neg (getD rows j 0)) rows 0 (blockWords * n)
 
@@ -92,7 +93,8 @@ module _ (p : ℕ) (prime₀ : Prime p) (n h : ℕ) (few-rows : n ≤ lanes) (in
   module _ (prime : Prime p) {x : Polynomial (residues p prime)} where
     holds-here : Holds (residues p prime) (words p prime w 0 blockWords) x → HoldsAt p prime (storedAbsence p n h w rows) h x
     holds-here A = record {
-      at = λ j. A .at j ∙ words-copied p prime w first 0 (blockWords * h) blockWords 0 (blockWords * h) blockWords (omega (arith, first-length))
+      at = λ j. A .at j ∙ words-copied p prime w first 0 (blockWords * h) blockWords 0 (blockWords * h) blockWords
+          (omega (arith, first-length))
           (omega arith) (omega arith) (omega arith) j;
     }
 
@@ -100,7 +102,8 @@ module _ (p : ℕ) (prime₀ : Prime p) (n h : ℕ) (few-rows : n ≤ lanes) (in
         → HoldsAt p prime (storedAbsence p n h w rows) i (polynomials (residues p prime) .neg x)
     holds-other i l ne A = record {
       at = λ j.
-          holds-negated p prime rows (valid .below) (blockWords * n) (blockWords * i) blockWords (omega (arith, valid .room)) (omega arith) A .at j
+          holds-negated p prime rows (valid .below) (blockWords * n) (blockWords * i) blockWords (omega (arith, valid .room))
+          (omega arith) A .at j
           ∙ sym (words-apart p prime (λ j. getD w (0 + j) 0) first (blockWords * h) blockWords (blockWords * i) blockWords
           (⊎-elim (λ lt. inl (omega arith)) (λ ge. inr (omega arith)) (below-or-not i h)) j);
     }
@@ -122,7 +125,8 @@ stored-found {p} {n} {h} {L} {w} {rows} prime₀ few-rows inside level solved va
         );
         killing = absence-killing (euclidean (residues p prime)) (inputSystem p prime n m X) (Q .last) (Q .inserting) (Q .stuck)
             (S .polynomial) (S .Y) (S .dual);
-        monic = subst (Monic (residues p prime)) (sym (absence-at (euclidean (residues p prime)) (inputSystem p prime n m X) (Q .last)
+        monic = subst (Monic (residues p prime)) (sym (absence-at (euclidean (residues p prime)) (inputSystem p prime n m X)
+            (Q .last)
             (Q .inserting) (Q .stuck) (S .polynomial) (S .Y) (S .dual))) (S .monic);
         holds-q = λ i l. replace-elim (λ i x. i < n → HoldsAt p prime (storedAbsence p n h w rows) i x)
             (λ k. polynomials (residues p prime) .neg (S .Y k)) (Q .stuck .at) (S .polynomial)

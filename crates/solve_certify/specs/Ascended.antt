@@ -30,8 +30,8 @@ module _ (p : ℕ) (prime : Prime p) (n m : ℕ) where
     pub holds : HoldsSlots p prime n unweighted L slots
     pub blocks : SameBlocks n slots (level j)
 
-  -- a solution certificate but for the numerators of the columns before j, and what is left of d·b for these, as coefficients of the
-  -- blocks of level j
+  -- a solution certificate but for the numerators of the columns before j, and what is left of d·b for these, as coefficients of
+  -- the blocks of level j
   pub record HoldsDescended {X : Equations p prime n m} {j : ℕ} {input : List ℕ} {L : Level} (H : HoldsLevels X j input L)
       (quotients output : List ℕ) : Type 0 where
     pub level : ℕ → Slots (Polynomial (residues p prime))
@@ -46,7 +46,8 @@ module _ (p : ℕ) (prime : Prime p) (n m : ℕ) where
     pub unfinished : Unfinished (euclidean (residues p prime)) (inputSystem p prime n m X) (level m) d w Z
     pub vector : ℕ → Polynomial (residues p prime)
     pub N : ℕ → Polynomial (residues p prime)
-    pub descent : Descent (inputSystem p prime n m X) level kernel (λ k. polynomials (residues p prime) .mul d (X .side k)) j vector N
+    pub descent : Descent (inputSystem p prime n m X) level kernel (λ k. polynomials (residues p prime) .mul d (X .side k)) j
+        vector N
     pub holds-d : HoldsAt p prime output 0 d
     pub holds-N : (k : ℕ) → j ≤ k → k < m → HoldsAt p prime output (1 + k) (N k)
     pub holds-w : HoldsAt p prime output (1 + m) w

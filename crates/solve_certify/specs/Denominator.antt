@@ -36,7 +36,8 @@ pub record HasTail (p : ℕ) (tail : List ℕ) : Type 0 where
 pub record HoldsDenominator (p : ℕ) (prime : Prime p) (n : ℕ) (d t : List ℕ) (x : Polynomial (residues p prime))
     (b : ℕ → Polynomial (residues p prime)) : Type 0 where
   pub denominator : Holds (residues p prime) (words p prime d 0 blockWords) x
-  pub vector : Flat (residues p prime) n lanes unweighted (words p prime t 0 productWords) (λ k. polynomials (residues p prime) .mul x (b k))
+  pub vector : Flat (residues p prime) n lanes unweighted (words p prime t 0 productWords)
+      (λ k. polynomials (residues p prime) .mul x (b k))
 
 pub record HasDenominator (p m : ℕ) (input tail d t : List ℕ) (found : ℕ) : Type 0 where
   pub below : (i : ℕ) → getD d i 0 < p
@@ -56,7 +57,8 @@ sideWords input m l = stored (λ j. getD input (blockWords * m + j) 0) l 0 block
 pub side-below : {p : ℕ} → Prime p → (input : List ℕ) (m : ℕ) (l : List ℕ) {block : List ℕ} → block ≡ sideWords input m l
     → ((i : ℕ) → getD input i 0 < p) → AtMost 0 l → (i : ℕ) → getD block i 0 < p
 side-below {p} prime input m l copied below none = subst (λ w. (i : ℕ) → getD w i 0 < p) (sym copied)
-    (stored-below p (λ j. getD input (blockWords * m + j) 0) l 0 blockWords some (λ j lt. below (blockWords * m + j)) (λ i. omega (arith, none i, some)))
+    (stored-below p (λ j. getD input (blockWords * m + j) 0) l 0 blockWords some (λ j lt. below (blockWords * m + j))
+    (λ i. omega (arith, none i, some)))
   where
     some : 0 < p
     some = omega (arith, prime .large)
@@ -71,10 +73,12 @@ module _ {p : ℕ} {tail d : List ℕ} {found : ℕ} (made : MadeMonic p tail d 
       go prime x some A =
           let few : size (residues p prime) x ≤ mostCoefficients =
           holds-size (residues p prime) A mostCoefficients (words-zero p prime tail 0 tailWords mostCoefficients zero) in
-          ends-most d 0 blockWords found mostCoefficients (made .ends) (held-zero-from p prime d 0 blockWords mostCoefficients (made .holds prime x some A)
+          ends-most d 0 blockWords found mostCoefficients (made .ends)
+          (held-zero-from p prime d 0 blockWords mostCoefficients (made .holds prime x some A)
           (omega (arith, associate-size (sized (residues p prime)) (associate (residues p prime) x some) some)))
 
-  pub denominator-made : (input : List ℕ) (m : ℕ) (l : List ℕ) {block t : List ℕ} → blockWords ≤ length l → block ≡ sideWords input m l
+  pub denominator-made : (input : List ℕ) (m : ℕ) (l : List ℕ) {block t : List ℕ} → blockWords ≤ length l
+      → block ≡ sideWords input m l
       → found ≤ mostCoefficients → BlockMultiplied p d found block blockWords t → HasDenominator p m input tail d t found
   denominator-made input m l {block} {t} room stores small multiplied = record {
     below = made .below;
@@ -86,7 +90,8 @@ module _ {p : ℕ} {tail d : List ℕ} {found : ℕ} (made : MadeMonic p tail d 
         let D = made .holds prime x some A in
         let unit = associate (residues p prime) x some .unit in
         let copied : (j : ℕ) → words p prime input (blockWords * m) blockWords j ≡ words p prime block 0 blockWords j =
-        λ j. words-copied p prime input l (blockWords * m) 0 blockWords (blockWords * m) 0 blockWords room (omega arith) (omega arith) (omega arith) j
+        λ j. words-copied p prime input l (blockWords * m) 0 blockWords (blockWords * m) 0 blockWords room (omega arith)
+        (omega arith) (omega arith) j
         ∙ ap (λ w. words p prime w 0 blockWords j) (sym stores) in record {
           denominator = D;
           vector = multiplied .holds prime n unweighted (polynomials (residues p prime) .mul unit x) b

@@ -114,8 +114,10 @@ module _ {p : ℕ} {n m j : ℕ} {input : List ℕ} {L : Level} (inside : j < m)
 
       zeros : HoldsAt p prime (withZeros output j) (1 + j) (polynomials (residues p prime) .zero)
       zeros = record {
-        at = λ e. coefficients-zero (residues p prime) e ∙ sym (words-zero p prime (withZeros output j) (blockWords * (1 + j)) blockWords 0
-            (λ i ge lt. ap (λ w. w % p) (stored-inside (λ i. 0) output (blockWords * (1 + j)) blockWords i (omega arith) lt) ∙ zero-mod p)
+        at = λ e. coefficients-zero (residues p prime) e ∙ sym
+            (words-zero p prime (withZeros output j) (blockWords * (1 + j)) blockWords 0
+            (λ i ge lt. ap (λ w. w % p) (stored-inside (λ i. 0) output (blockWords * (1 + j)) blockWords i (omega arith) lt)
+            ∙ zero-mod p)
             e (omega arith));
       }
 

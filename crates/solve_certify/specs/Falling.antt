@@ -34,7 +34,8 @@ use Rattle.solve_certify.specs.Rising.{Leaves, K, rising, rising-next, r
 pub record Fallen (s : Stage) (L L′ : Level) (kernel input quotients output quotients′ output′ : List ℕ) : Type 0 where
   pub rest : List ℕ
   pub cleared : List ℕ
-  pub turned : Turned (s .modulus .p) L′ (s .rows) kernel input (blockWords * s .column) quotients output (blockWords * (1 + s .column)) rest
+  pub turned : Turned (s .modulus .p) L′ (s .rows) kernel input (blockWords * s .column) quotients output
+      (blockWords * (1 + s .column)) rest
       cleared output′
   pub emptied : List ℕ
   pub left : ℕ

@@ -93,9 +93,11 @@ module _ {p : ℕ} (prime : Prime p) {n m : ℕ} {X : Equations p prime n m} {U 
       solution-positive (euclidean (residues p prime)) (inputSystem p prime n m X) (Q .last) (Q .inserting) (Q .vanishes)
 
   -- there is a second system
-  pub vanished-tops : {input : List ℕ} {L : Level} {tail : List ℕ} → ValidLevel p L → (Q : HoldsVanished p prime n m X U input L tail)
+  pub vanished-tops : {input : List ℕ} {L : Level} {tail : List ℕ} → ValidLevel p L
+      → (Q : HoldsVanished p prime n m X U input L tail)
       → Tops (sized (residues p prime)) n (degrees n (U .size)) blockDegrees (Q .inserting .now .slots)
-  vanished-tops valid Q = solution-tops (euclidean (residues p prime)) (inputSystem p prime n m X) (Q .last) (Q .inserting) (Q .vanishes)
+  vanished-tops valid Q = solution-tops (euclidean (residues p prime)) (inputSystem p prime n m X) (Q .last) (Q .inserting)
+      (Q .vanishes)
       blockDegrees (slots-high prime few-rows valid (Q .slots))
 
   -- d, made monic from what is left of the tail, has room among the slots' degrees
@@ -125,7 +127,8 @@ module _ {p : ℕ} (prime₀ : Prime p) (input : List ℕ) (m : ℕ) (below : (i
   pub side-column : {size : ℕ} → size ≡ length (polynomial p block 0 blockWords) → ValidColumn p block size
   side-column {size} found = record {
     room = ap length copied ∙ length-stored (λ j. getD input (blockWords * m + j) 0) zeros 0 blockWords ∙ room;
-    ends = found-ends p (omega (arith, prime₀ .large)) block blockWords blockWords (omega arith) (λ j h lt. absurd (omega arith)) size found;
+    ends = found-ends p (omega (arith, prime₀ .large)) block blockWords blockWords (omega arith) (λ j h lt. absurd (omega arith))
+        size found;
     sums = λ i. omega (arith, block-below i);
   }
 
@@ -133,7 +136,8 @@ module _ {p m : ℕ} {input : List ℕ} {L : Level} {M M′ : Memory} (started :
     (room : length zeros ≡ blockWords) (copied : M .block ≡ sideWords input m zeros) (done : Inserts p M M′) where
   module _ (prime : Prime p) (n : ℕ) (X : Equations p prime n m) (H : HoldsLast p prime n m X input L) where
     same : (x : ℕ) → words p prime input (blockWords * m) blockWords x ≡ words p prime (M .block) 0 blockWords x
-    same x = words-copied p prime input zeros (blockWords * m) 0 blockWords (blockWords * m) 0 blockWords (omega arith) (omega arith) (omega arith)
+    same x = words-copied p prime input zeros (blockWords * m) 0 blockWords (blockWords * m) 0 blockWords (omega arith)
+        (omega arith) (omega arith)
         (omega arith) x
         ∙ ap (λ w. words p prime w 0 blockWords x) (sym copied)
 

@@ -97,7 +97,8 @@ module _ {p : ℕ} (prime₀ : Prime p) {L : Level} (valid : ValidLevel p L) {i 
         B : HoldsReduced p prime n U i x block tail
         B = R .holds prime n U i x h (omega arith) H
             (held-same
-            (copied-words valid (slotWords * i) (omega arith) zeros (omega arith) none block₀ copied prime productWords (omega arith))
+            (copied-words valid (slotWords * i) (omega arith) zeros (omega arith) none block₀ copied prime productWords
+            (omega arith))
             (copied-words valid (slotWords * i + blockWords) (omega arith) tail-zeros (omega arith) tail-none tail₀ tail-copied
             prime tailWords (omega arith)) (H .vector i h f))
 

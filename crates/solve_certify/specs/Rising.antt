@@ -30,35 +30,36 @@ pub record Leaves (s : Stage) (L : Level) (input rest : List ℕ) (left : ℕ) :
   pub some : 0 < left
 
 module _ {p : ℕ} {n m j : ℕ} {input : List ℕ} {L L′ : Level} {rest factors kernel : List ℕ} {left found : ℕ} (inside : j < m)
-    (C : DividedByLevel p L input (blockWords * j) rest factors left) (some : 0 < left) (next : NextLevel p L rest L′ kernel found) where
-  module _ (prime : Prime p) {X : Equations p prime n m} (H : HoldsLevels p prime n m X j input L) where
-    abbrev Q : HoldsLeft p prime n (H .slots) (λ i. X .matrix i j) rest factors
-    Q = C .divides prime n (H .slots) (λ i. X .matrix i j) (H .holds) (H .system .column j inside)
+    (C : DividedByLevel p L input (blockWords * j) rest factors left) (some : 0 < left) (next : NextLevel p L rest L′ kernel found)
+  where
+    module _ (prime : Prime p) {X : Equations p prime n m} (H : HoldsLevels p prime n m X j input L) where
+      abbrev Q : HoldsLeft p prime n (H .slots) (λ i. X .matrix i j) rest factors
+      Q = C .divides prime n (H .slots) (λ i. X .matrix i j) (H .holds) (H .system .column j inside)
 
-    small : (i : ℕ) → i < n → size (residues p prime) (Q .vector i) ≤ suc 15
-    small i h = omega (arith, ends-pivot p prime (C .ends) (Q .holds) some .all i h, C .ends .within)
+      small : (i : ℕ) → i < n → size (residues p prime) (Q .vector i) ≤ suc 15
+      small i h = omega (arith, ends-pivot p prime (C .ends) (Q .holds) some .all i h, C .ends .within)
 
-    pub K : Linked p prime n 15 (Q .vector) (H .slots) L′ kernel
-    K = next .linked prime n 15 (H .slots) (Q .vector) small (H .holds) (Q .holds)
+      pub K : Linked p prime n 15 (Q .vector) (H .slots) L′ kernel
+      K = next .linked prime n 15 (H .slots) (Q .vector) small (H .holds) (Q .holds)
 
-    pub rising : Extension p prime H L′
-    rising = record {
-      next = K .slots;
-      kernel = K .polynomial;
-      link = link-shift (sized (residues p prime)) n 15 (coefficients-blocks prime (H .blocks) (Q .coefficients) .span)
-          (link-same (sized (residues p prime)) n 15 (H .blocks) (same-refl (K .slots)) (K .link));
-      slots = K .slots;
-      holds = K .holds;
-      blocks = same-blocks (same-refl (K .slots));
-    }
+      pub rising : Extension p prime H L′
+      rising = record {
+        next = K .slots;
+        kernel = K .polynomial;
+        link = link-shift (sized (residues p prime)) n 15 (coefficients-blocks prime (H .blocks) (Q .coefficients) .span)
+            (link-same (sized (residues p prime)) n 15 (H .blocks) (same-refl (K .slots)) (K .link));
+        slots = K .slots;
+        holds = K .holds;
+        blocks = same-blocks (same-refl (K .slots));
+      }
 
-    pub rising-next : rising .next ≡ K .slots
-    unfolding rising
-    rising-next = refl
+      pub rising-next : rising .next ≡ K .slots
+      unfolding rising
+      rising-next = refl
 
-    pub rising-kernel : rising .kernel ≡ K .polynomial
-    unfolding rising
-    rising-kernel = refl
+      pub rising-kernel : rising .kernel ≡ K .polynomial
+      unfolding rising
+      rising-kernel = refl
 
 -- at a stage
 module _ {s : Stage} {input : List ℕ} {L L′ : Level} {rest kernel : List ℕ} {left found : ℕ} (C : Leaves s L input rest left)

@@ -157,7 +157,8 @@ module _ {p n : ℕ} {L : Level} {d : List ℕ} {L′ : Level} (done : SlotsRewo
       solved : (prime : Prime p) (B : ℕ) (U : Slots (Polynomial (residues p prime))) → B < mostCoefficients
           → HoldsSlots p prime n unweighted L U → Tops (sized (residues p prime)) n B blockDegrees U
           → (x : Polynomial (residues p prime)) → Monic (residues p prime) x
-          → size (residues p prime) x + degrees n (U .size) ≤ suc B → Holds (residues p prime) (words p prime d 0 blockWords) x → HoldsShort p prime n B U x w rows
+          → size (residues p prime) x + degrees n (U .size) ≤ suc B → Holds (residues p prime) (words p prime d 0 blockWords) x
+          → HoldsShort p prime n B U x w rows
       solved prime B U small H tops x monic room D = record {
         slots = Q .slots;
         reworked = Q .reworked;

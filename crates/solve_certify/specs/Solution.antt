@@ -31,7 +31,8 @@ use Rattle.solve_second.specs.Solved.{HoldsSecond}
 use Rattle.solve_lattice.specs.Room.{outputWords, blockWords, lanes}
 use Rattle.solve_certify.specs.Witnessed.{HoldsUnfinished}
 use Rattle.solve_certify.specs.Words.{stored-below, held-zero-from, held-fewer, words-copied}
-use Rattle.solve_certify.specs.Inserted.{HoldsVanished, HasVanished, last-degrees, vanished-some, vanished-tops, vanished-room}
+use Rattle.solve_certify.specs.Inserted.{HoldsVanished, HasVanished, last-degrees, vanished-some, vanished-tops}
+use Rattle.solve_certify.specs.Inserted.{vanished-room}
 use Rattle.solve_certify.specs.Short.{HasMonicTops, HoldsShort, ShortSolved}
 use Rattle.solve_certify.specs.Denominator.{HasTail, HasDenominator, HoldsDenominator}
 
@@ -74,7 +75,8 @@ vanished-monic {n = n} few-rows valid has denominator =
 -- d, w and the rows of Z at their places in written order
 abbrev pub storedSolution : (n m : ℕ) (d w rows output : List ℕ) → List ℕ
 storedSolution n m d w rows output = stored (λ j. getD rows (0 + j) 0)
-    (stored (λ j. getD w (0 + j) 0) (stored (λ j. getD d (0 + j) 0) output 0 blockWords) (blockWords * (1 + m)) blockWords) (blockWords * (2 + m)) (blockWords * n)
+    (stored (λ j. getD w (0 + j) 0) (stored (λ j. getD d (0 + j) 0) output 0 blockWords) (blockWords * (1 + m)) blockWords)
+    (blockWords * (2 + m)) (blockWords * n)
 
 module _ (p : ℕ) (prime₀ : Prime p) (n m : ℕ) (few-rows : n ≤ lanes) (columns : m ≤ lanes) (d w rows output : List ℕ)
     (valid : ValidOutput p output) where
@@ -87,14 +89,16 @@ module _ (p : ℕ) (prime₀ : Prime p) (n m : ℕ) (few-rows : n ≤ lanes) (co
   first-length : length (stored (λ j. getD d (0 + j) 0) output 0 blockWords) ≡ outputWords
   first-length = length-stored (λ j. getD d (0 + j) 0) output 0 blockWords ∙ valid .room
 
-  second-length : length (stored (λ j. getD w (0 + j) 0) (stored (λ j. getD d (0 + j) 0) output 0 blockWords) (blockWords * (1 + m)) blockWords) ≡ outputWords
+  second-length : length (stored (λ j. getD w (0 + j) 0) (stored (λ j. getD d (0 + j) 0) output 0 blockWords)
+      (blockWords * (1 + m)) blockWords) ≡ outputWords
   second-length = length-stored (λ j. getD w (0 + j) 0) first (blockWords * (1 + m)) blockWords ∙ first-length
 
   pub stored-valid : ((i : ℕ) → getD d i 0 < p) → ((i : ℕ) → getD w i 0 < p) → ((i : ℕ) → getD rows i 0 < p)
       → ValidOutput p (storedSolution n m d w rows output)
   stored-valid d-below w-below rows-below = record {
     room = length-stored (λ j. getD rows (0 + j) 0) second (blockWords * (2 + m)) (blockWords * n) ∙ second-length;
-    below = stored-below p (λ j. getD rows (0 + j) 0) second (blockWords * (2 + m)) (blockWords * n) some (λ j lt. rows-below (0 + j))
+    below = stored-below p (λ j. getD rows (0 + j) 0) second (blockWords * (2 + m)) (blockWords * n) some
+        (λ j lt. rows-below (0 + j))
         (stored-below p (λ j. getD w (0 + j) 0) first (blockWords * (1 + m)) blockWords some (λ j lt. w-below (0 + j))
         (stored-below p (λ j. getD d (0 + j) 0) output 0 blockWords some (λ j lt. d-below (0 + j)) (valid .below)));
   }
@@ -105,20 +109,28 @@ module _ (p : ℕ) (prime₀ : Prime p) (n m : ℕ) (few-rows : n ≤ lanes) (co
   module _ (prime : Prime p) where
     pub stored-d : (x : ℕ) → words p prime d 0 blockWords x ≡ words p prime (storedSolution n m d w rows output) 0 blockWords x
     stored-d x =
-        words-copied p prime d output 0 0 blockWords 0 0 blockWords (omega (arith, valid .room)) (omega arith) (omega arith) (omega arith) x
-        ∙ sym (words-apart p prime (λ j. getD w (0 + j) 0) first (blockWords * (1 + m)) blockWords 0 blockWords (inl (omega arith)) x)
-        ∙ sym (words-apart p prime (λ j. getD rows (0 + j) 0) second (blockWords * (2 + m)) (blockWords * n) 0 blockWords (inl (omega arith)) x)
+        words-copied p prime d output 0 0 blockWords 0 0 blockWords (omega (arith, valid .room)) (omega arith) (omega arith)
+        (omega arith) x
+        ∙ sym (words-apart p prime (λ j. getD w (0 + j) 0) first (blockWords * (1 + m)) blockWords 0 blockWords (inl (omega arith))
+        x)
+        ∙ sym (words-apart p prime (λ j. getD rows (0 + j) 0) second (blockWords * (2 + m)) (blockWords * n) 0 blockWords
+        (inl (omega arith)) x)
 
-    pub stored-w : (x : ℕ) → words p prime w 0 blockWords x ≡ words p prime (storedSolution n m d w rows output) (blockWords * (1 + m)) blockWords x
+    pub stored-w : (x : ℕ) → words p prime w 0 blockWords x ≡ words p prime (storedSolution n m d w rows output)
+        (blockWords * (1 + m)) blockWords x
     stored-w x =
-        words-copied p prime w first 0 (blockWords * (1 + m)) blockWords 0 (blockWords * (1 + m)) blockWords (omega (arith, first-length))
+        words-copied p prime w first 0 (blockWords * (1 + m)) blockWords 0 (blockWords * (1 + m)) blockWords
+        (omega (arith, first-length))
         (omega arith) (omega arith) (omega arith) x
-        ∙ sym (words-apart p prime (λ j. getD rows (0 + j) 0) second (blockWords * (2 + m)) (blockWords * n) (blockWords * (1 + m)) blockWords
+        ∙ sym (words-apart p prime (λ j. getD rows (0 + j) 0) second (blockWords * (2 + m)) (blockWords * n) (blockWords * (1 + m))
+        blockWords
         (inl (omega arith)) x)
 
     pub stored-Z : (i : ℕ) → i < n → (x : ℕ)
-        → words p prime rows (blockWords * i) blockWords x ≡ words p prime (storedSolution n m d w rows output) (blockWords * (2 + m + i)) blockWords x
-    stored-Z i h = words-copied p prime rows second 0 (blockWords * (2 + m)) (blockWords * n) (blockWords * i) (blockWords * (2 + m + i)) blockWords
+        → words p prime rows (blockWords * i) blockWords x ≡ words p prime (storedSolution n m d w rows output)
+        (blockWords * (2 + m + i)) blockWords x
+    stored-Z i h = words-copied p prime rows second 0 (blockWords * (2 + m)) (blockWords * n) (blockWords * i)
+        (blockWords * (2 + m + i)) blockWords
         (omega (arith, second-length)) (omega arith) (omega arith) (omega arith)
 
 -- the parts of the certificate
@@ -137,7 +149,8 @@ module _ {p n m : ℕ} {input : List ℕ} {L L′ : Level} {tail d t : List ℕ}
     D = has .holds prime n e (vanished-some prime few-rows Q) (X .side) (Q .held) (Q .side)
 
     H : HoldsShort p prime n (degrees n (U .size)) (Q .inserting .now .slots) x w rows
-    H = solved .solved prime (degrees n (U .size)) (Q .inserting .now .slots) (omega (arith, last-degrees prime few-rows (Q .last) .1))
+    H = solved .solved prime (degrees n (U .size)) (Q .inserting .now .slots)
+        (omega (arith, last-degrees prime few-rows (Q .last) .1))
         (Q .slots) (vanished-tops prime few-rows level Q) x (associate (residues p prime) e (vanished-some prime few-rows Q) .monic)
         (vanished-room prime few-rows Q) (D .denominator)
 
@@ -147,7 +160,8 @@ module _ {p n m : ℕ} {input : List ℕ} {L L′ : Level} {tail d t : List ℕ}
     made : Unfinished (euclidean (residues p prime)) (inputSystem p prime n m X) U x
         (polynomials (residues p prime) .mul x (S .polynomial)) (S .Y)
     made = unfinished (euclidean (residues p prime)) (inputSystem p prime n m X) (Q .last) (Q .inserting) (Q .vanishes)
-        (associate (residues p prime) e (vanished-some prime few-rows Q)) (H .reworked) (S .polynomial) (S .Y) (S .monic) (S .dual) (H .short)
+        (associate (residues p prime) e (vanished-some prime few-rows Q)) (H .reworked) (S .polynomial) (S .Y) (S .monic) (S .dual)
+        (H .short)
 
     -- L8: d and w′ have together at most 122 coefficients, since their product has at most 121
     together : size (residues p prime) x + size (residues p prime) (S .polynomial) ≤ 122

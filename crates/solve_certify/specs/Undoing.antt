@@ -1,4 +1,5 @@
--- One column down: from what is known above a column, a turn of the way down and what it leaves in memory, to what is known below it.
+-- One column down: from what is known above a column, a turn of the way down and what it leaves in memory, to what is known below
+-- it.
 use Prim.Native.Nat.{ℕ, suc, _+_, _*_, _%_, _<_, _≤_}
 use mathlib.Core.Path.{_≡_, sym, _∙_, ap, subst}
 use mathlib.Core.Logic.{_⊎_, inl, inr, ⊎-elim}
@@ -28,15 +29,18 @@ module _ {p : ℕ} {prime : Prime p} {n m j : ℕ} {X : Equations p prime n m} {
   abbrev whole : ℕ → Polynomial (residues p prime)
   whole k = polynomials (residues p prime) .mul (D .d) (X .side k)
 
-  pub above : Descent (inputSystem p prime n m X) (D .level) (D .kernel) (λ k. polynomials (residues p prime) .mul (D .d) (X .side k))
+  pub above : Descent (inputSystem p prime n m X) (D .level) (D .kernel)
+      (λ k. polynomials (residues p prime) .mul (D .d) (X .side k))
       (suc j) (D .vector) (D .N)
-  above = subst (λ k. Descent (inputSystem p prime n m X) (D .level) (D .kernel) whole k (D .vector) (D .N)) (add-one j) (D .descent)
+  above = subst (λ k. Descent (inputSystem p prime n m X) (D .level) (D .kernel) whole k (D .vector) (D .N)) (add-one j)
+      (D .descent)
 
   pub lower-level : (k : ℕ) → k ≤ j → D .level k ≡ H .level k
   lower-level k h = D .same-level k (omega arith) ∙ extended-level E k h
 
   -- the words of the numerator's place alone change
-  kept : (output′ : List ℕ) → ((i : ℕ) → (i < blockWords * (1 + j)) ⊎ (blockWords * (1 + j) + blockWords ≤ i) → getD output′ i 0 ≡ getD output i 0)
+  kept : (output′ : List ℕ) → ((i : ℕ) → (i < blockWords * (1 + j)) ⊎ (blockWords * (1 + j) + blockWords ≤ i)
+      → getD output′ i 0 ≡ getD output i 0)
       → (k : ℕ) (x : Polynomial (residues p prime)) → ¬ (k ≡ 1 + j) → HoldsAt p prime output k x → HoldsAt p prime output′ k x
   kept output′ others k x other holds = record {
     at = λ e. holds .at e ∙ sym (words-same p prime output′ output (blockWords * k) (blockWords * k) blockWords e

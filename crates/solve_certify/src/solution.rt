@@ -79,7 +79,8 @@ pub fn find_solution(
 )
     requires { ⌜ ValidStage stage × ValidInput (stage .modulus .p) (now input) ⌝ }
     requires level { ⌜ ValidLevel (stage .modulus .p) (now level) × ValidLevel (stage .modulus .p) (now next) ⌝ }
-    requires tail { ⌜ ZeroFrom (stage .modulus .p) (now tail) 0 tailWords mostCoefficients × Sums (stage .modulus .p) 0 (now tail) ⌝ }
+    requires tail { ⌜ ZeroFrom (stage .modulus .p) (now tail) 0 tailWords mostCoefficients
+        × Sums (stage .modulus .p) 0 (now tail) ⌝ }
     requires vanished { ⌜ HasVanished (stage .modulus .p) (stage .rows) (stage .columns) (now input) (now next) (now tail) ⌝ }
     requires areas { ⌜ AtMost 0 (now quotients) × ValidOutput (stage .modulus .p) (now output) ⌝ }
     ensures { λ _. ⌜ SolutionFound (stage .modulus .p) (stage .rows) (stage .columns) (now (input .entry)) (now (level .entry))

@@ -144,7 +144,8 @@ shift-less p prime k v x u =
 
 -- the product taken off every lane of a block
 module _ {p : ℕ} {t h : List ℕ} {a : ℕ} {columns : List ℕ} {at : ℕ} {t′ : List ℕ}
-    {terms : ℕ} (T : TakesProduct p lanes t h a 1 terms columns at blockWords t′) (few : terms ≤ mostCoefficients) (room : productWords ≤ length t)
+    {terms : ℕ} (T : TakesProduct p lanes t h a 1 terms columns at blockWords t′) (few : terms ≤ mostCoefficients)
+    (room : productWords ≤ length t)
     (prime : Prime p) (n : ℕ) (ω : ℕ → ℕ)
     (v u : ℕ → Polynomial (residues p prime)) (x : Polynomial (residues p prime))
     (is : read (residues p prime) terms (strided p prime h a 1) ≡ x)
@@ -181,7 +182,8 @@ module _ {p : ℕ} {t h : List ℕ} {a : ℕ} {columns : List ℕ} {at : ℕ} {t
 -- all steps of `take_column` together
 pub column-taken : {p : ℕ} → Prime p → (t h : List ℕ) (a : ℕ) (y columns : List ℕ) (at : ℕ) (t′ h′ : List ℕ) (size terms : ℕ)
     → length t ≡ productWords → a + blockWords ≤ length h → h′ ≡ stored (λ j. modulo p .neg (getD y j 0 % p)) h a blockWords
-    → size ≡ length (polynomial p y 0 blockWords) → terms ≡ min size mostCoefficients → TakesProduct p lanes t h′ a 1 terms columns at blockWords t′
+    → size ≡ length (polynomial p y 0 blockWords) → terms ≡ min size mostCoefficients
+    → TakesProduct p lanes t h′ a 1 terms columns at blockWords t′
     → TakesColumn p t h a y columns at t′ h′
 column-taken {p} prime₀ t h a y columns at t′ h′ size terms length-is room stores found few T = record {
   length-is = T .same-length ∙ length-is;

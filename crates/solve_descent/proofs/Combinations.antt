@@ -46,7 +46,8 @@ module _ {p w N : ℕ} {quotients : List ℕ} {terms : ℕ → ℕ} {slots : Lis
         let products : productDegrees * (p * p) ≤ productDegrees * (65521 * 65521) = omega arith in
         omega (arith, so-far .bound 0 none i, mul-le-mul few products)
 
-    module _ {k m : ℕ} {y′ : List ℕ} (is : k ≡ terms q) (few : k ≤ productDegrees) (inside : k * w + m ≤ N + w) (room : N ≤ length y₀)
+    module _ {k m : ℕ} {y′ : List ℕ} (is : k ≡ terms q) (few : k ≤ productDegrees) (inside : k * w + m ≤ N + w)
+        (room : N ≤ length y₀)
         (short : m ≤ blockWords) (behind : ZeroFrom p slots (at q) blockWords m)
         (T : TakesProduct p w y quotients (lastLane - q) lanes k slots (at q) m y′) where
       bound-after : (b : ℕ) → AtMost b y₀ → AtMost (b + (q + 1) * (productDegrees * (p * p))) y′

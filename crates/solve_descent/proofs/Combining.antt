@@ -36,7 +36,8 @@ use Rattle.solve_descent.proofs.Negating.{factor-negated, cleared-all}
 use Rattle.solve_descent.proofs.Combinations.{more-filled}
 
 module _ {p : ℕ} (L : Level) (valid : ValidLevel p L) {n : ℕ} (rows : n ≤ lanes) {quotients : List ℕ} {degrees : ℕ}
-    (D : FewDegrees p quotients degrees) (quotients-length : length quotients ≡ productWords) (below : (i : ℕ) → getD quotients i 0 < p)
+    (D : FewDegrees p quotients degrees) (quotients-length : length quotients ≡ productWords) (below : (i : ℕ)
+    → getD quotients i 0 < p)
     {negated cleared t t′ : List ℕ} (none : AtMost 0 t)
     (negates : negated ≡ stored (λ j. modulo p .neg (getD quotients j 0)) quotients 0 (lanes * degrees))
     (C : TakesCombination p lanes productWords negated (λ q. blockTerms degrees (slotSize L q)) L (λ q. slotWords * q) n t t′)
@@ -64,7 +65,8 @@ module _ {p : ℕ} (L : Level) (valid : ValidLevel p L) {n : ℕ} (rows : n ≤ 
         go (no e) (no f) = omega (
           arith,
           S .size q h,
-          coefficient-size (holds-filled p prime valid S) (omega arith) (Q .span) productDegrees (λ k l. omega (arith, small k l)) q h
+          coefficient-size (holds-filled p prime valid S) (omega arith) (Q .span) productDegrees (λ k l. omega (arith, small k l))
+              q h
               (omega arith),
         )
 
@@ -76,10 +78,12 @@ module _ {p : ℕ} (L : Level) (valid : ValidLevel p L) {n : ℕ} (rows : n ≤ 
     lane i q = read (residues p prime) blockDegrees (λ e. words p prime L (slotWords * q) blockWords (flat lanes i e))
 
     lane-held : (i q : ℕ) → Holds (residues p prime) (λ e. words p prime L (slotWords * q) blockWords (flat lanes i e)) (lane i q)
-    lane-held i q = read-holds (residues p prime) blockDegrees _ (λ e ge. words-behind p prime L (slotWords * q) blockWords (flat lanes i e) (omega arith))
+    lane-held i q = read-holds (residues p prime) blockDegrees _
+        (λ e ge. words-behind p prime L (slotWords * q) blockWords (flat lanes i e) (omega arith))
 
     -- lane i of t, where z is what the filled slots have there
-    lane-combined : (i : ℕ) → i < lanes → (z : ℕ → Polynomial (residues p prime)) → ((q : ℕ) → q < n → 0 < U .size q → lane i q ≡ z q)
+    lane-combined : (i : ℕ) → i < lanes → (z : ℕ → Polynomial (residues p prime))
+        → ((q : ℕ) → q < n → 0 < U .size q → lane i q ≡ z q)
         → Holds (residues p prime) (λ e. words p prime t′ 0 productWords (flat lanes i e)) (sum R n (λ q. R .mul (c q) (z q)))
     lane-combined i lt z same = subst (Holds (residues p prime) (λ e. words p prime t′ 0 productWords (flat lanes i e)))
         (more-filled prime rows Q (λ q. blockTerms degrees (slotSize L q)) few enough (lane i) z same negated

@@ -30,7 +30,8 @@ use Rattle.solve_descent.specs.Held.{one-lane, zeros-held}
 use Rattle.solve_descent.proofs.Lanes.{quotient-size}
 use Rattle.solve_descent.proofs.Combinations.{less-filled}
 
-module _ {p : ℕ} (L : Level) {n : ℕ} {kernel : List ℕ} {size : ℕ} {quotients y y₁ y′ : List ℕ} (rows : n ≤ lanes) (none : AtMost 0 y)
+module _ {p : ℕ} (L : Level) {n : ℕ} {kernel : List ℕ} {size : ℕ} {quotients y y₁ y′ : List ℕ} (rows : n ≤ lanes)
+    (none : AtMost 0 y)
     {degrees : ℕ} (few : FewDegrees p quotients degrees)
     (C : TakesCombination p 1 tailWords quotients (λ _. degrees) L (λ q. slotWords * q + blockWords) n y y₁)
     (K : TakesKernel p y₁ kernel size y′) where

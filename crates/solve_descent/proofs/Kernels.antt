@@ -167,11 +167,13 @@ module _ {p : ℕ} {y₀ kernel : List ℕ} where
 
           upper : (x : ℕ) → words p prime y′ 0 tailWords (d + x) ≡ F .ring .add (words p prime y 0 tailWords (d + x))
               (F .ring .neg (F .ring .mul (residue p prime a) (words p prime kernel 0 blockWords x)))
-          upper = words-upper p prime y y′ kernel d 0 size blockWords tailWords a stores factor-below inside room′ (valid .ends .behind)
+          upper = words-upper p prime y y′ kernel d 0 size blockWords tailWords a stores factor-below inside room′
+              (valid .ends .behind)
               (valid .ends .within)
 
           lower : (x : ℕ) → x < d → words p prime y′ 0 tailWords x ≡ words p prime y 0 tailWords x
-          lower = words-lower p prime y y′ kernel d 0 size blockWords tailWords a stores factor-below inside room′ (valid .ends .behind)
+          lower = words-lower p prime y y′ kernel d 0 size blockWords tailWords a stores factor-below inside room′
+              (valid .ends .behind)
               (valid .ends .within)
 
           leading-gone : words p prime y′ 0 tailWords (k - 1) ≡ F .ring .zero

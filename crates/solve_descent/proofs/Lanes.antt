@@ -29,7 +29,8 @@ module _ (p : ℕ) (prime : Prime p) where
     pub quotient-read : (k : ℕ) → k ≤ productDegrees → size (residues p prime) x ≤ k → firstQuotient p prime l k q ≡ x
     quotient-read k most short = equal-coefficients (residues p prime) _ _ (λ e. go e (decLt e k))
       where
-        go : (e : ℕ) → Dec (e < k) → coefficients (residues p prime) (firstQuotient p prime l k q) e ≡ coefficients (residues p prime) x e
+        go : (e : ℕ) → Dec (e < k) → coefficients (residues p prime) (firstQuotient p prime l k q) e ≡ coefficients
+            (residues p prime) x e
         go e (yes h) =
             let place : flat lanes q e ≡ lastLane - q + e * lanes = omega arith in
             read-at (residues p prime) k (strided p prime l (lastLane - q) lanes) e h

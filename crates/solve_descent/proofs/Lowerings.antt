@@ -43,7 +43,8 @@ module _ {p : ℕ} (quotients y₀ : List ℕ) {y : List ℕ} (q : ℕ) (below :
           ∙ ap (λ i. residue p prime (getD quotients i 0)) place
           ∙ sym (words-inside p prime y 0 blockWords j lt
           ∙ ap (residue p prime) (ap (λ l. getD l (0 + j) 0) taken ∙ stored-inside _ y₀ 0 blockWords j (omega arith) lt))
-      go j (no ge) = coefficients-beyond (residues p prime) x j (omega arith) ∙ sym (words-behind p prime y 0 blockWords j (omega arith))
+      go j (no ge) = coefficients-beyond (residues p prime) x j (omega arith)
+          ∙ sym (words-behind p prime y 0 blockWords j (omega arith))
 
 -- the factors, with 1 for slot q
 module _ {p : ℕ} (prime : Prime p) (factors : List ℕ) (q : ℕ) (room : length factors ≡ blockWords) (lane : q < lanes) where
@@ -56,7 +57,8 @@ module _ {p : ℕ} (prime : Prime p) (factors : List ℕ) (q : ℕ) (room : leng
       go (no e) = omega (arith, getD-set-other factors (lastLane - q) i v 0 e, below i)
 
   other-word : (i e : ℕ) → (flat lanes i e ≡ lastLane - q → ⊥)
-      → words p prime factors 0 productWords (flat lanes i e) ≡ words p prime (set factors (lastLane - q) 1) 0 productWords (flat lanes i e)
+      → words p prime factors 0 productWords (flat lanes i e) ≡ words p prime (set factors (lastLane - q) 1) 0 productWords
+      (flat lanes i e)
   other-word i e ne = words-same p prime factors (set factors (lastLane - q) 1) 0 0 productWords (flat lanes i e)
       (λ lt. ap (λ w. w % p) (sym (getD-set-other factors (lastLane - q) (0 + flat lanes i e) 1 0 (λ s. ne (omega arith)))))
 
@@ -86,7 +88,8 @@ module _ {p : ℕ} (prime : Prime p) (factors : List ℕ) (q : ℕ) (room : leng
 -- all steps together
 pub quotients-lowered : {p : ℕ} → Prime p → (quotients factors output y₀ : List ℕ) {y quotients′ output′ : List ℕ} (place q : ℕ)
     → q < lanes → ((i : ℕ) → getD quotients i 0 < p) → length factors ≡ blockWords → place + blockWords ≤ length output
-    → ((i : ℕ) → getD output i 0 < p) → length y₀ ≡ blockWords → y ≡ stored (λ e. getD quotients (lanes * e + (lastLane - q)) 0) y₀ 0 blockWords
+    → ((i : ℕ) → getD output i 0 < p) → length y₀ ≡ blockWords
+    → y ≡ stored (λ e. getD quotients (lanes * e + (lastLane - q)) 0) y₀ 0 blockWords
     → output′ ≡ stored (λ j. getD y (0 + j) 0) output place blockWords
     → SubtractsMultiple p quotients y (set factors (lastLane - q) 1) quotients′
     → Lowers p q quotients factors output place quotients′ output′

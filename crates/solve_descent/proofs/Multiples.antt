@@ -40,7 +40,8 @@ module _ (p : ℕ) (prime : Prime p) where
 
   -- the terms that are multiplied are all of x
   module _ (y : List ℕ) (x : Polynomial (residues p prime)) (A : Holds (residues p prime) (words p prime y 0 blockWords) x)
-      (small : size (residues p prime) x ≤ mostCoefficients) (found terms : ℕ) (found-is : found ≡ length (polynomial p y 0 blockWords))
+      (small : size (residues p prime) x ≤ mostCoefficients) (found terms : ℕ)
+      (found-is : found ≡ length (polynomial p y 0 blockWords))
       (few : terms ≡ min found mostCoefficients) where
     terms-read : read (residues p prime) terms (strided p prime y 0 1) ≡ x
     terms-read = equal-coefficients (residues p prime) _ _ (λ j. go j (decLt j terms) (decLt j mostCoefficients))
@@ -86,12 +87,15 @@ module _ {p : ℕ} (prime₀ : Prime p) {quotients y factors q₁ q′ : List �
     (enough : length (polynomial p factors 0 blockWords) ≤ m) (fits : m ≤ blockWords)
     (T : TakesProduct p lanes quotients y 0 1 terms factors 0 m q₁)
     (reduces : q′ ≡ stored (λ j. getD q₁ j 0 % p) q₁ 0 (lanes * terms + m - lanes))
-    (room : length quotients ≡ productWords) (factors-room : length factors ≡ blockWords) (below : (i : ℕ) → getD quotients i 0 < p) where
+    (room : length quotients ≡ productWords) (factors-room : length factors ≡ blockWords) (below : (i : ℕ)
+    → getD quotients i 0 < p) where
   factors-behind : ZeroFrom p factors 0 productWords m
   factors-behind j ge lt = found-ends p (positive p prime₀) factors productWords blockWords (omega arith)
-      (subst (ZeroFrom p factors 0 productWords) factors-room (zero-behind p factors productWords)) _ refl .behind j (omega arith) lt
+      (subst (ZeroFrom p factors 0 productWords) factors-room (zero-behind p factors productWords)) _ refl .behind j
+      (omega arith) lt
 
-  reduced-all : (P : ℕ → ℕ → Type 0) → ((j : ℕ) → P j (getD q₁ j 0 % p)) → ((i : ℕ) → terms * lanes + m ≤ i + lanes → P i (getD q₁ i 0))
+  reduced-all : (P : ℕ → ℕ → Type 0) → ((j : ℕ) → P j (getD q₁ j 0 % p))
+      → ((i : ℕ) → terms * lanes + m ≤ i + lanes → P i (getD q₁ i 0))
       → (i : ℕ) → P i (getD q′ i 0)
   reduced-all P inside outside = stored-all-first P (λ j. getD q₁ j 0 % p) q₁ q′ _ reduces (omega (arith, T .same-length))
       (λ j lt. inside j) (λ i far. outside i (omega arith))

@@ -33,7 +33,8 @@ module _ {p : ℕ} (positive : 0 < p) (l : List ℕ) (size : ℕ) (found : size 
   pub degrees-found : FewDegrees p l ((size + lastLane) / lanes)
   degrees-found = record { most = omega (arith, E .within); behind = λ j ge lt. E .behind j (omega arith) lt }
 
-module _ {p : ℕ} {l : List ℕ} {k : ℕ} (D : FewDegrees p l k) (length-is : length l ≡ productWords) (below : (i : ℕ) → getD l i 0 < p) where
+module _ {p : ℕ} {l : List ℕ} {k : ℕ} (D : FewDegrees p l k) (length-is : length l ≡ productWords) (below : (i : ℕ)
+    → getD l i 0 < p) where
   -- words that do not count are 0
   word-none : (i : ℕ) → lanes * k ≤ i → getD l i 0 ≡ 0
   word-none i ge =
@@ -64,7 +65,8 @@ module _ {p : ℕ} {l : List ℕ} {k : ℕ} (D : FewDegrees p l k) (length-is : 
 
     pub factor-negated : (prime : Prime p) (q n : ℕ) → q < lanes → n ≤ k
         → firstQuotient p prime m n q ≡ polynomials (residues p prime) .neg (firstQuotient p prime l n q)
-    factor-negated prime q n row few = read-neg (residues p prime) n (strided p prime l (lastLane - q) lanes) (strided p prime m (lastLane - q) lanes)
+    factor-negated prime q n row few = read-neg (residues p prime) n (strided p prime l (lastLane - q) lanes)
+        (strided p prime m (lastLane - q) lanes)
         (λ j lt.
         ap (residue p prime) (word-negated (lastLane - q + j * lanes) (omega arith)
         ∙ ap (modulo p .neg) (sym (mod-eq-of-lt (below (lastLane - q + j * lanes)))))

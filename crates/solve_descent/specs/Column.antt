@@ -30,7 +30,8 @@ pub record TakesColumn (p : ℕ) (t h : List ℕ) (a : ℕ) (y columns : List �
   pub room : a + blockWords ≤ length h
   pub bound : (b : ℕ) → AtMost b t → AtMost (b + mostCoefficients * (p * p)) t′
   pub stores : h′ ≡ stored (λ j. modulo p .neg (getD y j 0 % p)) h a blockWords
-  pub holds : ZeroFrom p y 0 tailWords mostCoefficients → (prime : Prime p) (n : ℕ) (ω : ℕ → ℕ) (v u : ℕ → Polynomial (residues p prime))
+  pub holds : ZeroFrom p y 0 tailWords mostCoefficients → (prime : Prime p) (n : ℕ) (ω : ℕ → ℕ) (v u : ℕ
+      → Polynomial (residues p prime))
       (x : Polynomial (residues p prime)) → Flat (residues p prime) n lanes ω (words p prime t 0 productWords) v
       → Flat (residues p prime) n lanes ω (words p prime columns at blockWords) u
       → Holds (residues p prime) (words p prime y 0 tailWords) (polynomials (residues p prime) .neg x)

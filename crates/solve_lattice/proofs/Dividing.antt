@@ -162,7 +162,8 @@ module _ {p : ℕ} (prime₀ : Prime p) {L : Level} {block₀ quotients₀ : Lis
           ≡ residues p prime .ring .add (words p prime quotients 0 productWords (flat lanes (row k) degree)) a
       unfolding modulo
       words-here = subst
-          (λ x. words p prime quotients′ 0 productWords x ≡ residues p prime .ring .add (words p prime quotients 0 productWords x) a)
+          (λ x. words p prime quotients′ 0 productWords x ≡ residues p prime .ring .add (words p prime quotients 0 productWords x)
+          a)
           here
           (words-first p prime quotients′ productWords place place-inside
           ∙ ap (residue p prime) (getD-set-same quotients place sum 0 place-there)
@@ -176,7 +177,8 @@ module _ {p : ℕ} (prime₀ : Prime p) {L : Level} {block₀ quotients₀ : Lis
           (λ lt. ap (λ w. w % p) (getD-set-other quotients place (0 + x) sum 0 (λ e. ne (omega (arith, here)))))
 
       lane : (q : ℕ) → q < n
-          → HoldsQuotient p prime quotients′ q (slotQuotient (polynomials (residues p prime)) n (f .slots) (step (D .trace) taken) q)
+          → HoldsQuotient p prime quotients′ q (slotQuotient (polynomials (residues p prime)) n (f .slots) (step (D .trace) taken)
+          q)
       unfolding slotQuotient taken
       lane q h = replace-elim (λ q x. q < n → HoldsQuotient p prime quotients′ q x)
           (slotQuotient (polynomials (residues p prime)) n (f .slots) (D .trace)) (row k) _
@@ -215,7 +217,8 @@ module _ {p : ℕ} (prime₀ : Prime p) {L : Level} {block₀ quotients₀ : Lis
     }
 
     pub dividing-turn : (v : ℕ) → v ≡ modulo p .add (getD quotients (k - slotSize L (row k) + (lastLane - row k)) 0) (r .factor)
-        → Dividing p L block₀ quotients₀ block′ (set quotients (k - slotSize L (row k) + (lastLane - row k)) v) (r .size) (r .leading)
+        → Dividing p L block₀ quotients₀ block′ (set quotients (k - slotSize L (row k) + (lastLane - row k)) v) (r .size)
+        (r .leading)
     dividing-turn v e = rw e turned
 
   -- where it stops: on the span of the slots only with nothing left

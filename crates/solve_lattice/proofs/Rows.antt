@@ -4,7 +4,8 @@ use Prim.Native.Nat.{ℕ, _+_, _-_, _*_, _/_, _%_, _<_, _≤_}
 use native.Mathlib.Omega.{arith}
 use mir.Syntax.{w64}
 use mir.Val.{Fits}
-use Rattle.solve_lattice.specs.Room.{levelWords, inversesFrom, tailSizesFrom, sizesFrom, blockWords, slotWords, lanes, lastLane}
+use Rattle.solve_lattice.specs.Room.{levelWords, inversesFrom, tailSizesFrom, sizesFrom, blockWords, slotWords, lanes}
+use Rattle.solve_lattice.specs.Room.{lastLane}
 use Rattle.solve_lattice.specs.Memory.{row, height, Level, slotSize, tailSize, ValidLevel}
 
 pub lane-most : (k : ℕ) → (k - 1) % lanes ≤ lastLane

@@ -127,7 +127,12 @@ module _ (p : ℕ) (prime : Prime p) {L : Level} {block : List ℕ} {k value : �
       → SmallSum p (sumAt block (k - slotSize L (row k)) L (slotWords * row k) (p - a) j)
   step-reduces sums j lt =
       let positive : 0 < p = omega (arith, prime .large) in
-      omega (arith, sums-room p block 1 positive sums (k - slotSize L (row k) + j), step-product (slotWords * row k + j) (omega arith))
+      omega (
+        arith,
+        sums-room p block 1 positive sums (k - slotSize L (row k) + j),
+        step-product (slotWords * row k + j)
+            (omega arith),
+      )
 
   pub step-sum : Sums p 1 block → p ≤ 65521 → (j : ℕ) → j < height (slotSize L (row k)) * lanes
       → sumAt block (k - slotSize L (row k)) L (slotWords * row k) (p - a) j < 18446744073709551616
@@ -212,7 +217,8 @@ module _ (p : ℕ) (prime : Prime p) {L : Level} {block : List ℕ} {k value : �
         place (upper (slotSize L (row k) - 1))
         ∙ ap₂ (λ x y. F .ring .add (words p prime block 0 productWords (k - 1)) (F .ring .neg (F .ring .mul x y)))
         factor (words-inside p prime L (slotWords * row k) blockWords _ inside)
-        ∙ cancelled (F .ring) (words p prime block 0 productWords (k - 1)) (residue p prime last) (F .inverse (residue p prime last))
+        ∙ cancelled (F .ring) (words p prime block 0 productWords (k - 1)) (residue p prime last)
+        (F .inverse (residue p prime last))
         (F .mul-inverse (residue p prime last) last-nonzero)
 
     pub step-behind : ZeroFrom p block 0 productWords k → ZeroFrom p block′ 0 productWords (k - 1)
@@ -222,7 +228,8 @@ module _ (p : ℕ) (prime : Prime p) {L : Level} {block : List ℕ} {k value : �
         let here : j ≡ k - 1 = omega (arith, S .some) in
         zero-word p prime block′ 0 productWords j lt (ap (words p prime block′ 0 productWords) here ∙ leading-gone))
         (λ more.
-        zero-kept p prime block block′ L d (slotWords * row k) taken blockWords productWords a stores step-factor step-inside step-room
+        zero-kept p prime block block′ L d (slotWords * row k) taken blockWords productWords a stores step-factor step-inside
+        step-room
         step-none step-fits size k (slot .block .behind) (omega (arith, S .fits)) behind j more lt)
         (below-or-not j k)
 

@@ -16,7 +16,8 @@ use Rattle.reduction.specs.Replace.{replace-other, replace-elim}
 use Rattle.reduction.specs.Slots.{Slots, put}
 use Rattle.reduction.specs.Trace.{State}
 use Rattle.reduction.specs.Held.{Held}
-use Rattle.solve_lattice.specs.Room.{levelWords, inversesFrom, tailSizesFrom, sizesFrom, productWords, blockWords, slotWords, tailWords, lanes, mostCoefficients}
+use Rattle.solve_lattice.specs.Room.{levelWords, inversesFrom, tailSizesFrom, sizesFrom, productWords, blockWords, slotWords}
+use Rattle.solve_lattice.specs.Room.{tailWords, lanes, mostCoefficients}
 use Rattle.solve_lattice.specs.Word.{words}
 use Rattle.solve_lattice.specs.Memory.{row, height, ZeroFrom, Ends, Level, slotSize, tailSize, slotInverse}
 use Rattle.solve_lattice.specs.Memory.{ValidSlot, ValidLevel, Memory}
@@ -84,13 +85,15 @@ module _ {p : ℕ} (prime₀ : Prime p) {M : Memory} {t e m : ℕ} (E : Swap p M
   slot-here : ValidSlot p (level′ p M t e m) q
   slot-here = slot-of q k t _ size-here
       (noted-tail (slots₂ p M e m) q k t _ (omega arith) room₂) (noted-inverse (slots₂ p M e m) q k t _ (omega arith) room₂)
-      (ends-same p prime₀ (M .block) (level′ p M t e m) 0 (slotWords * q) productWords blockWords (λ x. sym (SwappedWords.block-in E prime₀ x)) k
+      (ends-same p prime₀ (M .block) (level′ p M t e m) 0 (slotWords * q) productWords blockWords
+      (λ x. sym (SwappedWords.block-in E prime₀ x)) k
       (E .room .block) (E .valid .hand .block))
       (λ some. refl)
       (λ some. ap (modulo p .inverse)
       (E .valid .hand .leading some ∙ sym (SwappedWords.word-block E (k - 1) (omega (arith, E .blocks)))))
       (SwappedWords.tail-small E)
-      (zero-from-same p prime₀ (M .tail) (level′ p M t e m) 0 (slotWords * q + blockWords) tailWords blockWords (λ x. sym (SwappedWords.tail-in E prime₀ x)) t
+      (zero-from-same p prime₀ (M .tail) (level′ p M t e m) 0 (slotWords * q + blockWords) tailWords blockWords
+      (λ x. sym (SwappedWords.tail-in E prime₀ x)) t
       (E .tail .behind))
 
   apart : (r : ℕ) → ¬ (r ≡ q) → (slotWords * r + tailWords ≤ slotWords * q) ⊎ (slotWords * q + tailWords ≤ slotWords * r)
@@ -107,7 +110,8 @@ module _ {p : ℕ} (prime₀ : Prime p) {M : Memory} {t e m : ℕ} (E : Swap p M
       (⊎-elim (λ lo. inl (omega arith)) (λ hi. inr (omega arith)) (apart r ne)) x)
 
   tail-kept : (prime : Prime p) (r : ℕ) → r < lanes → ¬ (r ≡ q)
-      → (x : ℕ) → words p prime L (slotWords * r + blockWords) blockWords x ≡ words p prime (level′ p M t e m) (slotWords * r + blockWords) blockWords x
+      → (x : ℕ) → words p prime L (slotWords * r + blockWords) blockWords x ≡ words p prime (level′ p M t e m)
+      (slotWords * r + blockWords) blockWords x
   tail-kept prime r h ne x = sym (SwappedWords.slot-kept E prime (slotWords * r + blockWords) (omega arith)
       (⊎-elim (λ lo. inl (omega arith)) (λ hi. inr (omega arith)) (apart r ne)) x)
 
@@ -115,7 +119,8 @@ module _ {p : ℕ} (prime₀ : Prime p) {M : Memory} {t e m : ℕ} (E : Swap p M
   slot-other r h ne =
       let old = E .valid .level .slot r h in
       slot-of r (slotSize L r) (tailSize L r) (slotInverse L r) (size-other r h ne) (tail-other r h ne) (inverse-other r h ne)
-      (ends-same p prime₀ L (level′ p M t e m) (slotWords * r) (slotWords * r) blockWords blockWords (block-kept prime₀ r h ne) (slotSize L r)
+      (ends-same p prime₀ L (level′ p M t e m) (slotWords * r) (slotWords * r) blockWords blockWords (block-kept prime₀ r h ne)
+      (slotSize L r)
       (old .block .within) (old .block))
       (old .pivot)
       (λ some. old .inverse some
@@ -123,7 +128,8 @@ module _ {p : ℕ} (prime₀ : Prime p) {M : Memory} {t e m : ℕ} (E : Swap p M
       ∙ SwappedWords.word-outside E (slotWords * r + (slotSize L r - 1))
       (⊎-elim (λ lo. inl (omega (arith, old .block .within))) (λ hi. inr (omega arith)) (apart r ne)))))
       (old .tail-within)
-      (zero-from-same p prime₀ L (level′ p M t e m) (slotWords * r + blockWords) (slotWords * r + blockWords) blockWords blockWords (tail-kept prime₀ r h ne)
+      (zero-from-same p prime₀ L (level′ p M t e m) (slotWords * r + blockWords) (slotWords * r + blockWords) blockWords blockWords
+      (tail-kept prime₀ r h ne)
       (tailSize L r) (old .tail))
 
   -- what is stored to the slot is reduced
@@ -171,7 +177,8 @@ module _ {p : ℕ} (prime₀ : Prime p) {M : Memory} {t e m : ℕ} (E : Swap p M
           (row (M .hand .size)) (s .size) (λ h. holds .size ∙ ap height (sym size-here)) r
           (λ ne h. holds .slots .size r h ∙ ap height (sym (size-other r (omega (arith, few-rows)) ne)));
       vector = λ r. replace-elim
-          (λ r v. r < n → 0 < after .size r → Held (residues p prime) n lanes ω (words p prime (level′ p M t e m) (slotWords * r) blockWords)
+          (λ r v. r < n → 0 < after .size r → Held (residues p prime) n lanes ω
+          (words p prime (level′ p M t e m) (slotWords * r) blockWords)
           (words p prime (level′ p M t e m) (slotWords * r + blockWords) blockWords) v)
           (s .slots .at) (row (M .hand .size)) (s .hand)
           (λ h f. held-same (λ x. sym (SwappedWords.block-in E prime x)) (λ x. sym (SwappedWords.tail-in E prime x)) (holds .hand))

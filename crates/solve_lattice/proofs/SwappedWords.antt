@@ -132,7 +132,8 @@ module _ {p : ℕ} {M : Memory} {t e m : ℕ} (E : Swap p M t e m) where
     words-noted b inside x = words-same p prime (level′ p M t e m) (slots₂ p M e m) b b blockWords x
         (λ lt. ap (λ w. w % p) (noted-kept (b + x) (omega arith)))
 
-    tail-apart : (x : ℕ) → words p prime (slots₁ p M e) (slotWords * q + blockWords) blockWords x ≡ words p prime s (slotWords * q + blockWords) blockWords x
+    tail-apart : (x : ℕ) → words p prime (slots₁ p M e) (slotWords * q + blockWords) blockWords x ≡ words p prime s
+        (slotWords * q + blockWords) blockWords x
     tail-apart = words-apart p prime (λ j. getD (M .block) j 0 % p) s (slotWords * q) e (slotWords * q + blockWords) blockWords
         (inr (omega (arith, blocks-fit)))
 
@@ -146,21 +147,25 @@ module _ {p : ℕ} {M : Memory} {t e m : ℕ} (E : Swap p M t e m) where
     behind-tail j h lt = E .tail .behind j (omega (arith, E .tails)) lt
 
     behind-slot-tail : ZeroFrom p (slots₁ p M e) (slotWords * q + blockWords) blockWords m
-    behind-slot-tail j h lt = zero-from-same p prime s (slots₁ p M e) (slotWords * q + blockWords) (slotWords * q + blockWords) blockWords blockWords
+    behind-slot-tail j h lt = zero-from-same p prime s (slots₁ p M e) (slotWords * q + blockWords) (slotWords * q + blockWords)
+        blockWords blockWords
         (λ x. sym (tail-apart x)) (tailSize (M .level) q) (slot .tail) j (omega (arith, E .tails)) lt
 
     room₁ : slotWords * q + blockWords + blockWords ≤ length (slots₁ p M e)
     room₁ = omega (arith, E .valid .level .room, length-stored (λ j. getD (M .block) j 0 % p) s (slotWords * q) e)
 
     -- the slot takes the hand
-    pub block-in : (x : ℕ) → words p prime (level′ p M t e m) (slotWords * q) blockWords x ≡ words p prime (M .block) 0 productWords x
+    pub block-in : (x : ℕ) → words p prime (level′ p M t e m) (slotWords * q) blockWords x ≡ words p prime
+        (M .block) 0 productWords x
     block-in x =
         words-noted (slotWords * q) (omega arith) x
-        ∙ words-apart p prime (λ j. getD (M .tail) j 0 % p) (slots₁ p M e) (slotWords * q + blockWords) m (slotWords * q) blockWords (inl (omega arith)) x
+        ∙ words-apart p prime (λ j. getD (M .tail) j 0 % p) (slots₁ p M e) (slotWords * q + blockWords) m
+        (slotWords * q) blockWords (inl (omega arith)) x
         ∙ words-slot p prime (M .block) s (slotWords * q) e blockWords productWords blocks-fit (omega arith) block-room
         (omega (arith, E .valid .level .room)) behind-hand behind-slot x
 
-    pub tail-in : (x : ℕ) → words p prime (level′ p M t e m) (slotWords * q + blockWords) blockWords x ≡ words p prime (M .tail) 0 tailWords x
+    pub tail-in : (x : ℕ) → words p prime (level′ p M t e m) (slotWords * q + blockWords) blockWords x ≡ words p prime
+        (M .tail) 0 tailWords x
     tail-in x =
         words-noted (slotWords * q + blockWords) (omega arith) x
         ∙ words-slot p prime (M .tail) (slots₁ p M e) (slotWords * q + blockWords) m blockWords tailWords tails-fit (omega arith)

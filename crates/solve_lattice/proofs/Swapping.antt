@@ -88,7 +88,8 @@ module _ {p : ℕ} (prime₀ : Prime p) {M : Memory} {t e m : ℕ} (E : Swap p M
         length-stored (λ j. getD (slots₁ p M e) (slotWords * q + blockWords + j) 0) (M .tail) 0 m,
       );
       block = ends;
-      leading = found-leading p positive (block′ M e) productWords (slotSize L q) (known .within) (known .behind) f found v found-value;
+      leading = found-leading p positive (block′ M e) productWords (slotSize L q) (known .within) (known .behind) f found v
+          found-value;
       tail-within = omega (arith, slot .tail-within);
       tail = zero-from-same p prime₀ L (tail′ p M e m) (slotWords * q + blockWords) 0 blockWords tailWords
           (λ x. sym (SwappedWords.tail-out E prime₀ x)) (tailSize L q) (slot .tail);

@@ -126,7 +126,8 @@ module _ {p : ℕ} (prime₀ : Prime p) {M : Memory} (valid : Valid p M) (fits :
     tail-there = omega (arith, taking-room taken rounded, valid .hand .tail-room)
 
     behind : ZeroFrom p tail′ 0 tailWords t
-    behind = zero-kept p prime₀ (M .tail) tail′ L shift (slotWords * q + blockWords) taken blockWords tailWords (r .factor) stores factor-below
+    behind = zero-kept p prime₀ (M .tail) tail′ L shift (slotWords * q + blockWords) taken blockWords tailWords (r .factor) stores
+        factor-below
         (taking-room taken rounded) tail-there (taking-none taken rounded) (taking-fits taken rounded)
         size t (slot .tail) (omega arith) (λ j h lt. valid .hand .tail j (omega arith) lt)
 
@@ -206,10 +207,12 @@ module _ {p : ℕ} (prime₀ : Prime p) {M : Memory} (valid : Valid p M) (fits :
               (holds .slots .vector (row (M .hand .size)) (P .inside) filled)
               (Stepping.step-upper p prime S (r .factor) (T .factor) block′ (T .words))
               (Stepping.step-lower p prime S (r .factor) (T .factor) block′ (T .words))
-              (words-upper p prime (M .tail) tail′ L shift (slotWords * q + blockWords) taken blockWords tailWords (r .factor) stores
+              (words-upper p prime (M .tail) tail′ L shift (slotWords * q + blockWords) taken blockWords tailWords
+              (r .factor) stores
               factor-below (taking-room taken rounded) tail-there (taking-none taken rounded)
               (taking-fits taken rounded))
-              (words-lower p prime (M .tail) tail′ L shift (slotWords * q + blockWords) taken blockWords tailWords (r .factor) stores
+              (words-lower p prime (M .tail) tail′ L shift (slotWords * q + blockWords) taken blockWords tailWords
+              (r .factor) stores
               factor-below (taking-room taken rounded) tail-there (taking-none taken rounded)
               (taking-fits taken rounded));
           size = refl;

@@ -17,12 +17,14 @@ module _ (p : ℕ) (prime : Prime p) (n : ℕ) (ω : ℕ → ℕ) where
   pub record HoldsSlots (L : Level) (U : Slots (Polynomial (residues p prime))) : Type 0 where
     pub size : (q : ℕ) → q < n → U .size q ≡ height (slotSize L q)
     pub vector : (q : ℕ) → q < n → 0 < U .size q
-        → Held (residues p prime) n lanes ω (words p prime L (slotWords * q) blockWords) (words p prime L (slotWords * q + blockWords) blockWords)
+        → Held (residues p prime) n lanes ω (words p prime L (slotWords * q) blockWords)
+        (words p prime L (slotWords * q + blockWords) blockWords)
         (U .at q)
 
   pub record HoldsState (M : Memory) (s : State (Polynomial (residues p prime))) : Type 0 where
     pub slots : HoldsSlots (M .level) (s .slots)
-    pub hand : Held (residues p prime) n lanes ω (words p prime (M .block) 0 productWords) (words p prime (M .tail) 0 tailWords) (s .hand)
+    pub hand : Held (residues p prime) n lanes ω (words p prime (M .block) 0 productWords) (words p prime (M .tail) 0 tailWords)
+        (s .hand)
     pub size : s .size ≡ height (M .hand .size)
 
   -- the state to which an insertion has come from s

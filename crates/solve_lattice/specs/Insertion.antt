@@ -60,7 +60,8 @@ module _ (p : ℕ) (prime : Prime p) where
           let behind = valid .level .slot q inside .tail in
           let none : size (residues p prime) (s .slots .at q n) ≤ 0 =
           holds-size (residues p prime) (A .tail) 0
-          (λ j l. words-zero p prime (M .level) (slotWords * q + blockWords) blockWords _ behind j (omega (arith, starts .tails q inside))) in
+          (λ j l. words-zero p prime (M .level) (slotWords * q + blockWords) blockWords _ behind j
+          (omega (arith, starts .tails q inside))) in
           size-none (residues p prime) (s .slots .at q n) (omega arith)
 
       tail-one : s .hand n ≡ polynomials (residues p prime) .one
@@ -83,7 +84,8 @@ module _ (p : ℕ) (prime : Prime p) where
     degrees-most : degrees lanes (λ q. height (slotSize (M .level) q)) ≤ 120
     degrees-most = omega (
       arith,
-      total-le lanes (λ q. height (slotSize (M .level) q) - 1) (λ q. 15) (λ q h. omega (arith, valid .level .slot q h .block .within)),
+      total-le lanes (λ q. height (slotSize (M .level) q) - 1) (λ q. 15)
+          (λ q h. omega (arith, valid .level .slot q h .block .within)),
       total-constant lanes 15,
     )
 

@@ -27,7 +27,8 @@ module _ (f : ℕ → ℕ) (l : List ℕ) (d : ℕ) where
   lane-inside (suc n) e room h =
       ⊎-elim
       (λ same. rw same (getD-set-same (lane f l d n) (d + lanes * n) (f n) 0 (rw length-lane (omega arith))))
-      (λ lt. getD-set-other (lane f l d n) (d + lanes * n) (d + lanes * e) (f n) 0 (λ q. omega arith) ∙ lane-inside n e (omega arith) lt)
+      (λ lt. getD-set-other (lane f l d n) (d + lanes * n) (d + lanes * e) (f n) 0 (λ q. omega arith)
+      ∙ lane-inside n e (omega arith) lt)
       (eq-or-lt-of-le (le-of-suc-le-suc h))
 
   pub lane-outside : (n i : ℕ) → ((e : ℕ) → e < n → ¬ (i ≡ d + lanes * e)) → getD (lane f l d n) i 0 ≡ getD l i 0

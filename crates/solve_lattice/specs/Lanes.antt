@@ -49,7 +49,8 @@ module _ (p : ℕ) (prime : Prime p) where
 
   abbrev pub slotsOf : Level → Slots (Polynomial (residues p prime))
   slotsOf L = record {
-    at = λ q. vectorOf F blockDegrees blockWords (words p prime L (slotWords * q) blockWords) (words p prime L (slotWords * q + blockWords) blockWords);
+    at = λ q. vectorOf F blockDegrees blockWords (words p prime L (slotWords * q) blockWords)
+        (words p prime L (slotWords * q + blockWords) blockWords);
     size = λ q. height (slotSize L q);
   }
 
@@ -64,7 +65,8 @@ module _ (p : ℕ) (prime : Prime p) where
   stateOf-held M = record {
     slots = record {
       size = λ q h. refl;
-      vector = λ q h f. vectorOf-held F blockDegrees blockWords _ _ (λ x l. words-behind p prime (M .level) (slotWords * q) blockWords x (omega arith))
+      vector = λ q h f. vectorOf-held F blockDegrees blockWords _ _
+          (λ x l. words-behind p prime (M .level) (slotWords * q) blockWords x (omega arith))
           (words-behind p prime (M .level) (slotWords * q + blockWords) blockWords);
     };
     hand = vectorOf-held F productDegrees tailWords _ _ (λ x l. words-behind p prime (M .block) 0 productWords x (omega arith))

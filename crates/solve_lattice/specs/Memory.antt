@@ -11,7 +11,8 @@ use Rattle.modular.specs.Modulo.{modulo}
 use Rattle.vector.specs.Bound.{AtMost}
 use Rattle.ring.specs.Total.{total}
 use Rattle.solve_lattice.specs.declared.hand.Hand.{Hand}
-use Rattle.solve_lattice.specs.Room.{lanes, blockWords, tailWords, slotWords, levelWords, productWords, lastLane, mostCoefficients, mostProducts}
+use Rattle.solve_lattice.specs.Room.{lanes, blockWords, tailWords, slotWords, levelWords, productWords, lastLane}
+use Rattle.solve_lattice.specs.Room.{mostCoefficients, mostProducts}
 use Rattle.solve_lattice.specs.Room.{sizesFrom, tailSizesFrom, inversesFrom}
 
 -- of a flat block whose last word that counts is the k-th: the row of that word, and the number of degrees

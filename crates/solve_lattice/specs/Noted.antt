@@ -21,9 +21,11 @@ module _ (L : Level) (q k t i : ℕ) where
   pub noted-length : length (noted L q k t i) ≡ length L
   noted-length = length-set L₂ (inversesFrom + q) i ∙ length-set L₁ (tailSizesFrom + q) t ∙ length-set L (sizesFrom + q) k
 
-  pub noted-other : (x : ℕ) → ¬ (x ≡ sizesFrom + q) → ¬ (x ≡ tailSizesFrom + q) → ¬ (x ≡ inversesFrom + q) → getD (noted L q k t i) x 0 ≡ getD L x 0
+  pub noted-other : (x : ℕ) → ¬ (x ≡ sizesFrom + q) → ¬ (x ≡ tailSizesFrom + q) → ¬ (x ≡ inversesFrom + q)
+      → getD (noted L q k t i) x 0 ≡ getD L x 0
   noted-other x a b c =
-      getD-set-other L₂ (inversesFrom + q) x i 0 c ∙ getD-set-other L₁ (tailSizesFrom + q) x t 0 b ∙ getD-set-other L (sizesFrom + q) x k 0 a
+      getD-set-other L₂ (inversesFrom + q) x i 0 c ∙ getD-set-other L₁ (tailSizesFrom + q) x t 0 b
+      ∙ getD-set-other L (sizesFrom + q) x k 0 a
 
   pub noted-word : (x : ℕ) → x < sizesFrom → getD (noted L q k t i) x 0 ≡ getD L x 0
   noted-word x h = noted-other x (λ e. omega arith) (λ e. omega arith) (λ e. omega arith)
@@ -41,4 +43,5 @@ module _ (L : Level) (q k t i : ℕ) where
         ∙ getD-set-same L₁ (tailSizesFrom + q) t 0 (omega (arith, length-set L (sizesFrom + q) k))
 
     pub noted-inverse : slotInverse (noted L q k t i) q ≡ i
-    noted-inverse = getD-set-same L₂ (inversesFrom + q) i 0 (omega (arith, length-set L₁ (tailSizesFrom + q) t, length-set L (sizesFrom + q) k))
+    noted-inverse = getD-set-same L₂ (inversesFrom + q) i 0 (omega
+        (arith, length-set L₁ (tailSizesFrom + q) t, length-set L (sizesFrom + q) k))

@@ -27,7 +27,8 @@ module _ (p : ℕ) (prime : Prime p) (n : ℕ) (ω : ℕ → ℕ) where
     pub rest : ℕ → Polynomial (residues p prime)
     pub trace : DivisionTrace (polynomials (residues p prime)) n U f rest
     pub holds-rest : Flat (residues p prime) n lanes ω (words p prime block 0 productWords) rest
-    pub holds-quotient : (q : ℕ) → q < n → HoldsQuotient p prime quotients q (slotQuotient (polynomials (residues p prime)) n U trace q)
+    pub holds-quotient : (q : ℕ) → q < n → HoldsQuotient p prime quotients q
+        (slotQuotient (polynomials (residues p prime)) n U trace q)
 
   -- memory holds slots and a vector to divide
   pub record Dividend (L : Level) (block : List ℕ) : Type 0 where

@@ -12,7 +12,8 @@ use Rattle.modular.specs.Prime.{Prime}
 use Rattle.modular.specs.Residue.{residues}
 use Rattle.vector.specs.Stored.{stored, stored-inside, stored-outside, below-or-not}
 use Rattle.vector.specs.Multiple.{sumAt}
-use Rattle.solve_lattice.specs.Word.{residue, residue-same, same-residue, residue-zero, zero-residue, residue-mod, residue-less}
+use Rattle.solve_lattice.specs.Word.{residue, residue-same, same-residue, residue-zero, zero-residue, residue-mod}
+use Rattle.solve_lattice.specs.Word.{residue-less}
 use Rattle.solve_lattice.specs.Word.{words, words-inside, words-behind, words-first}
 use Rattle.solve_lattice.specs.Memory.{ZeroFrom, Ends}
 

@@ -24,7 +24,8 @@ columnPlace j i e = blockWords * j + flat lanes i e
 -- row i is in slot first + step·i; every place is one of a row below 8 of some column
 pub record ColumnStored (j : ℕ) (area : List ℕ) (first step n : ℕ) (input input′ : List ℕ) : Type 0 where
   pub same-length : length input′ ≡ length input
-  pub rows : (i e : ℕ) → i < n → e < blockDegrees → getD input′ (columnPlace j i e) 0 ≡ getD (slot systemWidth area (first + step * i)) e 0
+  pub rows : (i e : ℕ) → i < n → e < blockDegrees → getD input′ (columnPlace j i e) 0
+      ≡ getD (slot systemWidth area (first + step * i)) e 0
   pub others : (k i e : ℕ) → i < lanes → e < blockDegrees → (¬ (k ≡ j)) ⊎ (n ≤ i)
       → getD input′ (columnPlace k i e) 0 ≡ getD input (columnPlace k i e) 0
 
@@ -51,7 +52,8 @@ module _ {j : ℕ} {area : List ℕ} {first step : ℕ} {input : List ℕ} where
         rw (at, ← taken) (word e small)
 
     -- the other lanes
-    old : (i : ℕ) → ((e : ℕ) → e < blockDegrees → ¬ (i ≡ blockWords * j + (lastLane - n) + lanes * e)) → getD after i 0 ≡ getD before i 0
+    old : (i : ℕ) → ((e : ℕ) → e < blockDegrees → ¬ (i ≡ blockWords * j + (lastLane - n) + lanes * e))
+        → getD after i 0 ≡ getD before i 0
     old i out = ap (λ l. getD l i 0) stores ∙ lane-outside (λ e. getD f e 0) before d blockDegrees i out
 
     pub column-turn : ColumnStored j area first step (n + 1) input after

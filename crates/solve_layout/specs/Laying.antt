@@ -59,7 +59,8 @@ module _ {s : System} {ws : List ℕ} {rows columns : ℕ} (H : HasWords s ws ro
       count : length (s .matrix) ≡ s .rows * s .columns
       count = H .within .matrix .count
 
-      matrix-is : (i j e : ℕ) → i < s .rows → j < s .columns → e < blockDegrees → getD input′ (columnPlace j i e) 0 ≡ getD (entry s i j) e 0
+      matrix-is : (i j e : ℕ) → i < s .rows → j < s .columns → e < blockDegrees
+          → getD input′ (columnPlace j i e) 0 ≡ getD (entry s i j) e 0
       matrix-is i j e row column small =
           let k : j + s .columns * i ≡ i * s .columns + j = omega arith in
           let inside : j + s .columns * i < length (s .matrix) =
@@ -81,7 +82,8 @@ module _ {s : System} {ws : List ℕ} {rows columns : ℕ} (H : HasWords s ws ro
           ∙ ap (λ n. getD (systemEntries s) n []) k
           ∙ getD-append-add (s .matrix) (s .side) i [])
 
-      other-is : (j i e : ℕ) → getD input′ (columnPlace j i e) 0 ≡ getD input (columnPlace j i e) 0 → getD input′ (columnPlace j i e) 0 ≡ 0
+      other-is : (j i e : ℕ) → getD input′ (columnPlace j i e) 0 ≡ getD input (columnPlace j i e) 0
+          → getD input′ (columnPlace j i e) 0 ≡ 0
       other-is j i e same = omega (arith, clear (columnPlace j i e))
 
       positive : 0 < s .modulus

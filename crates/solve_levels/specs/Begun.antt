@@ -1,5 +1,5 @@
--- The hand (column | 1) beside a level with tails 0, in the terms of `solve_lattice` and `reduction`: memory is in order, an insertion
--- can start, and it holds the state in which `reduction` begins to insert the column.
+-- The hand (column | 1) beside a level with tails 0, in the terms of `solve_lattice` and `reduction`: memory is in order, an
+-- insertion can start, and it holds the state in which `reduction` begins to insert the column.
 use Prim.Native.Nat.{ℕ, zero, suc, _+_, _-_, _%_, _<_, _≤_}
 use mathlib.Core.Path.{_≡_, refl, sym, _∙_, ap}
 use mathlib.Core.List.{List}
@@ -20,7 +20,8 @@ use Rattle.reduction.specs.Holds.{Holds}
 use Rattle.reduction.specs.Flat.{Flat}
 use Rattle.solve_lattice.specs.Word.{words, words-first, residue-one}
 use Rattle.solve_lattice.specs.declared.hand.Hand.{Hand}
-use Rattle.solve_lattice.specs.Memory.{height, Ends, ZeroFrom, Sums, Level, slotSize, tailSize, ValidLevel, memory, places, ValidHand}
+use Rattle.solve_lattice.specs.Memory.{height, Ends, ZeroFrom, Sums, Level, slotSize, tailSize, ValidLevel, memory, places}
+use Rattle.solve_lattice.specs.Memory.{ValidHand}
 use Rattle.solve_lattice.specs.Holding.{HoldsSlots, HoldsState}
 use Rattle.solve_lattice.specs.Range.{words-zero, words-shorter, ends-same}
 use Rattle.solve_lattice.specs.Sums.{sums-fewer}
@@ -72,7 +73,8 @@ module _ {p : ℕ} (prime₀ : Prime p) {column : List ℕ} {size : ℕ} (valid 
     room = omega (arith, valid .room);
     degrees = omega (arith, valid .room, valid .ends .within);
     tail-room = omega (arith, length-set tail 0 1);
-    block = ends-same p prime₀ column column 0 0 blockWords productWords (column-words prime₀) size (omega (arith, valid .ends .within))
+    block = ends-same p prime₀ column column 0 0 blockWords productWords (column-words prime₀) size
+        (omega (arith, valid .ends .within))
         (valid .ends);
     leading = λ some. refl;
     tail-within = omega arith;

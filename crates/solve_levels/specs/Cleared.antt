@@ -1,4 +1,5 @@
--- A level copied with tails 0, in the terms of `solve_lattice` and `reduction`: it is in order, and holds the same slots with tails 0.
+-- A level copied with tails 0, in the terms of `solve_lattice` and `reduction`: it is in order, and holds the same slots with tails
+-- 0.
 use Prim.Native.Nat.{ℕ, _+_, _-_, _*_, _/_, _%_, _<_, _≤_}
 use mathlib.Core.Path.{_≡_, sym, _∙_, ap, subst}
 use mathlib.Core.Logic.{_⊎_, inl, inr, ⊎-elim}

@@ -56,7 +56,8 @@ module _ (p : ℕ) (input : List ℕ) (at : ℕ) (zeros : List ℕ) (long : leng
   pub copied-zero : ZeroFrom p (stored (λ i. getD input (at + i) 0) zeros 0 blockWords) 0 productWords blockWords
   copied-zero i ge lt =
       let empty : getD zeros (0 + i) 0 ≡ 0 = omega (arith, none (0 + i)) in
-      ap (λ w. w % p) (stored-outside (λ i. getD input (at + i) 0) zeros 0 blockWords (0 + i) (inr (omega arith)) ∙ empty) ∙ zero-mod p
+      ap (λ w. w % p) (stored-outside (λ i. getD input (at + i) 0) zeros 0 blockWords (0 + i) (inr (omega arith)) ∙ empty)
+      ∙ zero-mod p
 
   pub copied-sums : ((i : ℕ) → getD input i 0 < p) → Sums p mostPlaces (stored (λ i. getD input (at + i) 0) zeros 0 blockWords)
   copied-sums below i = omega (
@@ -71,7 +72,8 @@ module _ (p : ℕ) (input : List ℕ) (at : ℕ) (zeros : List ℕ) (long : leng
       (λ lt. words-inside p prime input at blockWords x lt
       ∙ ap (λ w. residue p prime w) (sym (stored-inside (λ i. getD input (at + i) 0) zeros 0 blockWords x (omega arith) lt))
       ∙ sym (words-inside p prime block 0 productWords x (omega arith)))
-      (λ ge. words-behind p prime input at blockWords x ge ∙ sym (words-zero p prime block 0 productWords blockWords copied-zero x ge))
+      (λ ge. words-behind p prime input at blockWords x ge ∙ sym
+      (words-zero p prime block 0 productWords blockWords copied-zero x ge))
       (below-or-not x blockWords)
 
   -- divided
@@ -88,7 +90,8 @@ module _ (p : ℕ) (input : List ℕ) (at : ℕ) (zeros : List ℕ) (long : leng
     few = ends-most rest 0 productWords left blockWords (done .ends) nothing
 
     dividend : (prime : Prime p) (n : ℕ) (U : Slots (Polynomial (residues p prime))) (column : ℕ → Polynomial (residues p prime))
-        → HoldsSlots p prime n unweighted L U → Flat (residues p prime) n lanes unweighted (words p prime input at blockWords) column
+        → HoldsSlots p prime n unweighted L U → Flat (residues p prime) n lanes unweighted (words p prime input at blockWords)
+        column
         → Dividend p prime n unweighted L block₀
     dividend prime n U column slots flat = record {
       slots = U;
@@ -98,7 +101,8 @@ module _ (p : ℕ) (input : List ℕ) (at : ℕ) (zeros : List ℕ) (long : leng
     }
 
     left-of : (prime : Prime p) (n : ℕ) (U : Slots (Polynomial (residues p prime))) (column : ℕ → Polynomial (residues p prime))
-        → HoldsSlots p prime n unweighted L U → Flat (residues p prime) n lanes unweighted (words p prime input at blockWords) column
+        → HoldsSlots p prime n unweighted L U → Flat (residues p prime) n lanes unweighted (words p prime input at blockWords)
+        column
         → HoldsLeft p prime n U column rest factors
     unfolding dividend
     left-of prime n U column slots flat = record {

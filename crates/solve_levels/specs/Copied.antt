@@ -71,10 +71,12 @@ module _ {L : Level} {n : ℕ} {next : Level} (so-far : Copied L n next) (inside
     blocks : (q j : ℕ) → q < n + 1 → j < slotSize L q → slotSize L q ≤ slotWords → Dec (q ≡ n)
         → getD after (slotWords * q + j) 0 ≡ getD L (slotWords * q + j) 0
     blocks q j h lt le (yes same) =
-        subst (λ x. j < slotSize L x → getD after (slotWords * x + j) 0 ≡ getD L (slotWords * x + j) 0) (sym same) (inside-block j) lt
+        subst (λ x. j < slotSize L x → getD after (slotWords * x + j) 0 ≡ getD L (slotWords * x + j) 0) (sym same) (inside-block j)
+        lt
     blocks q j h lt le (no other) = apart q j (omega arith) (omega arith) other ∙ so-far .blocks q j (omega arith) lt
 
-    others : (q j : ℕ) → q < lanes → j < slotWords → (q < n + 1 → slotSize L q ≤ j) → Dec (q ≡ n) → getD after (slotWords * q + j) 0 ≡ 0
+    others : (q j : ℕ) → q < lanes → j < slotWords → (q < n + 1 → slotSize L q ≤ j) → Dec (q ≡ n)
+        → getD after (slotWords * q + j) 0 ≡ 0
     others q j l lt h (yes same) =
         subst (λ x. slotSize L x ≤ j → getD after (slotWords * x + j) 0 ≡ 0) (sym same)
         (λ ge. kept (slotWords * n + j) (λ x. omega arith) (λ x. omega arith) (inr (omega arith))
@@ -83,7 +85,8 @@ module _ {L : Level} {n : ℕ} {next : Level} (so-far : Copied L n next) (inside
 
     sizes : (q : ℕ) → q < n + 1 → Dec (q ≡ n) → slotSize after q ≡ slotSize L q
     sizes q h (yes same) = subst (λ x. slotSize after x ≡ slotSize L x) (sym same)
-        (getD-set-other (set next′ (sizesFrom + n) (slotSize L n)) (inversesFrom + n) (sizesFrom + n) (slotInverse L n) 0 (λ x. omega arith)
+        (getD-set-other (set next′ (sizesFrom + n) (slotSize L n)) (inversesFrom + n) (sizesFrom + n) (slotInverse L n) 0
+        (λ x. omega arith)
         ∙ getD-set-same next′ (sizesFrom + n) (slotSize L n) 0 (omega (arith, room′)))
     sizes q h (no other) = kept (sizesFrom + q) (λ x. other (omega arith)) (λ x. omega arith) (inr (omega (arith, here)))
         ∙ so-far .sizes q (omega arith)

@@ -20,7 +20,8 @@ use Rattle.reduction.specs.Holds.{read, read-holds}
 use Rattle.reduction.specs.Flat.{Flat}
 use Rattle.reduction.specs.Held.{Held}
 use Rattle.solve_lattice.specs.Word.{words, words-behind}
-use Rattle.solve_lattice.specs.Room.{lanes, blockWords, slotWords, sizesFrom, inversesFrom, levelWords, tailSizesFrom, mostCoefficients}
+use Rattle.solve_lattice.specs.Room.{lanes, blockWords, slotWords, sizesFrom, inversesFrom, levelWords, tailSizesFrom}
+use Rattle.solve_lattice.specs.Room.{mostCoefficients}
 use Rattle.solve_lattice.specs.Memory.{row, height, Ends, Level, slotSize, tailSize, slotInverse, ValidSlot, ValidLevel}
 use Rattle.solve_lattice.specs.Holding.{HoldsSlots}
 use Rattle.solve_lattice.specs.Range.{words-same}
@@ -46,7 +47,8 @@ module _ (L : Level) (q k i : ℕ) where
         ∙ getD-set-same L (sizesFrom + q) k 0 (omega arith)
 
     renumbered-inverse : slotInverse (renumbered L q k i) q ≡ i
-    renumbered-inverse = getD-set-same (set L (sizesFrom + q) k) (inversesFrom + q) i 0 (omega (arith, length-set L (sizesFrom + q) k))
+    renumbered-inverse = getD-set-same (set L (sizesFrom + q) k) (inversesFrom + q) i 0
+        (omega (arith, length-set L (sizesFrom + q) k))
 
 -- the first `size` words of the block, reduced, in slot q
 abbrev pub filled : ℕ → Level → ℕ → List ℕ → ℕ → Level
@@ -116,7 +118,8 @@ module _ {p : ℕ} {L : Level} (valid : ValidLevel p L) (q : ℕ) (inside : q < 
   size-other i h other = number-other (sizesFrom + i) (omega arith) (λ e. other (omega arith)) (λ e. omega arith)
 
   -- the words of other slots, and tails
-  apart : (i j : ℕ) → i < lanes → j < slotWords → (i ≡ q → blockWords ≤ j) → getD F (slotWords * i + j) 0 ≡ getD L (slotWords * i + j) 0
+  apart : (i j : ℕ) → i < lanes → j < slotWords → (i ≡ q → blockWords ≤ j)
+      → getD F (slotWords * i + j) 0 ≡ getD L (slotWords * i + j) 0
   apart i j h lt tail = slot-word (slotWords * i + j) (omega arith)
       ∙ stored-outside word L (slotWords * q) size (slotWords * i + j) (go (ℕ-discrete i q))
     where
@@ -124,7 +127,8 @@ module _ {p : ℕ} {L : Level} (valid : ValidLevel p L) (q : ℕ) (inside : q < 
       go (yes e) = inr (omega (arith, tail e, ends .within))
       go (no e) = ⊎-elim (λ less. inl (omega arith)) (λ more. inr (omega (arith, ends .within))) (below-or-not i q)
 
-  tail-apart : (i j : ℕ) → i < lanes → j < blockWords → getD F (slotWords * i + blockWords + j) 0 ≡ getD L (slotWords * i + blockWords + j) 0
+  tail-apart : (i j : ℕ) → i < lanes → j < blockWords → getD F (slotWords * i + blockWords + j) 0 ≡ getD L
+      (slotWords * i + blockWords + j) 0
   tail-apart i j h lt =
       let place : slotWords * i + blockWords + j ≡ slotWords * i + (blockWords + j) = omega arith in
       ap (λ x. getD F x 0) place ∙ apart i (blockWords + j) h (omega arith) (λ e. omega arith) ∙ ap (λ x. getD L x 0) (sym place)
@@ -132,7 +136,8 @@ module _ {p : ℕ} {L : Level} (valid : ValidLevel p L) (q : ℕ) (inside : q < 
   tail-kept : (i : ℕ) → i < lanes → ValidSlot p L i → (tailSize F i ≤ mostCoefficients)
       × ((j : ℕ) → tailSize F i ≤ j → j < blockWords → getD F (slotWords * i + blockWords + j) 0 % p ≡ 0)
   tail-kept i h old =
-      let same : tailSize F i ≡ tailSize L i = number-other (tailSizesFrom + i) (omega arith) (λ e. omega arith) (λ e. omega arith) in
+      let same : tailSize F i ≡ tailSize L i = number-other (tailSizesFrom + i) (omega arith) (λ e. omega arith)
+      (λ e. omega arith) in
       (omega (arith, old .tail-within), λ j ge lt. ap (λ w. w % p) (tail-apart i j h lt) ∙ old .tail j (omega arith) lt)
 
   slot-here : 0 < size → row size ≡ q → ValidSlot p F q
@@ -145,7 +150,8 @@ module _ {p : ℕ} {L : Level} (valid : ValidLevel p L) (q : ℕ) (inside : q < 
     pivot = λ f. ap row size-here ∙ at;
     inverse = λ f.
         renumbered-inverse W q size inverse inside room
-        ∙ ap (λ w. modulo p .inverse w) (sym (ap (λ k. getD F (slotWords * q + (k - 1)) 0) size-here ∙ here (size - 1) (omega arith)));
+        ∙ ap (λ w. modulo p .inverse w) (sym (ap (λ k. getD F (slotWords * q + (k - 1)) 0) size-here
+        ∙ here (size - 1) (omega arith)));
     tail-within = tail-kept q inside (valid .slot q inside) .0;
     tail = tail-kept q inside (valid .slot q inside) .1;
   }
@@ -178,7 +184,8 @@ module _ {p : ℕ} {L : Level} (valid : ValidLevel p L) (q : ℕ) (inside : q < 
     slot = λ i h. go i h (ℕ-discrete i q);
   }
     where
-      below : (x : ℕ) → x < sizesFrom → (x < slotWords * q) ⊎ (slotWords * q ≤ x) → (x < slotWords * q + size) ⊎ (slotWords * q + size ≤ x) → getD W x 0 < p
+      below : (x : ℕ) → x < sizesFrom → (x < slotWords * q) ⊎ (slotWords * q ≤ x)
+          → (x < slotWords * q + size) ⊎ (slotWords * q + size ≤ x) → getD W x 0 < p
       below x h (inl lo) c = omega (arith, stored-outside word L (slotWords * q) size x (inl lo), valid .below x h)
       below x h (inr ge) (inr hi) = omega (arith, stored-outside word L (slotWords * q) size x (inr hi), valid .below x h)
       below x h (inr ge) (inl lt) =
@@ -211,7 +218,8 @@ module _ {p : ℕ} {L : Level} (valid : ValidLevel p L) (q : ℕ) (inside : q < 
           ∙ renumbered-length W q size inverse
           ∙ length-stored word L (slotWords * q) size
 
-      outside : (x : ℕ) → ¬ (x ≡ sizesFrom + q) → ¬ (x ≡ inversesFrom + q) → (x < slotWords * q) ⊎ (slotWords * q + blockWords ≤ x) → getD Z x 0 ≡ getD L x 0
+      outside : (x : ℕ) → ¬ (x ≡ sizesFrom + q) → ¬ (x ≡ inversesFrom + q) → (x < slotWords * q) ⊎ (slotWords * q + blockWords ≤ x)
+          → getD Z x 0 ≡ getD L x 0
       outside x a b out =
           stored-outside (λ j. 0) F (slotWords * q) blockWords x out
           ∙ renumbered-other W q size inverse x a b
@@ -228,7 +236,8 @@ module _ {p : ℕ} {L : Level} (valid : ValidLevel p L) (q : ℕ) (inside : q < 
           (omega (arith, room, renumbered-length W q size inverse)) (omega arith)
           ∙ sym (ap (λ i. getD L i 0) place ∙ nothing (x - slotWords * q) (omega arith))
 
-      numbers : (x : ℕ) → Dec (x ≡ sizesFrom + q) → Dec (x ≡ inversesFrom + q) → getD (emptied F q (slotInverse L q)) x 0 ≡ getD L x 0
+      numbers : (x : ℕ) → Dec (x ≡ sizesFrom + q) → Dec (x ≡ inversesFrom + q)
+          → getD (emptied F q (slotInverse L q)) x 0 ≡ getD L x 0
       numbers x (yes e) c =
           ap (λ i. getD (emptied F q (slotInverse L q)) i 0) e
           ∙ renumbered-size Z q 0 (slotInverse L q) inside zero-room
@@ -267,11 +276,13 @@ module _ {p : ℕ} {L : Level} (valid : ValidLevel p L) (q : ℕ) (inside : q < 
         sizes i h (no e) =
             replace-other (U .size) q (height size) i e ∙ holds .size i h ∙ ap height (sym (size-other i (low i h) e))
 
-        tails : (i : ℕ) → i < lanes → (x : ℕ) → words p prime L (slotWords * i + blockWords) blockWords x ≡ words p prime F (slotWords * i + blockWords) blockWords x
+        tails : (i : ℕ) → i < lanes → (x : ℕ) → words p prime L (slotWords * i + blockWords) blockWords x ≡ words p prime F
+            (slotWords * i + blockWords) blockWords x
         tails i h x = words-same p prime L F (slotWords * i + blockWords) (slotWords * i + blockWords) blockWords x
             (λ lt. ap (λ w. w % p) (sym (tail-apart i x h lt)))
 
-        new : Held (residues p prime) n lanes ω (words p prime F (slotWords * q) blockWords) (words p prime F (slotWords * q + blockWords) blockWords)
+        new : Held (residues p prime) n lanes ω (words p prime F (slotWords * q) blockWords)
+            (words p prime F (slotWords * q + blockWords) blockWords)
             new-vector
         new = held-extend
             (flat-same (λ x. words-same p prime block F 0 (slotWords * q) blockWords x (same-residue x)) A)
@@ -281,7 +292,8 @@ module _ {p : ℕ} {L : Level} (valid : ValidLevel p L) (q : ℕ) (inside : q < 
             })
 
         vector : (i : ℕ) → i < n → 0 < U′ .size i → Dec (i ≡ q)
-            → Held (residues p prime) n lanes ω (words p prime F (slotWords * i) blockWords) (words p prime F (slotWords * i + blockWords) blockWords)
+            → Held (residues p prime) n lanes ω (words p prime F (slotWords * i) blockWords)
+            (words p prime F (slotWords * i + blockWords) blockWords)
             (U′ .at i)
         vector i h f (yes e) = subst (λ x. Held (residues p prime) n lanes ω (words p prime F (slotWords * x) blockWords)
             (words p prime F (slotWords * x + blockWords) blockWords) (U′ .at x)) (sym e)

@@ -46,7 +46,8 @@ module _ {p : ℕ} (prime₀ : Prime p) {M : Memory} (valid : Valid p M) (stoppe
   positive = let large = prime₀ .large in omega arith
 
   -- the hand fills the slot
-  pub settled-stuck : (some : 0 < M .hand .size) {M′ : Memory} → Swapped p M M′ → (k : List ℕ) → k ≡ stored (λ j. 0) kernel 0 blockWords
+  pub settled-stuck : (some : 0 < M .hand .size) {M′ : Memory} → Swapped p M M′ → (k : List ℕ)
+      → k ≡ stored (λ j. 0) kernel 0 blockWords
       → Settled p M (M′ .level) k 0
   settled-stuck some S k e = record {
     valid = S .valid .level;

@@ -39,7 +39,8 @@ use Rattle.solve_meaning.specs.Vectors
 use Rattle.solve_meaning.specs.Vectors.{lists, polynomialModulo, vectorModulo}
 use Rattle.solve_meaning.specs.Equations.{equated}
 use Rattle.solve_meaning.specs.RightLists.{side-is, solution-right, absence-right}
-use Rattle.solve_meaning.specs.PivotLists.{long, empty, relation-in, pivot-out, pivot-length, column-pivot-in, column-pivot-out}
+use Rattle.solve_meaning.specs.PivotLists.{long, empty, relation-in, pivot-out, pivot-length, column-pivot-in}
+use Rattle.solve_meaning.specs.PivotLists.{column-pivot-out}
 
 -- Z/w in lowest terms, for n polynomials Z: w is the denominator
 module _ (p : ℕ) (prime : Prime p) (n : ℕ) (W : Polynomial (residues p prime)) (ζ : ℕ → Polynomial (residues p prime)) (w : List ℕ)
@@ -86,7 +87,8 @@ module _ (p : ℕ) (prime : Prime p) (n : ℕ) (W : Polynomial (residues p prime
           record {
             quotient = getD Z i [];
             canonical = rw (eZ i k) (Lists.list-canonical p prime (ζ i));
-            product = ap₂ (Coefficients.mul (modulo p)) ew (eZ i k) ∙ sym (Lists.list-mul p prime W (ζ i)) ∙ ap list (R .mul-comm W (ζ i))
+            product = ap₂ (Coefficients.mul (modulo p)) ew (eZ i k) ∙ sym (Lists.list-mul p prime W (ζ i))
+                ∙ ap list (R .mul-comm W (ζ i))
                 ∙ Lists.list-mul p prime (ζ i) W ∙ sym (ap₂ (Coefficients.mul (modulo p)) (eZ i k) ew);
           };
       least = λ c hc m h.
@@ -122,7 +124,8 @@ module _ (limits : Limits) (s : System) (h : SystemWithin limits s) where
   abbrev listed : Q → List ℕ
   listed = listOf (s .modulus) (h .shape .prime)
 
-  module _ (D W : Polynomial (residues (s .modulus) (h .shape .prime))) (ν ζ : ℕ → Polynomial (residues (s .modulus) (h .shape .prime)))
+  module _ (D W : Polynomial (residues (s .modulus) (h .shape .prime))) (ν ζ : ℕ
+      → Polynomial (residues (s .modulus) (h .shape .prime)))
       (d w : List ℕ) (N Z : List (List ℕ)) (ed : d ≡ listed D) (ew : w ≡ listed W)
       (countN : length N ≡ s .columns) (eN : (j : ℕ) → j < s .columns → getD N j [] ≡ listed (ν j)) (count : length Z ≡ s .rows)
       (eZ : (i : ℕ) → i < s .rows → getD Z i [] ≡ listed (ζ i)) where
@@ -137,71 +140,72 @@ module _ (limits : Limits) (s : System) (h : SystemWithin limits s) where
           long limits s h (x j) e,
         )
 
-    module _ (K : Certifying (sized (residues (s .modulus) (h .shape .prime))) (s .rows) (s .columns) (T .matrix) (T .side) D W ζ) where
-      side : Q
-      side = sum S (s .rows) (λ i. S .mul (ζ i) (T .side i))
+    module _ (K : Certifying (sized (residues (s .modulus) (h .shape .prime))) (s .rows) (s .columns) (T .matrix) (T .side) D W ζ)
+      where
+        side : Q
+        side = sum S (s .rows) (λ i. S .mul (ζ i) (T .side i))
 
-      t : Q
-      t = K .side .cofactor
+        t : Q
+        t = K .side .cofactor
 
-      inverts-in : S .mul D side ≡ S .add W (S .mul t (S .mul D W))
-      unfolding side t
-      inverts-in = combination S (S .mul D side) (S .add W (S .mul t (S .mul D W)))
-          (given D (K .side .product) ∷ given (S .neg (S .one)) (K .quotient) ∷ [])
-          (identity S (D ∷ W ∷ side ∷ t ∷ K .cofactor ∷ []) (λ ρ q1 q2 q3 q4 q5. search quotes depth 20) refl)
+        inverts-in : S .mul D side ≡ S .add W (S .mul t (S .mul D W))
+        unfolding side t
+        inverts-in = combination S (S .mul D side) (S .add W (S .mul t (S .mul D W)))
+            (given D (K .side .product) ∷ given (S .neg (S .one)) (K .quotient) ∷ [])
+            (identity S (D ∷ W ∷ side ∷ t ∷ K .cofactor ∷ []) (λ ρ q1 q2 q3 q4 q5. search quotes depth 20) refl)
 
-      inverts-lists : Inverts s d w Z
-      unfolding side
-      inverts-lists = record {
-        whole = listed t;
-        canonical = Lists.list-canonical p prime t;
-        equal =
-            ap₂ (Coefficients.mul (modulo p)) ed (side-is limits s h ζ Z eZ)
-            ∙ sym (Lists.list-mul p prime D side)
-            ∙ ap listed inverts-in
-            ∙ Lists.list-add p prime W (S .mul t (S .mul D W))
-            ∙ ap₂ (Coefficients.add (modulo p)) (sym ew)
-            (Lists.list-mul p prime t (S .mul D W)
-            ∙ ap (Coefficients.mul (modulo p) (listed t))
-            (Lists.list-mul p prime D W ∙ sym (ap₂ (Coefficients.mul (modulo p)) ed ew)));
-      }
+        inverts-lists : Inverts s d w Z
+        unfolding side
+        inverts-lists = record {
+          whole = listed t;
+          canonical = Lists.list-canonical p prime t;
+          equal =
+              ap₂ (Coefficients.mul (modulo p)) ed (side-is limits s h ζ Z eZ)
+              ∙ sym (Lists.list-mul p prime D side)
+              ∙ ap listed inverts-in
+              ∙ Lists.list-add p prime W (S .mul t (S .mul D W))
+              ∙ ap₂ (Coefficients.add (modulo p)) (sym ew)
+              (Lists.list-mul p prime t (S .mul D W)
+              ∙ ap (Coefficients.mul (modulo p) (listed t))
+              (Lists.list-mul p prime D W ∙ sym (ap₂ (Coefficients.mul (modulo p)) ed ew)));
+        }
 
-      short-lists : (i : ℕ) → i < s .rows → ¬ (getD Z i [] ≡ []) → ShortEntry s w Z i
-      short-lists i l ne =
-          let x = K .short i l (λ z. ne (empty limits s h (eZ i l) z)) in
-          let u = x .spanned in
-          record {
-            at = record {
-              parts = lists p prime (s .columns) (u .parts);
-              part = listed (u .part);
-              pivot = pivot-out limits s h (u .parts) (u .part) (u .equal) (x .pivot) (listed (u .part)) refl;
-            };
-            short = omega (
-              arith,
-              pivot-length limits s h (u .parts) (u .part) (u .equal) (x .pivot) (listed (u .part)) refl,
-              x .short,
-              long limits s h (ζ i) (eZ i l),
-              long limits s h W ew,
-            );
-          }
+        short-lists : (i : ℕ) → i < s .rows → ¬ (getD Z i [] ≡ []) → ShortEntry s w Z i
+        short-lists i l ne =
+            let x = K .short i l (λ z. ne (empty limits s h (eZ i l) z)) in
+            let u = x .spanned in
+            record {
+              at = record {
+                parts = lists p prime (s .columns) (u .parts);
+                part = listed (u .part);
+                pivot = pivot-out limits s h (u .parts) (u .part) (u .equal) (x .pivot) (listed (u .part)) refl;
+              };
+              short = omega (
+                arith,
+                pivot-length limits s h (u .parts) (u .part) (u .equal) (x .pivot) (listed (u .part)) refl,
+                x .short,
+                long limits s h (ζ i) (eZ i l),
+                long limits s h W ew,
+              );
+            }
 
-      pub solution-chosen : RightSolutionIn (euclidean (residues p prime)) T D ν W ζ
-          → ReducedNumerators (sized (residues p prime)) (s .rows) (s .columns) (T .matrix) ν → ChosenSolution s d N w Z
-      solution-chosen C r = record {
-        proper = record {
-          denominator = rw ed (Lists.list-canonical p prime D);
-          numerators = Vectors.all-canonical-lists p prime (s .columns) ν N countN eN;
-          count = countN;
-          certifyingDenominator = rw ew (Lists.list-canonical p prime W);
-          certifyingNumerators = Vectors.all-canonical-lists p prime (s .rows) ζ Z count eZ;
-        };
-        count = count;
-        right = solution-right limits s h C d w N Z ed ew eN eZ;
-        reduced = reduced-lists r;
-        inverts = inverts-lists;
-        short = short-lists;
-        lowest = denominator-lists p prime (s .rows) W ζ w Z ew count eZ (K .lowest) (C .certifying-monic);
-      }
+        pub solution-chosen : RightSolutionIn (euclidean (residues p prime)) T D ν W ζ
+            → ReducedNumerators (sized (residues p prime)) (s .rows) (s .columns) (T .matrix) ν → ChosenSolution s d N w Z
+        solution-chosen C r = record {
+          proper = record {
+            denominator = rw ed (Lists.list-canonical p prime D);
+            numerators = Vectors.all-canonical-lists p prime (s .columns) ν N countN eN;
+            count = countN;
+            certifyingDenominator = rw ew (Lists.list-canonical p prime W);
+            certifyingNumerators = Vectors.all-canonical-lists p prime (s .rows) ζ Z count eZ;
+          };
+          count = count;
+          right = solution-right limits s h C d w N Z ed ew eN eZ;
+          reduced = reduced-lists r;
+          inverts = inverts-lists;
+          short = short-lists;
+          lowest = denominator-lists p prime (s .rows) W ζ w Z ew count eZ (K .lowest) (C .certifying-monic);
+        }
 
   pub absence-chosen : {κ : ℕ → Polynomial (residues (s .modulus) (h .shape .prime))} (q : List (List ℕ)) → length q ≡ s .rows
       → ((i : ℕ) → i < s .rows → getD q i [] ≡ listed (κ i))
@@ -216,7 +220,8 @@ module _ (limits : Limits) (s : System) (h : SystemWithin limits s) where
     added = record {
       parts = lists p prime (s .columns) (K .spanned .parts);
       part = listed (K .spanned .part);
-      pivot = pivot-out limits s h (K .spanned .parts) (K .spanned .part) (K .spanned .equal) (K .pivot) (listed (K .spanned .part)) refl;
+      pivot = pivot-out limits s h (K .spanned .parts) (K .spanned .part) (K .spanned .equal) (K .pivot)
+          (listed (K .spanned .part)) refl;
     };
     new = λ P. K .added (column-pivot-in limits s h P);
     support = λ i l ne nz. column-pivot-out limits s h (K .support i l ne (λ z. nz (empty limits s h (eq i l) z)));

@@ -177,7 +177,8 @@ module _ (limits : Limits) (s : System) (h : SystemWithin limits s) where
     unfolding side
     certifying = record {
       nonzero = denominator-nonzero p prime w (C .proper .certifyingDenominator) Z (H .certifyingNumerators) (C .lowest);
-      columns = λ j l. Vectors.polynomial-divides p prime W _ w _ ew (column-is limits s h ζ Z (λ i l. eZ i) j) (C .right .columns j l);
+      columns = λ j l. Vectors.polynomial-divides p prime W _ w _ ew (column-is limits s h ζ Z (λ i l. eZ i) j)
+          (C .right .columns j l);
       cofactor = R .add side (R .neg (R .mul t W));
       quotient = combination R W (R .mul D (R .add side (R .neg (R .mul t W)))) (given (R .neg (R .one)) inverts ∷ [])
           (identity R (D ∷ W ∷ side ∷ t ∷ []) (λ ρ q1 q2 q3 q4. search quotes depth 20) refl);

@@ -1,6 +1,6 @@
--- certificate-exists in document 01's values: every system within limits has a right certificate within them, the chosen one, where the
--- limit on certificates leaves room for it; the office's does, "degree 120 always suffices". There is only one such certificate,
--- whatever the limits, so it is a function of the system.
+-- certificate-exists in document 01's values: every system within limits has a right certificate within them, the chosen one, where
+-- the limit on certificates leaves room for it; the office's does, "degree 120 always suffices". There is only one such
+-- certificate, whatever the limits, so it is a function of the system.
 use Prim.Native.Nat.{ℕ, _*_, _<_, _≤_, min}
 use mathlib.Core.Path.{_≡_, refl}
 use mathlib.Core.Logic.{⊎-elim}
@@ -55,8 +55,8 @@ pub record ChosenCertificate (limits : Limits) (s : System) : Type 0 where
   pub within : CertificateWithin limits (shape s) certificate
   pub chosen : Chosen s certificate
 
--- a certificate whose kind and d answer the system: an absence where there is no solution, and a solution with the least denominator
--- where there is one
+-- a certificate whose kind and d answer the system: an absence where there is no solution, and a solution with the least
+-- denominator where there is one
 absence-of : (s : System) (c : Certificate) → Answers s (answerOf c) → ((M : List (List ℕ)) (e : List ℕ) → ¬ RationalSolution s M e)
     → (q : List (List ℕ)) × (c ≡ absence q)
 unfolding Answers answerOf
@@ -108,7 +108,8 @@ module _ (limits : Limits) (s : System) (h : SystemWithin limits s) where
     unsolvable C = record {
       certificate = absence (lists p prime (s .rows) (C .q));
       within = lists-within p prime (s .rows) (C .q) (small-absence-le E T le {q = C .q} (C .small));
-      chosen = absence-chosen limits s h _ (length-listed (s .rows) (λ i. listOf p prime (C .q i))) (lists-at p prime (s .rows) (C .q))
+      chosen = absence-chosen limits s h _ (length-listed (s .rows) (λ i. listOf p prime (C .q i)))
+          (lists-at p prime (s .rows) (C .q))
           (C .right) (C .killing) (C .monic);
     }
 

@@ -143,7 +143,14 @@ module _ (limits : Limits) (s : System) (h : SystemWithin limits s) where
       part = rw ec (Lists.list-canonical p prime c);
       inside = P .inside;
       nonzero = λ z. absurd (omega (arith, long (x i) (is i (P .inside)), ap length z, P .positive));
-      before = λ k g. omega (arith, pivot-length, long (x k) (is k (omega (arith, P .inside))), P .before k g, P .positive, P .reached);
+      before = λ k g. omega (
+        arith,
+        pivot-length,
+        long (x k) (is k (omega (arith, P .inside))),
+        P .before k g,
+        P .positive,
+        P .reached,
+      );
       longest = λ k g. omega (arith, pivot-length, long (x k) (is k g), P .all k g);
     }
 

@@ -100,7 +100,8 @@ module _ (s : System) (h : SystemWithin office s) {input : List ℕ} (L : System
   pub laid-read : systemInLanes (shape s) input ≡ s
   laid-read =
       ap₂ (λ A b. record { modulus = s .modulus; rows = s .rows; columns = s .columns; matrix = A; side = b })
-      (listed-is (s .rows * s .columns) (λ k. lanePolynomial (s .modulus) input (blockWords * (k % s .columns)) (k / s .columns)) (s .matrix)
+      (listed-is (s .rows * s .columns) (λ k. lanePolynomial (s .modulus) input (blockWords * (k % s .columns)) (k / s .columns))
+      (s .matrix)
       [] (h .matrix .count) entry-is)
       (listed-is (s .rows) (lanePolynomial (s .modulus) input (blockWords * s .columns)) (s .side) [] (h .side .count)
       (λ i row. lane-is (s .modulus) positive input (blockWords * s .columns) i (sideEntry s i) (sideEntry-within office s h i)
@@ -119,13 +120,15 @@ module _ (h : Shape) (within : ShapeWithin office h) (input : List ℕ) where
   module _ (area : SystemArea h input) where
     word : (b i e : ℕ) → e < blockDegrees → getD input (b + flat lanes i e) 0 ≡ getD (lanePolynomial (h .modulus) input b i) e 0
     word b i e small =
-        sym (lane-word (h .modulus) (prime-positive (h .modulus) (within .prime)) input b i e small (area .below (b + flat lanes i e)))
+        sym (lane-word (h .modulus) (prime-positive (h .modulus) (within .prime)) input b i e small
+        (area .below (b + flat lanes i e)))
 
     entry-read : (i j : ℕ) → i < h .rows → j < h .columns
         → entry (systemInLanes h input) i j ≡ lanePolynomial (h .modulus) input (blockWords * j) i
     entry-read i j row column =
         let some : 0 < h .columns = omega arith in
-        listed-at (h .rows * h .columns) (λ k. lanePolynomial (h .modulus) input (blockWords * (k % h .columns)) (k / h .columns)) []
+        listed-at (h .rows * h .columns) (λ k. lanePolynomial (h .modulus) input (blockWords * (k % h .columns)) (k / h .columns))
+        []
         (i * h .columns + j) (number-inside (h .rows) (h .columns) some i j row column)
         ∙ ap₂ (λ c r. lanePolynomial (h .modulus) input (blockWords * c) r) (column-of (h .rows) (h .columns) some i j column)
         (row-of (h .rows) (h .columns) some i j column)

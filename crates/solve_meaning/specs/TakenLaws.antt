@@ -48,7 +48,8 @@ module _ (p : ℕ) (positive : 0 < p) (output : List ℕ) where
   polynomial-within k = record {
     canonical = canonical-reduced p positive _;
     size = length-bound p _ mostCoefficients (canonical-reduced p positive _) (λ i h.
-        coefficient-reduced p positive _ i ∙ residue-same p (word-behind output (blockWords * k) mostCoefficients i h) ∙ zero-mod p);
+        coefficient-reduced p positive _ i ∙ residue-same p (word-behind output (blockWords * k) mostCoefficients i h)
+        ∙ zero-mod p);
   }
 
   all-taken : (k count : ℕ) → AllWithin p mostCoefficients (takenPolynomials p output k count)
@@ -76,22 +77,24 @@ module _ (p : ℕ) (prime : Prime p) (output : List ℕ) where
   F = residues p prime
 
   -- a polynomial that the area holds is the one taken from there
-  module _ (k : ℕ) (x : Polynomial (residues p prime)) (holds : HoldsAt p prime output k x) (small : size F x ≤ mostCoefficients) where
-    word-at : (n : ℕ) → Dec (n < mostCoefficients)
-        → getD (take mostCoefficients (drop (blockWords * k) output)) n 0 % p ≡ coefficient (modulo p) (listOf p prime x) n
-    unfolding reduce
-    word-at n (yes h) =
-        residue-same p (word-inside output (blockWords * k) mostCoefficients n h)
-        ∙ sym (list-coefficient p prime x n
-        ∙ ap (λ r. r .value) (holds .at n ∙ words-inside p prime output (blockWords * k) blockWords n (omega arith)))
-    word-at n (no h) =
-        residue-same p (word-behind output (blockWords * k) mostCoefficients n (omega arith))
-        ∙ zero-mod p
-        ∙ sym (coefficient-beyond p (listOf p prime x) n (omega (arith, list-length p prime x)))
+  module _ (k : ℕ) (x : Polynomial (residues p prime)) (holds : HoldsAt p prime output k x) (small : size F x ≤ mostCoefficients)
+    where
+      word-at : (n : ℕ) → Dec (n < mostCoefficients)
+          → getD (take mostCoefficients (drop (blockWords * k) output)) n 0 % p ≡ coefficient (modulo p) (listOf p prime x) n
+      unfolding reduce
+      word-at n (yes h) =
+          residue-same p (word-inside output (blockWords * k) mostCoefficients n h)
+          ∙ sym (list-coefficient p prime x n
+          ∙ ap (λ r. r .value) (holds .at n ∙ words-inside p prime output (blockWords * k) blockWords n (omega arith)))
+      word-at n (no h) =
+          residue-same p (word-behind output (blockWords * k) mostCoefficients n (omega arith))
+          ∙ zero-mod p
+          ∙ sym (coefficient-beyond p (listOf p prime x) n (omega (arith, list-length p prime x)))
 
-    pub taken-list : takenPolynomial p output k ≡ listOf p prime x
-    taken-list =
-        reduced-is p (prime-positive p prime) _ (listOf p prime x) (list-canonical p prime x) (λ n. word-at n (decLt n mostCoefficients))
+      pub taken-list : takenPolynomial p output k ≡ listOf p prime x
+      taken-list =
+          reduced-is p (prime-positive p prime) _ (listOf p prime x) (list-canonical p prime x)
+          (λ n. word-at n (decLt n mostCoefficients))
 
   -- several of them, polynomial k and those behind it
   pub taken-lists : (k count : ℕ) (x : ℕ → Polynomial F)

@@ -71,7 +71,8 @@ denominator-found {p} {n} {L} {M} {w} {count} done made = record {
 -- w, where the second system is laid out and its right side inserted
 pub laid-denominator : (p : ℕ) → Prime p → {n : ℕ} → n ≤ lanes → {L : Level} → ValidLevel p L → {T : Level} {b : List ℕ}
     → SecondLaid n L T b
-    → (found : Leading) → found .size ≡ length (polynomial p b 0 productWords) → found .value ≡ leading (modulo p) (polynomial p b 0 productWords)
+    → (found : Leading) → found .size ≡ length (polynomial p b 0 productWords)
+    → found .value ≡ leading (modulo p) (polynomial p b 0 productWords)
     → {w : List ℕ} {count : ℕ} → TailFound p (startingMemory T b found) w count → DenominatorFound p n L w count
 laid-denominator p prime small valid laid found size last tail =
     denominator-found (second-side-inserted p prime small valid laid found size last (tail .inserts)) (tail .monic)

@@ -26,16 +26,17 @@ pub record DividedSecond (p n : ℕ) (L : Level) (block quotients : List ℕ) : 
       → HoldsSlots p prime n (weights (polynomials (residues p prime)) n (greatest L n) U) slots
       (cleared (polynomials (residues p prime)) n (transposed (polynomials (residues p prime)) n (greatest L n) U))
 
-module _ {p n : ℕ} (small : n ≤ lanes) {L : Level} (valid : ValidLevel p L) {T : Level} {b : List ℕ} (laid : SecondLaid n L T b) where
-  pub laid-valid : ValidLevel p T
-  laid-valid = transposed-valid p (omega (arith, valid .below 0 (omega arith))) small valid (laid .slots)
+module _ {p n : ℕ} (small : n ≤ lanes) {L : Level} (valid : ValidLevel p L) {T : Level} {b : List ℕ} (laid : SecondLaid n L T b)
+  where
+    pub laid-valid : ValidLevel p T
+    laid-valid = transposed-valid p (omega (arith, valid .below 0 (omega arith))) small valid (laid .slots)
 
-  pub laid-divided : {block rest quotients : List ℕ} {left : ℕ} → BlockDivided p T block rest quotients left
-      → DividedSecond p n L block quotients
-  laid-divided {block} {rest} {quotients} {left} done = record {
-    slots = T;
-    rest = rest;
-    left = left;
-    divided = done;
-    holds = λ prime U holds. transposed-slots p prime small valid holds (laid .slots);
-  }
+    pub laid-divided : {block rest quotients : List ℕ} {left : ℕ} → BlockDivided p T block rest quotients left
+        → DividedSecond p n L block quotients
+    laid-divided {block} {rest} {quotients} {left} done = record {
+      slots = T;
+      rest = rest;
+      left = left;
+      divided = done;
+      holds = λ prime U holds. transposed-slots p prime small valid holds (laid .slots);
+    }

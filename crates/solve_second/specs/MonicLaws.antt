@@ -71,7 +71,8 @@ module _ {p : ℕ} (prime₀ : Prime p) (tail : List ℕ) (zero : ZeroFrom p tai
   found-most = found-within p positive tail tailWords mostCoefficients (omega arith) zero found found-is
 
   -- a tail that is zero
-  pub monic-empty : (out out′ : List ℕ) → length out ≡ blockWords → found ≡ 0 → out′ ≡ stored (λ j. 0) out 0 blockWords → MadeMonic p tail out′ 0
+  pub monic-empty : (out out′ : List ℕ) → length out ≡ blockWords → found ≡ 0 → out′ ≡ stored (λ j. 0) out 0 blockWords
+      → MadeMonic p tail out′ 0
   monic-empty out out′ length-is none clears = record {
     room = cleared-length blockWords out out′ clears ∙ length-is;
     below = λ i. omega (arith, clear i);
@@ -104,7 +105,8 @@ module _ {p : ℕ} (prime₀ : Prime p) (tail : List ℕ) (zero : ZeroFrom p tai
     value-below = subst (λ w. w < p) (sym last-is) (mod-lt (getD tail (found - 1) 0) positive)
 
     -- the words that count are stored over cleared ones
-    module _ (factor : ℕ) (factor-is : factor ≡ modulo p .inverse value) (out out₁ out′ : List ℕ) (length-is : length out ≡ blockWords)
+    module _ (factor : ℕ) (factor-is : factor ≡ modulo p .inverse value) (out out₁ out′ : List ℕ)
+        (length-is : length out ≡ blockWords)
         (clears : out₁ ≡ stored (λ j. 0) out 0 blockWords)
         (stores : out′ ≡ stored (λ j. modulo p .mul (getD tail j 0 % p) factor) out₁ 0 found) where
       room : length out₁ ≡ blockWords
@@ -192,10 +194,12 @@ module _ {p : ℕ} (prime₀ : Prime p) (tail : List ℕ) (zero : ZeroFrom p tai
                   → F .ring .mul (F .inverse (leading F x)) (coefficients F x j) ≡ words p prime out′ 0 blockWords j
               go j (yes lt) =
                   F .ring .mul-comm (F .inverse (leading F x)) (coefficients F x j)
-                  ∙ ap₂ (λ u v. F .ring .mul u (F .inverse v)) (A .at j ∙ words-first p prime tail tailWords j (omega arith)) leading-is
+                  ∙ ap₂ (λ u v. F .ring .mul u (F .inverse v)) (A .at j ∙ words-first p prime tail tailWords j (omega arith))
+                  leading-is
                   ∙ sym (words-inside p prime out′ 0 blockWords j lt ∙ quotient j lt)
               go j (no ge) =
-                  ap (F .ring .mul (F .inverse (leading F x))) (A .at j ∙ words-zero p prime tail 0 tailWords mostCoefficients zero j (omega arith))
+                  ap (F .ring .mul (F .inverse (leading F x))) (A .at j
+                  ∙ words-zero p prime tail 0 tailWords mostCoefficients zero j (omega arith))
                   ∙ mul-zero (F .ring) (F .inverse (leading F x))
                   ∙ sym (words-behind p prime out′ 0 blockWords j (omega arith))
 

@@ -131,7 +131,8 @@ module _ {p : ℕ} (prime₀ : Prime p) (h minus f : List ℕ) (n : ℕ) (s : Li
     room = ap length reduces ∙ length-stored (λ j. getD t₁ j 0 % p) t₁ 0 reach ∙ T .same-length ∙ whole;
     below = reduced-below prime₀ reach t₁ t′ reduces inside others;
     holds = λ prime x y A B.
-        let C = product-lane prime₀ 1 h minus f n s m blockWords t t₁ room (omega arith) whole clear stores T prime x A 0 (omega arith) y
+        let C = product-lane prime₀ 1 h minus f n s m blockWords t t₁ room (omega arith) whole clear stores T prime x A 0
+        (omega arith) y
         (record { at = λ e. B .at e ∙ ap (words p prime s 0 m) (sym (one-lane e)) }) in
         record {
           at = λ e.

@@ -14,18 +14,21 @@ use Rattle.solve_second.specs.ValidTransposed.{when-below}
 
 -- the word at x of the rows
 abbrev pub quotientWord : (l : List ℕ) (n x : ℕ) → ℕ
-quotientWord l n x = when (decLt (x / blockWords) n) (getD l (lanes * (x % blockWords) + (lastLane - reversed n (x / blockWords))) 0)
+quotientWord l n x = when (decLt (x / blockWords) n) (getD l (lanes * (x % blockWords) + (lastLane - reversed n (x / blockWords)))
+    0)
 
 module _ (l : List ℕ) (n x : ℕ) where
   quotient-beyond : ¬ (x / blockWords < n) → quotientWord l n x ≡ 0
   quotient-beyond out = when-no (decLt (x / blockWords) n) _ out
 
-  quotient-value : x / blockWords < n → quotientWord l n x ≡ getD l (lanes * (x % blockWords) + (lastLane - reversed n (x / blockWords))) 0
+  quotient-value : x / blockWords < n → quotientWord l n x ≡ getD l
+      (lanes * (x % blockWords) + (lastLane - reversed n (x / blockWords))) 0
   quotient-value inside = when-yes (decLt (x / blockWords) n) _ inside
 
 -- lane 7 - (n - 1 - k) is row k, and the rows from the n-th on are zero
 module _ (l : List ℕ) (n : ℕ) where
-  pub lane-row : (k e : ℕ) → k < n → e < blockWords → getD l (lanes * e + (lastLane - reversed n k)) 0 ≡ quotientWord l n (blockWords * k + e)
+  pub lane-row : (k e : ℕ) → k < n → e < blockWords → getD l (lanes * e + (lastLane - reversed n k)) 0 ≡ quotientWord l n
+      (blockWords * k + e)
   lane-row k e h lt =
       let y : ℕ = blockWords * k + e in
       let slot : y / blockWords ≡ k = omega arith in

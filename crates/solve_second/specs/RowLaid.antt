@@ -26,7 +26,8 @@ module _ (h : ℕ) (L : Level) (low-blocks : LowBlocks L) {n : ℕ} (small : n �
 
       go : Dec (0 < slotSize (withRow h L) (reversed n i)) → SideFilling (withRow h L) n o w′ (i + 1)
       go (yes some) = side-filling-lane (withRow h L) n i lane some small
-          (subst (λ m. m ≤ blockDegrees) (sym (same-greatest (row-blocks h L) low-blocks small)) (greatest-small L n small low-blocks))
+          (subst (λ m. m ≤ blockDegrees) (sym (same-greatest (row-blocks h L) low-blocks small))
+          (greatest-small L n small low-blocks))
           (omega (arith, low))
           (λ j ge lt. ends .zero (reversed n i) j (omega arith)
           (omega (arith, row-tail-size h L (reversed n i) (omega arith))) lt)

@@ -40,12 +40,15 @@ module _ {L L′ : Level} (same : SameLevelBlocks L L′) (low : LowBlocks L) {n
       ap (λ m. word L′ m (greatest L′ n) (lift L′ n (lastLane - x % lanes))) (same-size (x / slotWords))
       ∙ ap₂ (λ t l. word L′ (transposedSize L n (x / slotWords)) t l) same-greatest (same-lift (lastLane - x % lanes))
       ∙ ap (λ v. when (decLt 0 (transposedSize L n (x / slotWords))) (when (decLt (lastLane - x % lanes) n) v))
-      (when-same (decLt (x % slotWords) (lanes * greatest L n)) _ _ (λ inside. ap (when (decLe (lift L n (lastLane - x % lanes)) (x % slotWords / lanes)))
-      (same-block (reversed n (lastLane - x % lanes)) (reversed n (x / slotWords)) _ (omega arith) (omega (arith, greatest-small L n small low)))))
+      (when-same (decLt (x % slotWords) (lanes * greatest L n)) _ _
+      (λ inside. ap (when (decLe (lift L n (lastLane - x % lanes)) (x % slotWords / lanes)))
+      (same-block (reversed n (lastLane - x % lanes)) (reversed n (x / slotWords)) _ (omega arith)
+      (omega (arith, greatest-small L n small low)))))
     where
       word : (L : Level) (size t l : ℕ) → ℕ
       word L size t l = when (decLt 0 size) (when (decLt (lastLane - x % lanes) n) (when (decLt (x % slotWords) (lanes * t))
-          (when (decLe l (x % slotWords / lanes)) (blockWord L (reversed n (lastLane - x % lanes)) (reversed n (x / slotWords)) (x % slotWords / lanes - l)))))
+          (when (decLe l (x % slotWords / lanes)) (blockWord L (reversed n (lastLane - x % lanes)) (reversed n (x / slotWords))
+          (x % slotWords / lanes - l)))))
 
   pub same-laid : {T : Level} → SlotsLaid n L T → SlotsLaid n L′ T
   same-laid laid = record {

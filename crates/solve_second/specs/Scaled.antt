@@ -35,7 +35,8 @@ use Rattle.solve_second.specs.Denominator.{FoundDenominator, Denominator
 pub record SideScaled (p n : ℕ) (L : Level) (w : List ℕ) (count : ℕ) (out : List ℕ) : Type 0 where
   pub holds : (prime : Prime p) (U : Slots (Polynomial (residues p prime))) (x : Polynomial (residues p prime))
       → ValidLevel p L → HoldsSlots p prime n unweighted L U → Holds (residues p prime) (words p prime w 0 count) x
-      → Flat (residues p prime) n lanes (weights (polynomials (residues p prime)) n (greatest L n) U) (words p prime out 0 productWords)
+      → Flat (residues p prime) n lanes (weights (polynomials (residues p prime)) n (greatest L n) U)
+      (words p prime out 0 productWords)
       (λ i. polynomials (residues p prime) .mul x (secondSide (polynomials (residues p prime)) n (greatest L n) U i))
 
 -- an array of so many words up to the last that is not 0 holds a polynomial of that size

@@ -75,7 +75,8 @@ module _ (p : ℕ) (prime : Prime p) {n B D : ℕ} {U : Slots (Polynomial (resid
   pub divided-dual : {L : Level} {block block′ quotients : List ℕ} {left : ℕ}
       → HoldsSlots p prime n (weights (polynomials (residues p prime)) n D U) L (cleared (polynomials (residues p prime)) n
       (transposed (polynomials (residues p prime)) n D U))
-      → Flat (residues p prime) n lanes (weights (polynomials (residues p prime)) n D U) (words p prime block 0 productWords) scaledSide
+      → Flat (residues p prime) n lanes (weights (polynomials (residues p prime)) n D U) (words p prime block 0 productWords)
+      scaledSide
       → BlockDivided p L block block′ quotients left
       → HoldsDual p prime n B D U (polynomials (residues p prime) .mul (m .unit) (I .run .now .hand n)) quotients
   divided-dual {L} {block} {block′} {quotients} {left} slots flat done = record {

@@ -35,7 +35,8 @@ use Rattle.solve_second.specs.QuotientRows.{quotientWord, row-cell, rows
 module _ {p n : ℕ} (small : n ≤ lanes) {L : Level} (valid : ValidLevel p L) {w : List ℕ} {count : ℕ}
     (found : DenominatorFound p n L w count) {block : List ℕ} (scaled : SideScaled p n L w count block)
     {quotients : List ℕ} (divided : DividedSecond p n L block quotients) (o : List ℕ) (room : rowsWords ≤ length o)
-    (behind : (i : ℕ) → rowsWords ≤ i → getD o i 0 < p) (rows : List ℕ) (er : rows ≡ stored (quotientWord quotients n) o 0 rowsWords) where
+    (behind : (i : ℕ) → rowsWords ≤ i → getD o i 0 < p) (rows : List ℕ)
+    (er : rows ≡ stored (quotientWord quotients n) o 0 rowsWords) where
   -- a quotient of at most 121 coefficients is in the 128 words of its row
   row-holds : (prime : Prime p) (k : ℕ) → k < n → (y : Polynomial (residues p prime)) → size (residues p prime) y ≤ mostCoefficients
       → HoldsQuotient p prime quotients (back n k) y → Holds (residues p prime) (words p prime rows (blockWords * k) blockWords) y
@@ -49,7 +50,8 @@ module _ {p n : ℕ} (small : n ≤ lanes) {L : Level} (valid : ValidLevel p L) 
           ∙ sym (words-inside p prime rows (blockWords * k) blockWords e lt)
 
       far : (e : ℕ) → blockWords ≤ e → coefficients (residues p prime) y e ≡ words p prime rows (blockWords * k) blockWords e
-      far e ge = coefficients-beyond (residues p prime) y e (omega arith) ∙ sym (words-behind p prime rows (blockWords * k) blockWords e ge)
+      far e ge = coefficients-beyond (residues p prime) y e (omega arith)
+          ∙ sym (words-behind p prime rows (blockWords * k) blockWords e ge)
 
   module _ (prime : Prime p) (B : ℕ) (U : Slots (Polynomial (residues p prime))) (bound : B ≤ 120)
       (holds : HoldsSlots p prime n unweighted L U) (tops : Tops (sized (residues p prime)) n B blockDegrees U) where
@@ -63,7 +65,10 @@ module _ {p n : ℕ} (small : n ≤ lanes) {L : Level} (valid : ValidLevel p L) 
     x = polynomials (residues p prime) .mul (m .unit) (F .inserted .run .now .hand n)
 
     factor : Holds (residues p prime) (words p prime w 0 count) x
-    factor = record { at = λ e. F .holds .at e ∙ words-shorter p prime w 0 blockWords count (found .ends .within) (found .ends .behind) e }
+    factor = record {
+      at = λ e. F .holds .at e ∙ words-shorter p prime w 0 blockWords count (found .ends .within)
+          (found .ends .behind) e;
+    }
 
     D : HoldsDual p prime n B (greatest L n) U x quotients
     D = divided-dual p prime (tops-lower holds tops) (F .inserted) m (divided .holds prime U holds)

@@ -24,7 +24,8 @@ pub record TailsEnd (L : Level) : Type 0 where
 pub tails-end : {p : ℕ} {L : Level} → ValidLevel p L → TailsEnd L
 tails-end {p} {L} valid = record {
   short = λ q h. valid .slot q h .tail-within;
-  zero = λ q j h ge lt. sym (mod-eq-of-lt (valid .below (slotWords * q + blockWords + j) (omega arith))) ∙ valid .slot q h .tail j ge lt;
+  zero = λ q j h ge lt. sym (mod-eq-of-lt (valid .below (slotWords * q + blockWords + j) (omega arith)))
+      ∙ valid .slot q h .tail j ge lt;
 }
 
 -- a lane a turn
@@ -83,7 +84,8 @@ module _ (L : Level) (n : ℕ) {o w : List ℕ} where
         filling-skip so-far (i + 1) (omega arith) (λ x h low high. none-there L n i lane none x (omega arith))
 
     -- lane i: below the lift and behind the count it is 0
-    pub side-filling-lane : 0 < slotSize L (reversed n i) → n ≤ lanes → greatest L n ≤ blockDegrees → {count : ℕ} → count ≤ mostCoefficients
+    pub side-filling-lane : 0 < slotSize L (reversed n i) → n ≤ lanes → greatest L n ≤ blockDegrees → {count : ℕ}
+        → count ≤ mostCoefficients
         → ((j : ℕ) → count ≤ j → j < blockWords → tailWord L (reversed n i) j ≡ 0) → SideFilling L n o w i → {t : ℕ}
         → t ≡ greatest L n → {w′ : List ℕ} → Spread (λ e. tailWord L (reversed n i) e)
         (lastLane - i + lanes * (t - height (slotSize L (reversed n i)))) count w w′ → SideFilling L n o w′ (i + 1)
@@ -92,12 +94,14 @@ module _ (L : Level) (n : ℕ) {o w : List ℕ} where
         (ap (λ t. lastLane - i + lanes * (t - height (slotSize L (reversed n i)))) et) refl) places word
       where
         places : (e : ℕ) → e < count
-            → (lastLane - i + lanes * lift L n i + lanes * e < productWords) × (sideRank (lastLane - i + lanes * lift L n i + lanes * e) ≡ i)
+            → (lastLane - i + lanes * lift L n i + lanes * e < productWords)
+            × (sideRank (lastLane - i + lanes * lift L n i + lanes * e) ≡ i)
         places e lt = (omega arith, omega arith)
 
         word : (x : ℕ) → x < productWords → sideRank x ≡ i
             → LaneWord (sideWord L n) (λ e. tailWord L (reversed n i) e) (lastLane - i + lanes * lift L n i) count x
-        word x h here = go (decLt (x / lanes) (lift L n i)) (decLt (x / lanes - lift L n i) count) (decLt (x / lanes - lift L n i) blockWords)
+        word x h here = go (decLt (x / lanes) (lift L n i)) (decLt (x / lanes - lift L n i) count)
+            (decLt (x / lanes - lift L n i) blockWords)
           where
             go : Dec (x / lanes < lift L n i) → Dec (x / lanes - lift L n i < count) → Dec (x / lanes - lift L n i < blockWords)
                 → LaneWord (sideWord L n) (λ e. tailWord L (reversed n i) e) (lastLane - i + lanes * lift L n i) count x

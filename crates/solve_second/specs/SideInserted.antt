@@ -100,7 +100,8 @@ module _ (p : ℕ) (prime : Prime p) {n : ℕ} (small : n ≤ lanes) {L : Level}
   behind-none j h lt = absurd (omega arith)
 
   block-ends : Ends p b 0 productWords (found .size)
-  block-ends = found-ends p (positive p prime small valid laid) b productWords productWords (omega arith) behind-none (found .size) found-size
+  block-ends = found-ends p (positive p prime small valid laid) b productWords productWords (omega arith) behind-none
+      (found .size) found-size
 
   pub first-valid : Valid p (startingMemory T b found)
   first-valid = record {
@@ -110,7 +111,8 @@ module _ (p : ℕ) (prime : Prime p) {n : ℕ} (small : n ≤ lanes) {L : Level}
       degrees = omega (arith, laid .room, block-ends .within);
       tail-room = omega (arith, length-set {A = ℕ} (replicate tailWords 0) 0 1, length-replicate {A = ℕ} tailWords 0);
       block = block-ends;
-      leading = found-leading p (positive p prime small valid laid) b productWords productWords (omega arith) behind-none (found .size) found-size
+      leading = found-leading p (positive p prime small valid laid) b productWords productWords (omega arith) behind-none
+          (found .size) found-size
           (found .value) found-value;
       tail-within = omega arith;
       tail = λ j h lt. ap (λ w. w % p) (ap (λ i. getD tailOne i 0) (zero-add j) ∙ rest j (omega arith)) ∙ zero-mod p;
@@ -154,7 +156,8 @@ module _ (p : ℕ) (prime : Prime p) {n : ℕ} (small : n ≤ lanes) {L : Level}
       size = refl;
     }
       where
-        B : Flat (residues p prime) n lanes (weights (polynomials (residues p prime)) n (greatest L n) U) (words p prime b 0 productWords) g
+        B : Flat (residues p prime) n lanes (weights (polynomials (residues p prime)) n (greatest L n) U)
+            (words p prime b 0 productWords) g
         B = side-held p prime small valid holds laid
 
     -- some bound on the tails is always there: they have at most 121 coefficients
@@ -174,7 +177,8 @@ module _ (p : ℕ) (prime : Prime p) {n : ℕ} (small : n ≤ lanes) {L : Level}
 
         tail-size : (q : ℕ) → q < n → 0 < U .size q → size (residues p prime) (U .at q n) ≤ mostCoefficients
         tail-size q h f = holds-size (residues p prime) (holds .vector q h f .tail) mostCoefficients
-            (λ j l. words-zero p prime L (slotWords * q + blockWords) blockWords (tailSize L q) (valid .slot q (omega arith) .tail) j
+            (λ j l. words-zero p prime L (slotWords * q + blockWords) blockWords (tailSize L q) (valid .slot q (omega arith) .tail)
+            j
             (omega (arith, valid .slot q (omega arith) .tail-within)))
 
     abbrev ω : ℕ → ℕ
@@ -197,8 +201,10 @@ module _ (p : ℕ) (prime : Prime p) {n : ℕ} (small : n ≤ lanes) {L : Level}
     pub side-ends : {M′ : Memory} → Inserts p (startingMemory T b found) M′ → InsertedSide p prime n (greatest L n) U M′
     side-ends done = ended (inserts-inserted p prime done first-holds)
 
-pub second-side-inserted : (p : ℕ) → Prime p → {n : ℕ} → n ≤ lanes → {L : Level} → ValidLevel p L → {T : Level} {b : List ℕ} → SecondLaid n L T b
-    → (found : Leading) → found .size ≡ length (polynomial p b 0 productWords) → found .value ≡ leading (modulo p) (polynomial p b 0 productWords)
+pub second-side-inserted : (p : ℕ) → Prime p → {n : ℕ} → n ≤ lanes → {L : Level} → ValidLevel p L → {T : Level} {b : List ℕ}
+    → SecondLaid n L T b
+    → (found : Leading) → found .size ≡ length (polynomial p b 0 productWords)
+    → found .value ≡ leading (modulo p) (polynomial p b 0 productWords)
     → {M′ : Memory} → Inserts p (startingMemory T b found) M′ → SideInserted p n L M′
 second-side-inserted p prime small valid laid found found-size found-value done = record {
   valid = done .valid;

@@ -59,11 +59,13 @@ place-turn x k i d hi hd place =
     let lane : x % lanes ≡ lastLane - i = omega arith in
     omega arith
 
-past-lane : (x k i l e : ℕ) → i < lanes → l + e < 32 → l + e < x % slotWords / lanes → ¬ (x ≡ slotWords * k + (lastLane - i) + lanes * l + lanes * e)
+past-lane : (x k i l e : ℕ) → i < lanes → l + e < 32 → l + e < x % slotWords / lanes
+    → ¬ (x ≡ slotWords * k + (lastLane - i) + lanes * l + lanes * e)
 past-lane x k i l e hi small past same = omega arith
 
 module _ (L : Level) (n : ℕ) where
-  filled : (k : ℕ) → k < n → n ≤ lanes → 0 < slotSize L (reversed n k) → (x : ℕ) → x / slotWords ≡ k → 0 < transposedSize L n (x / slotWords)
+  filled : (k : ℕ) → k < n → n ≤ lanes → 0 < slotSize L (reversed n k) → (x : ℕ) → x / slotWords ≡ k
+      → 0 < transposedSize L n (x / slotWords)
   filled k slot small some x here = subst (λ q. 0 < transposedSize L n q) (sym here)
       (omega (arith, size-filled L n k slot some, greatest-positive L n (reversed n k) (omega arith) some))
 
@@ -80,7 +82,8 @@ module _ (L : Level) (n : ℕ) where
     where
       rest : (x : ℕ) → x < sizesFrom → lanes * n ≤ transposeRank x → transposeRank x < 64 → transposedWord L n x ≡ 0
       rest x h low high = transposed-beyond L n x
-          (λ (g : 0 < transposedSize L n (x / slotWords)). omega (arith, size-beyond L n (x / slotWords) (λ (l : x / slotWords < n). omega arith)))
+          (λ (g : 0 < transposedSize L n (x / slotWords)). omega
+          (arith, size-beyond L n (x / slotWords) (λ (l : x / slotWords < n). omega arith)))
 
       size : (k : ℕ) (d : Dec (k < n)) → when d (transposedSize L n k) ≡ transposedSize L n k
       size k (yes l) = when-yes (yes l) (transposedSize L n k) l
@@ -122,7 +125,8 @@ module _ (L : Level) (n : ℕ) where
 
     module _ (some : 0 < slotSize L (reversed n k)) (small : n ≤ lanes) where
       -- slot k is filled: the lanes from n on are 0, and its size and its inverse are stored
-      module _ {T w : Level} (so-far : SlotsSoFar L n T k) (transposing : Transposing L n T w (lanes * k + n)) {t : ℕ} (et : t ≡ greatest L n)
+      module _ {T w : Level} (so-far : SlotsSoFar L n T k) (transposing : Transposing L n T w (lanes * k + n)) {t : ℕ}
+          (et : t ≡ greatest L n)
           {i : ℕ} (ei : i ≡ slotInverse L (reversed n k)) where
         abbrev w₁ : Level
         w₁ = set w (sizesFrom + k) (lanes * t - k)
@@ -139,7 +143,8 @@ module _ (L : Level) (n : ℕ) where
         kept : (x : ℕ) → sizesFrom ≤ x → ¬ (x ≡ sizesFrom + k) → ¬ (x ≡ inversesFrom + k) → getD T′ x 0 ≡ getD T x 0
         kept x ge a b = other x a b ∙ transposing .beyond x ge
 
-        rest : (x : ℕ) → x < sizesFrom → lanes * k + n ≤ transposeRank x → transposeRank x < lanes * (k + 1) → transposedWord L n x ≡ 0
+        rest : (x : ℕ) → x < sizesFrom → lanes * k + n ≤ transposeRank x → transposeRank x < lanes * (k + 1)
+            → transposedWord L n x ≡ 0
         rest x h low high =
             let at : x / slotWords ≡ k = omega arith in
             transposed-beside L n x (filled L n k slot small some x at) (λ (g : lastLane - x % lanes < n). omega arith)
@@ -155,7 +160,8 @@ module _ (L : Level) (n : ℕ) where
             (reversed n j)
         inverse j h filled-there (yes e) =
             ap (slotInverse T′) e
-            ∙ getD-set-same w₁ (inversesFrom + k) i 0 (omega (arith, length-set w (sizesFrom + k) (lanes * t - k), transposing .same-length, so-far .room))
+            ∙ getD-set-same w₁ (inversesFrom + k) i 0 (omega
+            (arith, length-set w (sizesFrom + k) (lanes * t - k), transposing .same-length, so-far .room))
             ∙ ei ∙ ap (λ m. slotInverse L (reversed n m)) (sym e)
         inverse j h filled-there (no e) = kept (inversesFrom + j) (omega arith) (λ f. omega arith) (λ f. omega arith)
             ∙ so-far .inverses j (omega arith) filled-there
@@ -177,9 +183,11 @@ module _ (L : Level) (n : ℕ) where
         }
 
       -- lane i: below the lift and in the tail it is 0
-      pub transposing-lane : greatest L n ≤ blockDegrees → (i : ℕ) → i < n → {o w : List ℕ} → Transposing L n o w (lanes * k + i) → {top : ℕ}
+      pub transposing-lane : greatest L n ≤ blockDegrees → (i : ℕ) → i < n → {o w : List ℕ} → Transposing L n o w (lanes * k + i)
+          → {top : ℕ}
           → top ≡ greatest L n → {w′ : List ℕ} → Spread (λ e. blockWord L (reversed n i) (reversed n k) e)
-          (slotWords * k + (lastLane - i) + lanes * (top - height (slotSize L (reversed n i)))) (height (slotSize L (reversed n i))) w w′
+          (slotWords * k + (lastLane - i) + lanes * (top - height (slotSize L (reversed n i))))
+          (height (slotSize L (reversed n i))) w w′
           → Transposing L n o w′ (lanes * k + (i + 1))
       transposing-lane small-top i lane {o} so-far et {w′} spread =
           subst (Filling transposeRank (transposedWord L n) sizesFrom o w′) (omega arith)
@@ -220,11 +228,13 @@ module _ (L : Level) (n : ℕ) where
               go (yes low) d = left-out (λ e lt same. omega (arith, at, here))
                   (transposed-low L n x some-there (omega (arith, here)) (omega arith)
                   (λ (g : lift L n (lastLane - x % lanes) ≤ x % slotWords / lanes). omega (arith, ap (lift L n) here)))
-              go (no from) (yes below) = stored-at (x % slotWords / lanes - lift L n i) (omega (arith, high)) (omega (arith, at, here))
+              go (no from) (yes below) = stored-at (x % slotWords / lanes - lift L n i) (omega (arith, high))
+                  (omega (arith, at, here))
                   (transposed-value L n x some-there (omega (arith, here)) (omega arith)
                   (subst (λ j. lift L n j ≤ x % slotWords / lanes) (sym here) (omega arith))
                   ∙ ap (λ j. blockWord L (reversed n j) (reversed n (x / slotWords)) (x % slotWords / lanes - lift L n j)) here
                   ∙ ap (λ m. blockWord L (reversed n i) (reversed n m) (x % slotWords / lanes - lift L n i)) at)
               go (no from) (no past) =
                   left-out (λ e lt same. past-lane x k i (lift L n i) e (omega arith) (within e lt) (beyond e lt past) same)
-                  (transposed-tail L n x some-there (omega (arith, here)) (λ (g : x % slotWords < lanes * greatest L n). omega arith))
+                  (transposed-tail L n x some-there (omega (arith, here))
+                  (λ (g : x % slotWords < lanes * greatest L n). omega arith))

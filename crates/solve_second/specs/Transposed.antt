@@ -60,7 +60,8 @@ module _ (p : ℕ) (prime : Prime p) where
     -- coordinate r of slot q of the level, with no weight
     lane-of : (q r : ℕ) → q < n → r < n → 0 < U .size q
         → Holds (residues p prime) (λ e. words p prime L (slotWords * q) blockWords (flat lanes r e)) (U .at q r)
-    lane-of q r h l f = subst (Holds F (λ e. words p prime L (slotWords * q) blockWords (flat lanes r e))) (shift-zero F (U .at q r))
+    lane-of q r h l f = subst (Holds F (λ e. words p prime L (slotWords * q) blockWords (flat lanes r e)))
+        (shift-zero F (U .at q r))
         (holds .vector q h f .block .lane r l)
 
     module _ {T : Level} (laid : SlotsLaid n L T) where
@@ -69,7 +70,8 @@ module _ (p : ℕ) (prime : Prime p) where
             → words p prime T (slotWords * k) blockWords (flat lanes i e) ≡ residues p prime .ring .zero
         cell-zero i e l g = zero-inside T (slotWords * k) blockWords (flat lanes i e) (λ lt. g (omega arith))
 
-        cell-past : (i e : ℕ) → i < lanes → greatest L n ≤ e → words p prime T (slotWords * k) blockWords (flat lanes i e) ≡ residues p prime .ring .zero
+        cell-past : (i e : ℕ) → i < lanes → greatest L n ≤ e
+            → words p prime T (slotWords * k) blockWords (flat lanes i e) ≡ residues p prime .ring .zero
         cell-past i e l past = zero-inside T (slotWords * k) blockWords (flat lanes i e)
             (λ lt. cell-behind L n laid k (flat lanes i e) (omega arith) (omega arith) (omega arith))
 
@@ -88,7 +90,8 @@ module _ (p : ℕ) (prime : Prime p) where
             high = greatest-high L n (back n i) (omega arith)
 
             go : Dec (ω i + j < greatest L n)
-                → words p prime L (slotWords * back n i) blockWords (flat lanes (back n k) j) ≡ words p prime T (slotWords * k) blockWords (flat lanes i (ω i + j))
+                → words p prime L (slotWords * back n i) blockWords (flat lanes (back n k) j) ≡ words p prime T
+                (slotWords * k) blockWords (flat lanes i (ω i + j))
             go (yes lt) =
                 let less : j < blockDegrees = omega (arith, top-low) in
                 let same : ω i + j - weight L n i ≡ j = omega (arith, weight-is i l) in
@@ -132,7 +135,8 @@ module _ (p : ℕ) (prime : Prime p) where
             beside = λ i e out l. cell-zero i e l (λ lt. cell-beside L n laid k i e (omega arith) l lt f out);
           };
           tail = subst (Holds F _) (sym (extend-at n (C .at k) (polynomials F .zero)))
-              (none-held p prime (λ j. zero-inside T (slotWords * k + blockWords) blockWords j (λ lt. cell-tail L n top-low laid k j (omega arith) lt)));
+              (none-held p prime (λ j. zero-inside T (slotWords * k + blockWords) blockWords j
+              (λ lt. cell-tail L n top-low laid k j (omega arith) lt)));
         }
           where
             C : Slots (Polynomial (residues p prime))
@@ -180,14 +184,16 @@ module _ (p : ℕ) (prime : Prime p) where
         filled f = omega (arith, size-of i l)
 
         lifted-tail : 0 < U .size (back n i) → (j : ℕ)
-            → words p prime L (slotWords * back n i + blockWords) blockWords j ≡ words p prime b 0 productWords (flat lanes i (ω i + j))
+            → words p prime L (slotWords * back n i + blockWords) blockWords j ≡ words p prime b 0 productWords
+            (flat lanes i (ω i + j))
         lifted-tail f j = go (decLt (ω i + j) productDegrees) (decLt j blockWords)
           where
             same : ω i + j - weight L n i ≡ j
             same = omega (arith, weight-is i l)
 
             go : Dec (ω i + j < productDegrees) → Dec (j < blockWords)
-                → words p prime L (slotWords * back n i + blockWords) blockWords j ≡ words p prime b 0 productWords (flat lanes i (ω i + j))
+                → words p prime L (slotWords * back n i + blockWords) blockWords j ≡ words p prime b 0 productWords
+                (flat lanes i (ω i + j))
             go (yes lt) (yes near) =
                 words-inside p prime L (slotWords * back n i + blockWords) blockWords j near
                 ∙ ap (λ m. residue p prime (getD L (slotWords * back n i + blockWords + m) 0)) (sym same)

@@ -183,7 +183,8 @@ module _ (p : ℕ) (positive : 0 < p) {n : ℕ} (small : n ≤ lanes) {L : Level
   }
 
 -- and the words of the right side are residues
-module _ (p : ℕ) {n : ℕ} (small : n ≤ lanes) {L : Level} (valid : ValidLevel p L) {T : Level} {b : List ℕ} (laid : SecondLaid n L T b) where
+module _ (p : ℕ) {n : ℕ} (small : n ≤ lanes) {L : Level} (valid : ValidLevel p L) {T : Level} {b : List ℕ}
+    (laid : SecondLaid n L T b) where
   positive : 0 < p
   positive = omega (arith, valid .below 0 (omega arith))
 

@@ -19,7 +19,8 @@ use Rattle.solve_lattice.specs.Word.{residue, words, words-inside, words-behind
 use Rattle.solve_lattice.specs.Memory.{height, ZeroFrom, Level, slotSize, tailSize, ValidSlot, ValidLevel}
 use Rattle.solve_lattice.specs.Holding.{HoldsSlots}
 use Rattle.solve_lattice.specs.Range.{words-zero}
-use Rattle.solve_lattice.specs.Room.{levelWords, inversesFrom, tailSizesFrom, sizesFrom, blockWords, slotWords, blockDegrees, lanes, lastLane}
+use Rattle.solve_lattice.specs.Room.{levelWords, inversesFrom, tailSizesFrom, sizesFrom, blockWords, slotWords, blockDegrees, lanes}
+use Rattle.solve_lattice.specs.Room.{lastLane}
 use Rattle.solve_second.specs.Words.{either, either-yes, either-no, when, when-yes, when-no, blockWord}
 use Rattle.solve_second.specs.ValidTransposed.{when-below}
 use Rattle.solve_second.specs.Same.{SameLevelBlocks}
@@ -35,7 +36,8 @@ rowedWord L h x = either (decLt (x % slotWords) blockWords) (getD L x 0) (rowWor
 
 -- the words behind them: sizes, sizes of tails and inverses; a row is as long as its block is high
 abbrev rowedNumber : Level → ℕ → ℕ
-rowedNumber L x = either (decLt x tailSizesFrom) (getD L x 0) (either (decLt x inversesFrom) (height (slotSize L (x - tailSizesFrom))) (getD L x 0))
+rowedNumber L x = either (decLt x tailSizesFrom) (getD L x 0)
+    (either (decLt x inversesFrom) (height (slotSize L (x - tailSizesFrom))) (getD L x 0))
 
 unfoldable pub withRow : ℕ → Level → Level
 withRow h L = stored (λ x. either (decLt x sizesFrom) (rowedWord L h x) (rowedNumber L x)) (replicate levelWords 0) 0 levelWords
@@ -69,8 +71,10 @@ module _ (h : ℕ) (L : Level) where
 
   pub row-blocks : SameLevelBlocks L (withRow h L)
   row-blocks = record {
-    words = λ q j l lt. rowed-word (slotWords * q + j) (omega arith) ∙ either-yes (decLt ((slotWords * q + j) % slotWords) blockWords) _ _ (omega arith);
-    sizes = λ q l. rowed-number (sizesFrom + q) (omega arith) (omega arith) ∙ either-yes (decLt (sizesFrom + q) tailSizesFrom) _ _ (omega arith);
+    words = λ q j l lt. rowed-word (slotWords * q + j) (omega arith)
+        ∙ either-yes (decLt ((slotWords * q + j) % slotWords) blockWords) _ _ (omega arith);
+    sizes = λ q l. rowed-number (sizesFrom + q) (omega arith) (omega arith)
+        ∙ either-yes (decLt (sizesFrom + q) tailSizesFrom) _ _ (omega arith);
     inverses = λ q l.
         rowed-number (inversesFrom + q) (omega arith) (omega arith)
         ∙ either-no (decLt (inversesFrom + q) tailSizesFrom) _ _ (λ (g : inversesFrom + q < tailSizesFrom). omega arith)
@@ -81,14 +85,19 @@ module _ (h : ℕ) (L : Level) where
   unfolding withRow
   row-length = length-stored _ (replicate levelWords 0) 0 levelWords ∙ length-replicate {A = ℕ} levelWords 0
 
-  row-below : (p : ℕ) → h < lanes → ((i : ℕ) → i < sizesFrom → getD L i 0 < p) → (i : ℕ) → i < sizesFrom → getD (withRow h L) i 0 < p
+  row-below : (p : ℕ) → h < lanes → ((i : ℕ) → i < sizesFrom → getD L i 0 < p) → (i : ℕ) → i < sizesFrom
+      → getD (withRow h L) i 0 < p
   row-below p lane small i lt = subst (λ w. w < p) (sym (rowed-word i lt)) (word (decLt (i % slotWords) blockWords))
     where
-      word : (d : Dec (i % slotWords < blockWords)) → either d (getD L i 0) (rowWord L h (i / slotWords) (i % slotWords - blockWords)) < p
+      word : (d : Dec (i % slotWords < blockWords)) → either d (getD L i 0)
+          (rowWord L h (i / slotWords) (i % slotWords - blockWords)) < p
       word (yes l) =
-          subst (λ w. w < p) (sym (either-yes (yes l) (getD L i 0) (rowWord L h (i / slotWords) (i % slotWords - blockWords)) l)) (small i lt)
-      word (no l) = subst (λ w. w < p) (sym (either-no (no l) (getD L i 0) (rowWord L h (i / slotWords) (i % slotWords - blockWords)) l))
-          (when-below p (omega (arith, small 0 (omega arith))) (decLt (i % slotWords - blockWords) blockDegrees) _ (λ near. small _ (omega arith)))
+          subst (λ w. w < p) (sym (either-yes (yes l) (getD L i 0) (rowWord L h (i / slotWords) (i % slotWords - blockWords)) l))
+          (small i lt)
+      word (no l) = subst (λ w. w < p) (sym (either-no (no l) (getD L i 0)
+          (rowWord L h (i / slotWords) (i % slotWords - blockWords)) l))
+          (when-below p (omega (arith, small 0 (omega arith))) (decLt (i % slotWords - blockWords) blockDegrees) _
+          (λ near. small _ (omega arith)))
 
 -- behind the height of a block its rows are 0
 row-behind : {p : ℕ} {L : Level} → ValidLevel p L → (h q j : ℕ) → q < lanes → height (slotSize L q) ≤ j
@@ -123,10 +132,12 @@ module _ (h : ℕ) {p : ℕ} {L : Level} (valid : ValidLevel p L) where
     module _ (q : ℕ) (l : q < n) (f : 0 < U .size q) where
       far-zero : ZeroFrom p L′ (slotWords * q + blockWords) blockWords blockDegrees
       far-zero j ge lt =
-          ap (λ w. w % p) (tails q j (omega arith) lt ∙ when-no (decLt j blockDegrees) _ (λ (less : j < blockDegrees). omega arith)) ∙ zero-mod p
+          ap (λ w. w % p) (tails q j (omega arith) lt ∙ when-no (decLt j blockDegrees) _
+          (λ (less : j < blockDegrees). omega arith)) ∙ zero-mod p
 
       -- lane 7 - h of the block, and the tail
-      lane-word : (e : ℕ) → words p prime L (slotWords * q) blockWords (flat lanes h e) ≡ words p prime L′ (slotWords * q + blockWords) blockWords e
+      lane-word : (e : ℕ) → words p prime L (slotWords * q) blockWords (flat lanes h e) ≡ words p prime L′
+          (slotWords * q + blockWords) blockWords e
       lane-word e =
           ⊎-elim
           (λ near.

@@ -72,11 +72,13 @@ transposedWord L n x =
     (when (decLt (lastLane - x % lanes) n)
     (when (decLt (x % slotWords) (lanes * greatest L n))
     (when (decLe (lift L n (lastLane - x % lanes)) (x % slotWords / lanes))
-    (blockWord L (reversed n (lastLane - x % lanes)) (reversed n (x / slotWords)) (x % slotWords / lanes - lift L n (lastLane - x % lanes))))))
+    (blockWord L (reversed n (lastLane - x % lanes)) (reversed n (x / slotWords))
+    (x % slotWords / lanes - lift L n (lastLane - x % lanes))))))
 
 module _ (L : Level) (n x : ℕ) where
   abbrev value : ℕ
-  value = blockWord L (reversed n (lastLane - x % lanes)) (reversed n (x / slotWords)) (x % slotWords / lanes - lift L n (lastLane - x % lanes))
+  value = blockWord L (reversed n (lastLane - x % lanes)) (reversed n (x / slotWords))
+      (x % slotWords / lanes - lift L n (lastLane - x % lanes))
 
   abbrev lifted : Dec (lift L n (lastLane - x % lanes) ≤ x % slotWords / lanes)
   lifted = decLe (lift L n (lastLane - x % lanes)) (x % slotWords / lanes)
@@ -86,7 +88,8 @@ module _ (L : Level) (n x : ℕ) where
 
   module _ (slot : 0 < transposedSize L n (x / slotWords)) where
     pub transposed-beside : ¬ (lastLane - x % lanes < n) → transposedWord L n x ≡ 0
-    transposed-beside out = when-yes (decLt 0 (transposedSize L n (x / slotWords))) _ slot ∙ when-no (decLt (lastLane - x % lanes) n) _ out
+    transposed-beside out = when-yes (decLt 0 (transposedSize L n (x / slotWords))) _ slot
+        ∙ when-no (decLt (lastLane - x % lanes) n) _ out
 
     module _ (lane : lastLane - x % lanes < n) where
       inside : (v : ℕ) → when (decLt 0 (transposedSize L n (x / slotWords))) (when (decLt (lastLane - x % lanes) n) v) ≡ v
@@ -101,9 +104,11 @@ module _ (L : Level) (n x : ℕ) where
             inside _ ∙ when-yes (decLt (x % slotWords) (lanes * greatest L n)) (when lifted value) block ∙ when-no lifted value out
 
         pub transposed-value : lift L n (lastLane - x % lanes) ≤ x % slotWords / lanes → transposedWord L n x
-            ≡ blockWord L (reversed n (lastLane - x % lanes)) (reversed n (x / slotWords)) (x % slotWords / lanes - lift L n (lastLane - x % lanes))
+            ≡ blockWord L (reversed n (lastLane - x % lanes)) (reversed n (x / slotWords))
+            (x % slotWords / lanes - lift L n (lastLane - x % lanes))
         transposed-value here =
-            inside _ ∙ when-yes (decLt (x % slotWords) (lanes * greatest L n)) (when lifted value) block ∙ when-yes lifted value here
+            inside _ ∙ when-yes (decLt (x % slotWords) (lanes * greatest L n)) (when lifted value) block
+            ∙ when-yes lifted value here
 
 -- coefficient e of the tail of slot q
 abbrev pub tailWord : Level → (q e : ℕ) → ℕ

@@ -39,20 +39,23 @@ module _ (ws entry exit : List ℕ) (answer : Outcome ℕ) (solves : Solves offi
   pub was-solved : {count : ℕ} → answer ≡ accepted count
       → (s : System) × (readSystem office ws ≡ accepted s) × Gives office certificateWords s entry exit count
   was-solved {count} a =
-      solved-gives office certificateWords (longestCertificate office) (length entry) (readSystem office ws) entry exit answer solves count a
+      solved-gives office certificateWords (longestCertificate office) (length entry) (readSystem office ws) entry exit answer
+      solves count a
 
   pub was-refused : longestCertificate office ≤ length entry → {number place : ℕ} → answer ≡ refused number place
       → readSystem office ws ≡ refused number place
   unfolding SolvesOr
   was-refused room {number} {place} a = by (readSystem office ws) solves
     where
-      same : {n k : ℕ} → _≡_ {A = Outcome ℕ} (refused n k) (refused number place) → _≡_ {A = Outcome System} (refused n k) (refused number place)
+      same : {n k : ℕ} → _≡_ {A = Outcome ℕ} (refused n k) (refused number place)
+          → _≡_ {A = Outcome System} (refused n k) (refused number place)
       same {n} {k} e =
           let en : n ≡ number = cc in
           let ek : k ≡ place = cc in
           ap₂ refused en ek
 
-      by : (o : Outcome System) → SolvesOr office certificateWords (withRoom (longestCertificate office) (length entry) o) entry exit answer
+      by : (o : Outcome System) → SolvesOr office certificateWords (withRoom (longestCertificate office) (length entry) o) entry
+          exit answer
           → o ≡ refused number place
       by (refused n k) h = let told = sym (h .0) ∙ a in same told
       by (accepted s) h =

@@ -38,7 +38,8 @@ module _ (longest : ℕ) (write : Certificate → List ℕ) (entry exit : List �
     pub solves-short : length entry < longest → answer ≡ refused 11 0 → exit ≡ entry
         → SolvesOr office write (withRoom longest (length entry) read) entry exit answer
     unfolding SolvesOr
-    solves-short lt a x = by-outcome (refused 11 0) (ap (withRoom longest (length entry)) e ∙ room-short longest (length entry) lt s) (a, x)
+    solves-short lt a x = by-outcome (refused 11 0) (ap (withRoom longest (length entry)) e
+        ∙ room-short longest (length entry) lt s) (a, x)
 
     pub solves-given : longest ≤ length entry → (count : ℕ) → answer ≡ accepted count → Gives office write s entry exit count
         → SolvesOr office write (withRoom longest (length entry) read) entry exit answer

@@ -18,7 +18,8 @@ use Rattle.solver.proofs.CertifiedWords.{same-shape}
 module _ {h : Shape} {ws : List ℕ} (R : Read h ws) (output : List ℕ) (solved : Bool)
     (certified : CertifiedRead (readSystem office ws) output solved) where
   pub output-valid : ValidOutput (h .modulus) output
-  output-valid = subst (λ (g : Shape). ValidOutput (g .modulus) output) (sym (R .same-shape)) (certified-at (R .read) certified .valid)
+  output-valid = subst (λ (g : Shape). ValidOutput (g .modulus) output) (sym (R .same-shape))
+      (certified-at (R .read) certified .valid)
 
   pub gives : {form : Form} → form ≡ formWhen solved → (entry exit : List ℕ) (count : ℕ)
       → Wrote (certificateWords (takenCertificate h form output)) entry exit count

@@ -43,7 +43,8 @@ module _ (limits : Limits) (fit : LimitsFit limits) (file entry exit : List ℕ)
       omega (arith, G .same-count, length-bytesOf (certificateWords c), words)
 
   by-system : (o : Outcome System) → fileToSolve limits (length entry) file ≡ o
-      → SolvesOr limits certificateBytes o entry exit answer → AnswerMost (4 * longestCertificate limits) (longestSystem limits) answer
+      → SolvesOr limits certificateBytes o entry exit answer
+      → AnswerMost (4 * longestCertificate limits) (longestSystem limits) answer
   unfolding SolvesOr
   by-system (refused number place) e h =
       let most = room-place (longestSystem limits) (4 * longestCertificate limits) (length entry) (readSystemFile limits file)

@@ -57,7 +57,8 @@ pub record Call : Type 0 where
 
 -- x is a call on what was read, with a certificate's written form and its greatest length
 abbrev pub CallOn : Limits → Outcome System → (Certificate → List ℕ) → ℕ → Call → Type 0
-CallOn limits read write longest x = SolvesOr limits write (withRoom longest (length (x .entry)) read) (x .entry) (x .exit) (x .answer)
+CallOn limits read write longest x = SolvesOr limits write (withRoom longest (length (x .entry)) read) (x .entry) (x .exit)
+    (x .answer)
 
 -- ---- on what was read, from words, from a file, or otherwise
 
@@ -113,7 +114,8 @@ module _ (limits : Limits) {read read₁ : Outcome System} (same : read ≡ read
     pub one-answer : (x y : Call) → longest ≤ length (x .entry) → longest ≤ length (y .entry)
         → CallOn limits read write longest x → CallOn limits read₁ write longest y → x .answer ≡ y .answer
     one-answer x y room room₁ h h₁ = outcome-same limits write read within
-        (subst (λ o. SolvesOr limits write o (x .entry) (x .exit) (x .answer)) (room-enough longest (length (x .entry)) room read) h)
+        (subst (λ o. SolvesOr limits write o (x .entry) (x .exit) (x .answer)) (room-enough longest (length (x .entry)) room read)
+        h)
         (subst (λ o. SolvesOr limits write o (y .entry) (y .exit) (y .answer))
         (room-enough longest (length (y .entry)) room₁ read₁ ∙ sym same) h₁) .0
 

@@ -50,7 +50,8 @@ module _ (p : ℕ) (output : List ℕ) (below : AllBelow p output) where
     word-same i =
         let most = size-most output (blockWords * k) 121 in
         ⊎-elim
-        (λ lt. word-inside output (blockWords * k) 121 i (omega arith) ∙ sym (getD-numbersFrom output (blockWords * k) (sizeIn output k) i lt))
+        (λ lt. word-inside output (blockWords * k) 121 i (omega arith)
+        ∙ sym (getD-numbersFrom output (blockWords * k) (sizeIn output k) i lt))
         (λ ge.
         ⊎-elim
         (λ lt. word-inside output (blockWords * k) 121 i lt ∙ size-behind output (blockWords * k) 121 i ge lt)

@@ -25,10 +25,12 @@ use Rattle.words.specs.RowLaws.{by-accepted, by-row, by-followed}
 use Rattle.solver.specs.Solving.{withRoom, certificateBytes, SolvesOr, Solves, SolvesFile}
 
 -- "The solver reads the sheet, then looks at 11."
-pub data RoomLast (Refused : (number place : ℕ) → Type 0) (IsSystem : System → Type 0) (longest lent number place : ℕ) : Type 0 where
-  by-reading : Refused number place → RoomLast Refused IsSystem longest lent number place
-  -- "11: fewer words lent than the longest card has; 0"
-  no-room : (s : System) → IsSystem s → lent < longest → number ≡ 11 → place ≡ 0 → RoomLast Refused IsSystem longest lent number place
+pub data RoomLast (Refused : (number place : ℕ) → Type 0) (IsSystem : System → Type 0) (longest lent number place : ℕ) : Type 0
+  where
+    by-reading : Refused number place → RoomLast Refused IsSystem longest lent number place
+    -- "11: fewer words lent than the longest card has; 0"
+    no-room : (s : System) → IsSystem s → lent < longest → number ≡ 11 → place ≡ 0
+        → RoomLast Refused IsSystem longest lent number place
 
 module _ (Refused : (number place : ℕ) → Type 0) (IsSystem : System → Type 0) (longest lent : ℕ) (read : Outcome System)
     (refusals : (n k : ℕ) → (read ≡ refused n k) ↔ Refused n k) (systems : (s : System) → (read ≡ accepted s) ↔ IsSystem s) where
@@ -70,7 +72,8 @@ module _ (limits : Limits) where
         (longestCertificate limits) (length entry) number place
     solve-refused-iff fit number place =
         let answered = answer-refused-iff certificateWords _ entry exit answer h number place in
-        let room = room-refused-iff _ _ (longestCertificate limits) (length entry) (readSystem limits ws) (system-refused-iff limits ws)
+        let room = room-refused-iff _ _ (longestCertificate limits) (length entry) (readSystem limits ws)
+        (system-refused-iff limits ws)
         (system-accepted-iff limits fit ws) number place in
         (λ e. room .0 (answered .0 e), λ r. answered .1 (room .1 r))
 

@@ -16,7 +16,8 @@ use Rattle.truth.specs.Chosen.{Chosen}
 use Rattle.write_frame.specs.Overwriting.{overwritten}
 use Rattle.solve_meaning.specs.Answers.{answerOf}
 
--- what was read is the system to solve, if there is room for the longest certificate: "The solver reads the sheet, then looks at 11."
+-- what was read is the system to solve, if there is room for the longest certificate: "The solver reads the sheet, then looks at
+-- 11."
 abbrev pub withRoom : (longest lent : ℕ) → Outcome System → Outcome System
 withRoom longest lent read =
     followedBy read (λ s.

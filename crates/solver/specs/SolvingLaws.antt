@@ -62,7 +62,8 @@ gives-words {write = write} {entry = entry} {exit = exit} {count = count} G =
     ∙ take-append-seam (write (G .certificate)) _
 
 -- "or change a lent word when it refuses"
-pub refused-unchanged : (limits : Limits) (write : Certificate → List ℕ) (o : Outcome System) (entry exit : List ℕ) (answer : Outcome ℕ)
+pub refused-unchanged : (limits : Limits) (write : Certificate → List ℕ) (o : Outcome System) (entry exit : List ℕ)
+    (answer : Outcome ℕ)
     → SolvesOr limits write o entry exit answer → {number place : ℕ} → answer ≡ refused number place → exit ≡ entry
 unfolding SolvesOr
 refused-unchanged limits write (refused n k) entry exit answer h a = h .1

@@ -1,4 +1,5 @@
-// The chosen certificate in the output area, for a system that is laid out in the input area, or for the words of one that was read.
+// The chosen certificate in the output area, for a system that is laid out in the input area, or for the words of one that was
+// read.
 use answers::Shape;
 use residue::modulus::Modulus;
 use solve_certify::certify;
@@ -29,8 +30,8 @@ pub fn certify_laid(output: &mut Output, input: &Input, shape: Shape) -> bool
     certify(output, input, rows, columns, modulus)
 }
 
-// Stores the chosen certificate of the system that the words of `system` were read as, of that shape, in `output`, which is 0. Returns
-// whether there is a solution.
+// Stores the chosen certificate of the system that the words of `system` were read as, of that shape, in `output`, which is 0.
+// Returns whether there is a solution.
 pub fn certify_words(output: &mut Output, system: &[u32], shape: Shape) -> bool
     requires { ⌜ HasShape (shapeOf shape) (now system) ⌝ }
     requires cleared { ⌜ (length (now output) ≡ outputWords) × AtMost 0 (now output) ⌝ }

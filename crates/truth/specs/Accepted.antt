@@ -1,5 +1,5 @@
--- Demand 2: "a card is accepted for a sheet when the check, handed the words of both, turns nothing back, and that is exactly when the
--- card's words are the written form of a right card or of an absence card for that sheet, all degrees at most 120".
+-- Demand 2: "a card is accepted for a sheet when the check, handed the words of both, turns nothing back, and that is exactly when
+-- the card's words are the written form of a right card or of an absence card for that sheet, all degrees at most 120".
 use Prim.Native.Nat.{ℕ}
 use mathlib.Core.Path.{_≡_, refl, sym, _∙_, ap, subst}
 use mathlib.Core.Logic.{_↔_}
@@ -25,7 +25,8 @@ use Rattle.words.specs.Pair.{WrittenPair}
 use Rattle.words.specs.PairLaws.{written-map, pair-of-written, pair-accepted-iff}
 use Rattle.truth.specs.Solution.{AllCanonical, Monic, DividesModulo, rowOf, columnOf, sideOf}
 use Rattle.truth.specs.Right.{RightSolution, RightAbsence, Right, certified}
-use Rattle.truth.specs.Verdict.{monic?, zero?, same?, refuseFirst, solutionVerdict, absenceVerdict, certificateVerdict, verdict}
+use Rattle.truth.specs.Verdict.{monic?, zero?, same?, refuseFirst, solutionVerdict, absenceVerdict, certificateVerdict}
+use Rattle.truth.specs.Verdict.{verdict}
 use Rattle.truth.specs.Lift.{Proper, ringOf, equations, vector, column-list, divides-list, divides-lift}
 use Rattle.truth.specs.Truth.{ProperSolution}
 use Rattle.truth.specs.RefusalLaws
@@ -122,10 +123,12 @@ module _ (s : System) (h : Proper s) where
     right-accepted C =
         passed-refuse _ 31 0 _ (RefusalLaws.true-not (eq-eqb (leading (modulo p) d) 1 (C .monic)))
         (passed-refuse _ 31 1 _ (RefusalLaws.true-not (eq-eqb (leading (modulo p) w) 1 (C .certifyingMonic)))
-        (RefusalLaws.passed-refuseFirst (s .rows) wrong-row 32 _ tt (λ i k. RefusalLaws.true-not (RefusalLaws.true-same? _ _ (C .rows i k)))
+        (RefusalLaws.passed-refuseFirst (s .rows) wrong-row 32 _ tt
+        (λ i k. RefusalLaws.true-not (RefusalLaws.true-same? _ _ (C .rows i k)))
         (RefusalLaws.passed-refuseFirst (s .columns) wrong-column 33 _ tt
         (λ j k.
-        RefusalLaws.true-not (ap zero? (divides-column w Z (P .certifyingDenominator) (P .certifyingNumerators) j (C .columns j k))))
+        RefusalLaws.true-not (ap zero? (divides-column w Z (P .certifyingDenominator) (P .certifyingNumerators) j
+        (C .columns j k))))
         (passed-refuse _ 34 0 _ (RefusalLaws.true-not (RefusalLaws.true-same? _ _ (C .denominators))) refl))))
 
 -- the rows 35 and 36
@@ -136,7 +139,8 @@ module _ (s : System) (q : List (List ℕ)) where
   pub accepted-absent : absenceVerdict s q ≡ accepted tt → RightAbsence s q
   unfolding absenceVerdict wrong-product
   accepted-absent e =
-      let columns = RefusalLaws.refuseFirst-passed (s .columns) wrong-product 35 (refuse (zero? (sideOf s q)) 36 0 (accepted tt)) tt e in
+      let columns = RefusalLaws.refuseFirst-passed (s .columns) wrong-product 35 (refuse (zero? (sideOf s q)) 36 0 (accepted tt))
+      tt e in
       let last = refuse-passed (zero? (sideOf s q)) 36 0 (accepted tt) (columns .rest) in
       record {
         columns = λ j k. RefusalLaws.zero?-true _ (not-false _ (columns .free j k));

@@ -1,5 +1,5 @@
--- The starred systems of document 01, "Systems to try", in one table: a system, a certificate, and what the check says. `cases-hold` is
--- one proposition over its rows: the written forms read back, and the verdict on them is the expected one.
+-- The starred systems of document 01, "Systems to try", in one table: a system, a certificate, and what the check says.
+-- `cases-hold` is one proposition over its rows: the written forms read back, and the verdict on them is the expected one.
 use Prim.Native.Nat.{ℕ}
 use mathlib.Core.Path.{_≡_, refl, _∙_, ap}
 use mathlib.Core.List.{List, [], _∷_, map}
@@ -104,7 +104,8 @@ unfolding systemWords
 case-1-system = refl
 
 pub case-1-certificate : certificateWords (solution x (𝟙 ∷ []) x (𝟙 ∷ []))
-    ≡ 1342177281 ∷ 536870914 ∷ 805306368 ∷ 805306369 ∷ 536870913 ∷ 805306369 ∷ 536870914 ∷ 805306368 ∷ 805306369 ∷ 536870913 ∷ 805306369
+    ≡ 1342177281 ∷ 536870914 ∷ 805306368 ∷ 805306369 ∷ 536870913 ∷ 805306369 ∷ 536870914 ∷ 805306368 ∷ 805306369 ∷ 536870913 ∷
+    805306369
     ∷ 1073741836 ∷ []
 unfolding certificateWords
 case-1-certificate = refl

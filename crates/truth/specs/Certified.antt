@@ -1,6 +1,6 @@
--- The conditions for a certified solution and for a certified absence of solutions (document 002, section 1, for the ring of polynomials
--- modulo p), and demand 2's own: "any stated denominator is monic, and the solution's is in lowest terms". Nothing is computed here: no
--- greatest common divisor and no remainder.
+-- The conditions for a certified solution and for a certified absence of solutions (document 002, section 1, for the ring of
+-- polynomials modulo p), and demand 2's own: "any stated denominator is monic, and the solution's is in lowest terms". Nothing is
+-- computed here: no greatest common divisor and no remainder.
 use Prim.Native.Nat.{ℕ, _<_}
 use mathlib.Core.Path.{_≡_}
 use mathlib.Core.List.{List, [], _∷_}

@@ -25,7 +25,8 @@ use Rattle.words.specs.System.{System, sideEntry}
 use Rattle.truth.specs.Solution.{AllCanonical, DividesModulo, Clears, Monic, Denominator, rowOf, columnOf, sideOf}
 use Rattle.truth.specs.Listed.{listed, length-listed, listed-at}
 use Rattle.truth.specs.Right.{RightSolution, RightAbsence, certified}
-use Rattle.truth.specs.Lift.{Proper, canonical-at, ringOf, equations, vector, column-list, side-list, divides-list, divides-lift}
+use Rattle.truth.specs.Lift.{Proper, canonical-at, ringOf, equations, vector, column-list, side-list, divides-list}
+use Rattle.truth.specs.Lift.{divides-lift}
 use Rattle.truth.specs.Truth.{ProperSolution, right-solves, right-denominator}
 use Rattle.truth.specs.Denominators.{denominator-exists, denominator-unique, denominator-divides, single-denominator}
 use Rattle.truth.specs.Certified.{productOf, Whole, Generates, LowestTerms, ZeroFractions, StatedSolution, CertifiedAbsence}
@@ -68,19 +69,22 @@ module _ (p : ℕ) (prime : Prime p) where
       canonical-one = unfold Canonical in (prime .large, omega arith, tt)
 
   -- fractions are 0 just where their numerators are
-  zero-iff : (M : List (List ℕ)) → AllCanonical p M → (e : List ℕ) → ZeroFractions p M e ↔ ((j : ℕ) → j < length M → getD M j [] ≡ [])
+  zero-iff : (M : List (List ℕ)) → AllCanonical p M → (e : List ℕ) → ZeroFractions p M e
+      ↔ ((j : ℕ) → j < length M → getD M j [] ≡ [])
   unfolding numbers one modulo mul
   zero-iff M hM e = (
     λ z j k. sym (ap (λ x. x .0) (R .mul-one (vector p M hM j))) ∙ z .entries j k
         ∙ ap (λ f. mul (modulo p) f e) (listed-at (length M) (λ j. []) [] j k),
     λ z. record {
       count = sym (length-listed (length M) (λ j. []));
-      entries = λ j k. ap (λ f. mul (modulo p) f (1 ∷ [])) (z j k) ∙ ap (λ f. mul (modulo p) f e) (sym (listed-at (length M) (λ j. []) [] j k));
+      entries = λ j k. ap (λ f. mul (modulo p) f (1 ∷ [])) (z j k)
+          ∙ ap (λ f. mul (modulo p) f e) (sym (listed-at (length M) (λ j. []) [] j k));
     },
   )
 
   -- document 002's definition 1: the denominator of M/e generates the ideal of all that clears M/e
-  pub generates-iff : (M : List (List ℕ)) (hM : AllCanonical p M) (e : List ℕ) (he : Canonical p e) (nonzero : ¬ (e ≡ [])) (c : List ℕ)
+  pub generates-iff : (M : List (List ℕ)) (hM : AllCanonical p M) (e : List ℕ) (he : Canonical p e) (nonzero : ¬ (e ≡ []))
+      (c : List ℕ)
       → Denominator p M e c ↔ Generates p M e c
   unfolding Monic numbers
   generates-iff M hM e he nonzero c = (
@@ -94,7 +98,8 @@ module _ (p : ℕ) (prime : Prime p) where
       canonical = G .canonical;
       monic = G .monic;
       clears = G .clears;
-      least = λ f hf monic clears. divides-size (sized p prime) (divides-lift p prime (c, G .canonical) (f, hf) (G .divides f hf clears))
+      least = λ f hf monic clears. divides-size (sized p prime)
+          (divides-lift p prime (c, G .canonical) (f, hf) (G .divides f hf clears))
           (monicLaws p prime .monic-nonzero (f, hf) monic);
     },
   )
@@ -113,7 +118,12 @@ module _ (p : ℕ) (prime : Prime p) where
     -- d times N/d is N
     d-clears : Clears p d N d
     unfolding Clears numbers
-    d-clears j k = record { quotient = getD N j []; canonical = canonical-at p N hN j; product = ap (λ x. x .0) (R .mul-comm D (n j)) }
+    d-clears j k = record {
+      quotient = getD N j [];
+      canonical = canonical-at p N hN j;
+      product = ap (λ x. x .0)
+          (R .mul-comm D (n j));
+    }
 
     -- N/d is in lowest terms just where d is its denominator. A common divisor c = d/k makes k clear N/d.
     denominator-lowest : Denominator p N d d → LowestTerms p N d
@@ -137,7 +147,8 @@ module _ (p : ℕ) (prime : Prime p) where
             let w = divides-lift p prime C (n j) (entries j l) in
             record {
               cofactor = w .cofactor;
-              product = combination R (k * n j) (w .cofactor * D) (given k (w .product) ∷ given (R .neg (w .cofactor)) (v .product) ∷ [])
+              product = combination R (k * n j) (w .cofactor * D)
+                  (given k (w .product) ∷ given (R .neg (w .cofactor)) (v .product) ∷ [])
                   (identity R (k ∷ n j ∷ w .cofactor ∷ D ∷ C ∷ []) (λ ρ qk qn qw qD qC. search quotes depth 20) refl);
             }
 
@@ -145,7 +156,8 @@ module _ (p : ℕ) (prime : Prime p) where
         size = omega (
           arith,
           ap (λ x. length (x .0)) (v .product),
-          size-mul-nonzero (sized p prime) k C (monicLaws p prime .monic-nonzero k k-monic) (monicLaws p prime .monic-nonzero C c-monic),
+          size-mul-nonzero (sized p prime) k C (monicLaws p prime .monic-nonzero k k-monic)
+              (monicLaws p prime .monic-nonzero C c-monic),
           own .least (k .0) (k .1) k-monic (λ j l. divides-list p prime (cleared j l)),
           monicLaws p prime .monic-positive k k-monic,
           monicLaws p prime .monic-positive C c-monic,
@@ -170,7 +182,8 @@ module _ (p : ℕ) (prime : Prime p) where
 
         entry : (j : ℕ) → j < length N → DividesIn R k (n j)
         entry j l = mul-divides-cancel (sized p prime) C k (n j) (monicLaws p prime .monic-nonzero C (own .monic))
-            (subst (λ x. DividesIn R x (C * n j)) (v .product ∙ R .mul-comm k C) (divides-lift p prime D (C * n j) (own .clears j l)))
+            (subst (λ x. DividesIn R x (C * n j)) (v .product ∙ R .mul-comm k C)
+            (divides-lift p prime D (C * n j) (own .clears j l)))
 
         k-one : k ≡ 𝟙
         k-one = equal-numbers p k 𝟙 (low (k .0) (k .1) k-monic
@@ -190,7 +203,8 @@ module _ (s : System) (h : Proper s) where
 
   module _ (Z : List (List ℕ)) (hZ : AllCanonical (s .modulus) Z) where
     column-canonical : (j : ℕ) → Canonical p (columnOf s Z j)
-    column-canonical j = subst (Canonical p) (column-list s h Z hZ j) (Witness.columnOf (ringOf s h) (equations s h) (vector p Z hZ) j .1)
+    column-canonical j = subst (Canonical p) (column-list s h Z hZ j)
+        (Witness.columnOf (ringOf s h) (equations s h) (vector p Z hZ) j .1)
 
     pub side-canonical : Canonical p (sideOf s Z)
     side-canonical = subst (Canonical p) (side-list s h Z hZ) (Witness.sideOf (ringOf s h) (equations s h) (vector p Z hZ) .1)
@@ -224,11 +238,13 @@ module _ (s : System) (h : Proper s) where
         let n = length-listed (s .columns) (columnOf s Z) in (
           λ C. record {
             certifying = nonzero;
-            columns = columns .1 (λ j k. let l = subst (λ n. j < n) n k in listed-at (s .columns) (columnOf s Z) [] j l ∙ C .columns j l);
+            columns = columns .1 (λ j k. let l = subst (λ n. j < n) n k in listed-at (s .columns) (columnOf s Z) [] j l
+                ∙ C .columns j l);
             side = λ z. C .side (side .0 z 0 (omega arith));
           },
           λ C. record {
-            columns = λ j k. sym (listed-at (s .columns) (columnOf s Z) [] j k) ∙ columns .0 (C .columns) j (subst (λ n. j < n) (sym n) k);
+            columns = λ j k. sym (listed-at (s .columns) (columnOf s Z) [] j k)
+                ∙ columns .0 (C .columns) j (subst (λ n. j < n) (sym n) k);
             side = λ z. C .side (side .1 (only z));
           },
         )
@@ -255,7 +271,8 @@ module _ (s : System) (h : Proper s) where
   module _ {d : List ℕ} {N : List (List ℕ)} {w : List ℕ} {Z : List (List ℕ)} (P : ProperSolution s d N w Z) where
     pub certifying-nonzero : Monic p w → ¬ (w ≡ [])
     unfolding Monic numbers
-    certifying-nonzero m e = monicLaws p (h .prime) .monic-nonzero (w, P .certifyingDenominator) m (equal-numbers p (w, P .certifyingDenominator) _ e)
+    certifying-nonzero m e = monicLaws p (h .prime) .monic-nonzero (w, P .certifyingDenominator) m
+        (equal-numbers p (w, P .certifyingDenominator) _ e)
 
     right-certified : RightSolution s d N w Z → StatedSolution s d N w Z
     right-certified C = record {
@@ -265,7 +282,8 @@ module _ (s : System) (h : Proper s) where
         whole = whole-iff Z (P .certifyingNumerators) w .0 (C .columns);
         denominator = d;
         of-solution = right-denominator s h P C;
-        of-side = certified-iff Z (P .certifyingNumerators) w (P .certifyingDenominator) (certifying-nonzero (C .certifyingMonic)) d .0 (C .denominators);
+        of-side = certified-iff Z (P .certifyingNumerators) w (P .certifyingDenominator) (certifying-nonzero (C .certifyingMonic))
+            d .0 (C .denominators);
       };
       monic = C .monic;
       certifyingMonic = C .certifyingMonic;
@@ -274,7 +292,8 @@ module _ (s : System) (h : Proper s) where
 
     certified-right : StatedSolution s d N w Z → RightSolution s d N w Z
     certified-right C =
-        let same : C .certified .denominator ≡ d = lowest-is p (h .prime) N (P .numerators) d (P .denominator) (C .monic) (C .lowest)
+        let same : C .certified .denominator ≡ d = lowest-is p (h .prime) N (P .numerators) d (P .denominator) (C .monic)
+        (C .lowest)
         (C .certified .denominator) (C .certified .of-solution) in
         record {
           monic = C .monic;
@@ -292,8 +311,8 @@ module _ (s : System) (h : Proper s) where
     pub right-whole : RightSolution s d N w Z → Denominator p (productOf s Z) w (1 ∷ [])
     right-whole C = whole-one p (h .prime) (productOf s Z) w .0 (whole-iff Z (P .certifyingNumerators) w .0 (C .columns))
 
-    -- what 34 asks, where 31 to 33 turn nothing back: "zb and y have the same denominator" and N/d is in lowest terms. (In case 9 they
-    -- have, and N/d is not.)
+    -- what 34 asks, where 31 to 33 turn nothing back: "zb and y have the same denominator" and N/d is in lowest terms. (In case 9
+    -- they have, and N/d is not.)
     pub denominators-iff : Monic p d → Monic p w → ((i : ℕ) → i < s .rows → rowOf s N i ≡ mul (modulo p) d (sideEntry s i))
         → ((j : ℕ) → j < s .columns → DividesModulo p w (columnOf s Z j))
         → Denominator p (sideOf s Z ∷ []) w d
@@ -305,7 +324,8 @@ module _ (s : System) (h : Proper s) where
             certifyingMonic = certifying;
             rows = rows;
             columns = columns;
-            denominators = certified-iff Z (P .certifyingNumerators) w (P .certifyingDenominator) (certifying-nonzero certifying) d .1 D;
+            denominators = certified-iff Z (P .certifyingNumerators) w (P .certifyingDenominator) (certifying-nonzero certifying) d
+                .1 D;
           }) in
           (C .lowest, (C .certified .denominator, C .certified .of-solution, C .certified .of-side)),
       λ t. subst (Denominator p (sideOf s Z ∷ []) w)

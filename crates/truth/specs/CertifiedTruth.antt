@@ -1,5 +1,5 @@
--- Document 002's conditions alone, with denominators monic or not and in lowest terms or not, certify "that y is a solution with minimal
--- denominator", or "that the system has no rational solution".
+-- Document 002's conditions alone, with denominators monic or not and in lowest terms or not, certify "that y is a solution with
+-- minimal denominator", or "that the system has no rational solution".
 use Prim.Native.Nat.{ℕ, zero, suc, _<_}
 use mathlib.Core.Path.{_≡_, sym, _∙_, subst}
 use mathlib.Core.List.{List, [], _∷_}
@@ -38,7 +38,8 @@ module _ (s : System) (h : Proper s) where
   abbrev S : Arithmetic (Residue (s .modulus)) (NumberPolynomial (s .modulus))
   S = numberArithmetic (s .modulus) (h .prime)
 
-  module _ {d : List ℕ} {N : List (List ℕ)} {w : List ℕ} {Z : List (List ℕ)} (hw : Canonical (s .modulus) w) (hZ : AllCanonical (s .modulus) Z)
+  module _ {d : List ℕ} {N : List (List ℕ)} {w : List ℕ} {Z : List (List ℕ)} (hw : Canonical (s .modulus) w)
+      (hZ : AllCanonical (s .modulus) Z)
       (C : CertifiedSolution s d N w Z) where
     abbrev W : NumberPolynomial (s .modulus)
     W = (w, hw)
@@ -54,8 +55,10 @@ module _ (s : System) (h : Proper s) where
         subst (λ f. DividesModulo p w (mul (modulo p) c f)) (side-list s h Z hZ)
         (divides-list p (h .prime) {d = W} {f = R .mul (c, hc) (Witness.sideOf R (equations s h) z)} (record {
           cofactor = Y;
-          product = clearing-side R (cancel-mul (sized p (h .prime))) (equations s h) W z q columns m (e, X .divisor) (solves s h M e X) (c, hc) Q
-              (λ j k. divisionLaws p (h .prime) .quotient-exact (R .mul (c, hc) (m j)) (e, X .divisor) (entry j k) ∙ R .mul-comm (Q j) (e, X .divisor))
+          product = clearing-side R (cancel-mul (sized p (h .prime))) (equations s h) W z q columns m (e, X .divisor)
+              (solves s h M e X) (c, hc) Q
+              (λ j k. divisionLaws p (h .prime) .quotient-exact (R .mul (c, hc) (m j)) (e, X .divisor) (entry j k)
+              ∙ R .mul-comm (Q j) (e, X .divisor))
               ∙ R .mul-comm W Y;
         }))
       where
@@ -81,7 +84,8 @@ module _ (s : System) (h : Proper s) where
             ∙ R .mul-comm (q j) W
 
         entry : (j : ℕ) → j < s .columns → DividesIn (ringOf s h) (e, X .divisor) (ringOf s h .mul (c, hc) (m j))
-        entry j k = divides-lift p (h .prime) (e, X .divisor) (R .mul (c, hc) (m j)) (clears j (subst (λ n. j < n) (sym (X .count)) k))
+        entry j k = divides-lift p (h .prime) (e, X .divisor) (R .mul (c, hc) (m j))
+            (clears j (subst (λ n. j < n) (sym (X .count)) k))
     clears-side M e X c hc clears (suc j) k = absurd (omega arith)
 
     pub certified-least : LeastDenominator s (C .denominator)
@@ -89,7 +93,8 @@ module _ (s : System) (h : Proper s) where
     certified-least = record {
       canonical = C .of-solution .canonical;
       monic = C .of-solution .monic;
-      divides = λ M e X c hc clears. denominator-divides p (h .prime) (sideOf s Z ∷ []) (side-canonical s h Z hZ, tt) w hw (C .certifying)
+      divides = λ M e X c hc clears. denominator-divides p (h .prime) (sideOf s Z ∷ []) (side-canonical s h Z hZ, tt) w hw
+          (C .certifying)
           (C .denominator) (C .of-side) c hc (clears-side M e X c hc clears);
       numerators = N;
       over = d;

@@ -1,6 +1,6 @@
 -- Demand 2, first sentence: "The check accepts a card for a sheet exactly when the conditions for a certified solution, or for a
--- certified absence of solutions, in Mulders and Storjohann hold of it, any stated denominator is monic, and the solution's is in lowest
--- terms."
+-- certified absence of solutions, in Mulders and Storjohann hold of it, any stated denominator is monic, and the solution's is in
+-- lowest terms."
 use Prim.Native.Nat.{ℕ}
 use mathlib.Core.Path.{_≡_}
 use mathlib.Core.Logic.{_↔_}
@@ -43,7 +43,8 @@ module _ (limits : Limits) where
     written-map limits (λ s h c k. within-certified s h c k .1),
   )
 
-  pub accepted-iff-certified : LimitsFit limits → (ws cs : List ℕ) → (verdict limits ws cs ≡ accepted tt) ↔ CertifiedWords limits ws cs
+  pub accepted-iff-certified : LimitsFit limits → (ws cs : List ℕ) → (verdict limits ws cs ≡ accepted tt)
+      ↔ CertifiedWords limits ws cs
   accepted-iff-certified fit ws cs = (
     λ e. words-iff-certified ws cs .0 (words-of-accepted limits fit ws cs e),
     λ a. accepted-of-words limits fit ws cs (words-iff-certified ws cs .1 a),

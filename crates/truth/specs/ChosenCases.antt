@@ -228,7 +228,8 @@ clears-long (a ∷ []) hf m c =
 clears-long (a ∷ b ∷ f) hf m c = omega arith
 
 pub case-1-chosen : Chosen inverse (solution x (𝟙 ∷ []) x (𝟙 ∷ []))
-unfolding Canonical Chosen Clears Monic AllCanonical combinationOf certified rowOf columnOf sideOf totalModulo leading add mul modulo
+unfolding Canonical Chosen Clears Monic AllCanonical combinationOf certified rowOf columnOf sideOf totalModulo leading add mul
+    modulo
 case-1-chosen = record {
   proper = record {
     denominator = canonical-x;
@@ -253,7 +254,8 @@ case-1-chosen = record {
     columns zero h = record { quotient = 𝟙; canonical = canonical-𝟙; product = refl }
     columns (suc j) h = absurd (omega arith)
 
-    reduced : (j : ℕ) → j < 1 → (v : List (List ℕ)) → ColumnRelation inverse v j → length (getD (𝟙 ∷ []) j []) < length (getD v j [])
+    reduced : (j : ℕ) → j < 1 → (v : List (List ℕ)) → ColumnRelation inverse v j
+        → length (getD (𝟙 ∷ []) j []) < length (getD v j [])
     reduced zero h v X = relation-long (getD v 0 []) (canonical-at 2 v (X .canonical) 0) (X .nonzero) (X .rows 0 (omega arith))
     reduced (suc j) h v X = absurd (omega arith)
 

@@ -30,7 +30,8 @@ True s (solution d N w Z) = SolutionTrue s d N
 True s (absence q) = (M : List (List ℕ)) (e : List ℕ) → ¬ RationalSolution s M e
 
 module _ (limits : Limits) where
-  pub right-true : (s : System) → SystemWithin limits s → (c : Certificate) → CertificateWithin limits (shape s) c → Right s c → True s c
+  pub right-true : (s : System) → SystemWithin limits s → (c : Certificate) → CertificateWithin limits (shape s) c → Right s c
+      → True s c
   unfolding True Right CertificateWithin
   right-true s h (solution d N w Z) k r =
       let P = proper-solution limits s d N w Z k in

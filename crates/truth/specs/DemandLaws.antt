@@ -27,8 +27,8 @@ DividesEvery s d = (M : List (List ℕ)) (e : List ℕ) → RationalSolution s M
 pub least-divides : (s : System) (d : List ℕ) → LeastDenominator s d → DividesEvery s d
 least-divides s d L M e X c D = L .divides M e X c (D .canonical) (D .clears)
 
--- "Its solution solves the system, and the denominator it states is that solution's own and divides the denominator of every rational
--- solution"
+-- "Its solution solves the system, and the denominator it states is that solution's own and divides the denominator of every
+-- rational solution"
 pub record SolutionSays (s : System) (d : List ℕ) (N : List (List ℕ)) : Type 0 where
   pub solves : RationalSolution s N d
   pub own : Denominator (s .modulus) N d d
@@ -72,7 +72,8 @@ unfolding certificateWords framedWords
 head-of c = refl
 
 -- what the conditions hold of tells the truth
-pub certified-true : (limits : Limits) (s : System) → SystemWithin limits s → (c : Certificate) → CertificateWithin limits (shape s) c
+pub certified-true : (limits : Limits) (s : System) → SystemWithin limits s → (c : Certificate)
+    → CertificateWithin limits (shape s) c
     → Certified s c → True s c
 certified-true limits s h c k r = right-true limits s h c k (within-certified limits s h c k .1 r)
 
@@ -91,7 +92,8 @@ module _ (limits : Limits) (fit : LimitsFit limits) where
   module _ (ws cs es : List ℕ) where
     pub words-agree : (a : AcceptedWords limits ws cs) (b : AcceptedWords limits ws es) → Agree (a .certificate) (b .certificate)
     words-agree a b =
-        let same : b .system ≡ a .system = systemWords-injective limits fit (b .system) (a .system) (b .system-within) (a .system-within)
+        let same : b .system ≡ a .system = systemWords-injective limits fit (b .system) (a .system) (b .system-within)
+        (a .system-within)
         (sym (b .system-words) ∙ a .system-words) in
         true-agree limits (a .system) (a .system-within) (a .certificate) (b .certificate)
         (right-true limits (a .system) (a .system-within) (a .certificate) (a .certificate-within) (a .holds))

@@ -1,5 +1,5 @@
--- Every vector of fractions has one denominator (document 01, "The system": "*the* monic polynomial of least degree that, times y, leaves
--- only polynomials"): e divided by the greatest common divisor of e and the numerators. "The vector zero has denominator 1."
+-- Every vector of fractions has one denominator (document 01, "The system": "*the* monic polynomial of least degree that, times y,
+-- leaves only polynomials"): e divided by the greatest common divisor of e and the numerators. "The vector zero has denominator 1."
 use Prim.Native.Nat.{ℕ, zero, suc, _<_}
 use mathlib.Core.Path.{_≡_, refl, sym, _∙_, ap, subst}
 use mathlib.Core.List.{List, [], _∷_}
@@ -11,7 +11,8 @@ use Rattle.ring.specs.Identity.{quotes, identity}
 use Rattle.ring.specs.Combination.{given, combination}
 use Rattle.algebra.specs.Coefficients.{mul, leading, gcd, quotient, monic}
 use Rattle.algebra.specs.Sized.{size-positive, size-mul-nonzero, mul-nonzero-left, mul-nonzero-right}
-use Rattle.algebra.specs.Divides.{Divides as DividesIn, divides-refl, divides-equal, divides-trans, divides-mul, divides-combination, divides-size, mul-divides-cancel}
+use Rattle.algebra.specs.Divides.{Divides as DividesIn, divides-refl, divides-equal, divides-trans, divides-mul}
+use Rattle.algebra.specs.Divides.{divides-combination, divides-size, mul-divides-cancel}
 use Rattle.algebra.specs.Bezout.{Greatest}
 use Rattle.modular.specs.Prime.{Prime}
 use Rattle.modular.specs.Modulo.{modulo}
@@ -49,14 +50,17 @@ module _ (p : ℕ) (prime : Prime p) where
   common e m (suc n) = S .gcd (m n) (common e m n)
 
   -- what divides f·e and every f·m_j divides f times the common divisor
-  common-whole : (d f e : P) (m : ℕ → P) (n : ℕ) → DividesIn R d (f * e) → ((j : ℕ) → j < n → DividesIn R d (f * m j)) → DividesIn R d (f * common e m n)
+  common-whole : (d f e : P) (m : ℕ → P) (n : ℕ) → DividesIn R d (f * e) → ((j : ℕ) → j < n → DividesIn R d (f * m j))
+      → DividesIn R d (f * common e m n)
   unfolding common
   common-whole d f e m zero he hm = he
   common-whole d f e m (suc n) he hm = whole (gcdLaws p prime .gcd-common (m n) (common e m n)) (hm n (omega arith))
       (common-whole d f e m n he (λ j k. hm j (omega arith)))
     where
-      whole : {g : P} → Greatest R (m n) (common e m n) g → DividesIn R d (f * m n) → DividesIn R d (f * common e m n) → DividesIn R d (f * g)
-      whole {g} w x y = divides-equal (combination R (w .s * (f * m n) + w .t * (f * common e m n)) (f * g) (given (R .neg f) (w .bezout) ∷ [])
+      whole : {g : P} → Greatest R (m n) (common e m n) g → DividesIn R d (f * m n) → DividesIn R d (f * common e m n)
+          → DividesIn R d (f * g)
+      whole {g} w x y = divides-equal (combination R (w .s * (f * m n) + w .t * (f * common e m n)) (f * g)
+          (given (R .neg f) (w .bezout) ∷ [])
           (identity R (w .s ∷ f ∷ m n ∷ w .t ∷ common e m n ∷ g ∷ []) (λ ρ qs qf qm qt qc qg. search quotes depth 20) refl))
           (divides-combination (w .s) (w .t) x y)
 
@@ -71,7 +75,8 @@ module _ (p : ℕ) (prime : Prime p) where
   common-divides-entry e m (suc n) j k = go (ℕ-discrete j n) (λ l. common-divides-entry e m n j l)
     where
       go : Dec (j ≡ n) → (j < n → DividesIn R (common e m n) (m j)) → DividesIn R (S .gcd (m n) (common e m n)) (m j)
-      go (yes q) rec = subst (λ i. DividesIn R (S .gcd (m n) (common e m n)) (m i)) (sym q) (gcdLaws p prime .gcd-common (m n) (common e m n) .left)
+      go (yes q) rec = subst (λ i. DividesIn R (S .gcd (m n) (common e m n)) (m i)) (sym q)
+          (gcdLaws p prime .gcd-common (m n) (common e m n) .left)
       go (no q) rec = divides-trans (gcdLaws p prime .gcd-common (m n) (common e m n) .right) (rec (omega arith))
 
   module _ (M : List (List ℕ)) (hM : AllCanonical p M) (e : List ℕ) (he : Canonical p e) (nonzero : ¬ (e ≡ [])) where
@@ -111,8 +116,10 @@ module _ (p : ℕ) (prime : Prime p) where
         record {
           cofactor = v .cofactor * w .cofactor;
           product = combination R (c * m j) (v .cofactor * w .cofactor * E)
-              (given (m j) (v .product) ∷ given (v .cofactor * q) (w .product) ∷ given (R .neg (v .cofactor * w .cofactor)) E-is ∷ [])
-              (identity R (c ∷ m j ∷ v .cofactor ∷ w .cofactor ∷ E ∷ q ∷ g ∷ []) (λ ρ qc qm qv qw qE qq qg. search quotes depth 20) refl);
+              (given (m j) (v .product) ∷ given (v .cofactor * q) (w .product) ∷ given (R .neg (v .cofactor * w .cofactor)) E-is ∷
+              [])
+              (identity R (c ∷ m j ∷ v .cofactor ∷ w .cofactor ∷ E ∷ q ∷ g ∷ []) (λ ρ qc qm qv qw qE qq qg. search quotes depth 20)
+              refl);
         }
 
     -- whatever clears is a multiple of q, so of c
@@ -159,7 +166,8 @@ module _ (p : ℕ) (prime : Prime p) where
         k-size : length (k .0) ≡ 1
         k-size = omega (
           arith,
-          size-mul-nonzero (sized p prime) k c (monicLaws p prime .monic-nonzero k k-monic) (monicLaws p prime .monic-nonzero c c-monic),
+          size-mul-nonzero (sized p prime) k c (monicLaws p prime .monic-nonzero k k-monic)
+              (monicLaws p prime .monic-nonzero c c-monic),
           ap (λ x. length (x .0)) (v .product),
           D .least (c .0) (c .1) c-monic (own .clears),
           monicLaws p prime .monic-positive k k-monic,
@@ -169,7 +177,8 @@ module _ (p : ℕ) (prime : Prime p) where
     denominator-unique d f D F = is-own d D ∙ sym (is-own f F)
 
     -- it divides whatever clears: it generates the ideal of what clears
-    pub denominator-divides : (d : List ℕ) → Denominator p M e d → (f : List ℕ) → Canonical p f → Clears p f M e → DividesModulo p d f
+    pub denominator-divides : (d : List ℕ) → Denominator p M e d → (f : List ℕ) → Canonical p f → Clears p f M e
+        → DividesModulo p d f
     unfolding Clears numbers
     denominator-divides d D f hf h = subst (λ x. DividesModulo p x f) (sym (is-own d D))
         (divides-list p prime {d = c} {f = (f, hf)} (clearing (f, hf) (λ j k. divides-lift p prime E ((f, hf) * m j) (h j k))))

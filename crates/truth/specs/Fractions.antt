@@ -1,6 +1,6 @@
--- Vectors of fractions as values (document 01, "The system"): "m polynomials M and one polynomial e that is not zero, .. meaning y = M/e".
--- "A polynomial times y leaves only polynomials exactly when e divides its product with each entry of M", and whether it does, y's
--- denominator, and whether y solves a system are the same however y is written.
+-- Vectors of fractions as values (document 01, "The system"): "m polynomials M and one polynomial e that is not zero, .. meaning y
+-- = M/e". "A polynomial times y leaves only polynomials exactly when e divides its product with each entry of M", and whether it
+-- does, y's denominator, and whether y solves a system are the same however y is written.
 use Prim.Native.Nat.{ℕ, zero, suc, _<_}
 use mathlib.Core.Path.{_≡_, refl, sym, _∙_, ap, subst}
 use mathlib.Core.Logic.{_↔_}
@@ -50,13 +50,15 @@ getD-map f [] j h = absurd (omega arith)
 getD-map f (m ∷ M) zero h = refl
 getD-map f (m ∷ M) (suc j) h = getD-map f M j (omega arith)
 
-canonical-map : (p : ℕ) (f : List ℕ → List ℕ) → ((m : List ℕ) → Canonical p m → Canonical p (f m)) → (M : List (List ℕ)) → AllCanonical p M
+canonical-map : (p : ℕ) (f : List ℕ → List ℕ) → ((m : List ℕ) → Canonical p m → Canonical p (f m)) → (M : List (List ℕ))
+    → AllCanonical p M
     → AllCanonical p (map f M)
 unfolding AllCanonical
 canonical-map p f closed [] h = tt
 canonical-map p f closed (m ∷ M) h = (closed m (h .0), canonical-map p f closed M (h .1))
 
-pub same-sym : {p : ℕ} {M : List (List ℕ)} {e : List ℕ} {F : List (List ℕ)} {g : List ℕ} → SameFractions p M e F g → SameFractions p F g M e
+pub same-sym : {p : ℕ} {M : List (List ℕ)} {e : List ℕ} {F : List (List ℕ)} {g : List ℕ} → SameFractions p M e F g
+    → SameFractions p F g M e
 same-sym q = record { count = sym (q .count); entries = λ j k. sym (q .entries j (subst (λ n. j < n) (sym (q .count)) k)) }
 
 module _ (p : ℕ) (prime : Prime p) where
@@ -89,7 +91,8 @@ module _ (p : ℕ) (prime : Prime p) where
       λ l j k. record {
         quotient = getD (l .0) j [];
         canonical = canonical-at p (l .0) (l .1) j;
-        product = sym (ap (λ x. x .0) (R .mul-one (C * m j))) ∙ ap (λ f. mul (modulo p) f (1 ∷ [])) (sym (getD-map (mul (modulo p) c) M j k))
+        product = sym (ap (λ x. x .0) (R .mul-one (C * m j)))
+            ∙ ap (λ f. mul (modulo p) f (1 ∷ [])) (sym (getD-map (mul (modulo p) c) M j k))
             ∙ l .2 .entries j (subst (λ n. j < n) (sym (length-map (mul (modulo p) c) M)) k);
       },
       λ h. (
@@ -99,7 +102,8 @@ module _ (p : ℕ) (prime : Prime p) where
           count = length-map (mul (modulo p) c) M ∙ sym (length-map _ M);
           entries = λ j k. let l = subst (λ n. j < n) (length-map (mul (modulo p) c) M) k in
               ap (λ f. mul (modulo p) f (1 ∷ [])) (getD-map (mul (modulo p) c) M j l)
-              ∙ ap (λ x. x .0) (R .mul-one (C * m j) ∙ divisionLaws p prime .quotient-exact (C * m j) E (divides-lift p prime E (C * m j) (h j l)))
+              ∙ ap (λ x. x .0) (R .mul-one (C * m j) ∙ divisionLaws p prime .quotient-exact (C * m j) E
+              (divides-lift p prime E (C * m j) (h j l)))
               ∙ ap (λ f. mul (modulo p) f e) (sym (getD-map (λ a. quotient (modulo p) (mul (modulo p) c a) e) M j l));
         },
       ),

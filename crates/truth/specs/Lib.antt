@@ -1,5 +1,7 @@
--- interface, what contracts, other crates and PROVED.md cite: Solution, Listed, Right, Chosen, Verdict, Truth, RefusalLaws, Accepted,
---   Demand, Denominators, Cases, ChosenCases, RowExamples, Prefix, Certified, CertifiedLaws, CertifiedWords, TurnedBack, TurnedBackLaws,
+-- interface, what contracts, other crates and PROVED.md cite: Solution, Listed, Right, Chosen, Verdict, Truth, RefusalLaws,
+-- Accepted,
+-- Demand, Denominators, Cases, ChosenCases, RowExamples, Prefix, Certified, CertifiedLaws, CertifiedWords, TurnedBack,
+-- TurnedBackLaws,
 --   DemandLaws, RefusedWords
 -- inside: Witness, Lift, Fractions, CertifiedTruth
 pub mod Witness

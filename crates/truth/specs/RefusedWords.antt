@@ -18,7 +18,8 @@ use Rattle.truth.specs.TurnedBack.{Fault}
 use Rattle.truth.specs.TurnedBackLaws.{refused-iff-fault, fault-rows}
 
 module _ (limits : Limits) (fit : LimitsFit limits) (ws cs : List ℕ) where
-  pub words-refused-iff : (number place : ℕ) → (verdict limits ws cs ≡ refused number place) ↔ PairRefused limits Fault ws cs number place
+  pub words-refused-iff : (number place : ℕ) → (verdict limits ws cs ≡ refused number place)
+      ↔ PairRefused limits Fault ws cs number place
   unfolding verdict
   words-refused-iff = pair-refused-iff limits fit certificateVerdict ws cs Fault (refused-iff-fault limits)
 

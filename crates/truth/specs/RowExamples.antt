@@ -1,5 +1,5 @@
--- Document 01's example inputs of rows 31 to 36 (34 is case 9), and its first slip of the trade: "Taking the first nonsingular columns as
--- the least: in case 7 they give x²."
+-- Document 01's example inputs of rows 31 to 36 (34 is case 9), and its first slip of the trade: "Taking the first nonsingular
+-- columns as the least: in case 7 they give x²."
 use mathlib.Core.Path.{_≡_, refl}
 use mathlib.Core.List.{List, [], _∷_, map}
 use Rattle.words.specs.Outcome.Outcome.{accepted, refused}

@@ -71,7 +71,8 @@ pub record LeastDenominator (s : System) (d : List ℕ) : Type 0 where
   pub canonical : Canonical (s .modulus) d
   pub monic : Monic (s .modulus) d
   -- whatever clears a solution is a multiple of d, its denominator before all
-  pub divides : (M : List (List ℕ)) (e : List ℕ) → RationalSolution s M e → (c : List ℕ) → Canonical (s .modulus) c → Clears (s .modulus) c M e
+  pub divides : (M : List (List ℕ)) (e : List ℕ) → RationalSolution s M e → (c : List ℕ) → Canonical (s .modulus) c
+      → Clears (s .modulus) c M e
       → DividesModulo (s .modulus) d c
   -- some solution has it
   pub numerators : List (List ℕ)
@@ -79,8 +80,8 @@ pub record LeastDenominator (s : System) (d : List ℕ) : Type 0 where
   pub solution : RationalSolution s numerators over
   pub reached : Denominator (s .modulus) numerators over d
 
--- ---- the answer to a system, which leaves nothing free: "a solution exactly when a rational solution exists, and d is then the least
--- denominator"
+-- ---- the answer to a system, which leaves nothing free: "a solution exactly when a rational solution exists, and d is then the
+-- least denominator"
 
 pub data Answer : Type 0 where
   none : Answer

@@ -28,7 +28,8 @@ use Rattle.truth.specs.Solution.{AllCanonical, RationalSolution, Divides
 use Rattle.truth.specs.Solution.{Denominator, LeastDenominator, Answer, Answers, columnOf, sideOf}
 use Rattle.truth.specs.Solution.Answer.{none, least}
 use Rattle.truth.specs.Right.{RightSolution, RightAbsence, certified}
-use Rattle.truth.specs.Lift.{Proper, canonical-at, ringOf, equations, vector, row-list, column-list, side-list, divides-list, divides-lift}
+use Rattle.truth.specs.Lift.{Proper, canonical-at, ringOf, equations, vector, row-list, column-list, side-list, divides-list}
+use Rattle.truth.specs.Lift.{divides-lift}
 use Rattle.truth.specs.Witness.{Bounds, SolvesEquations, Cancels, bounds-clearing, excludes}
 use Rattle.truth.specs.Witness
 
@@ -70,7 +71,8 @@ module _ (s : System) (h : Proper s) where
     rows = λ i k. equal-numbers p _ _ (row-list s h M (X .numerators) i ∙ X .rows i k);
   }
 
-  module _ {d : List ℕ} {N : List (List ℕ)} {w : List ℕ} {Z : List (List ℕ)} (P : ProperSolution s d N w Z) (C : RightSolution s d N w Z) where
+  module _ {d : List ℕ} {N : List (List ℕ)} {w : List ℕ} {Z : List (List ℕ)} (P : ProperSolution s d N w Z)
+      (C : RightSolution s d N w Z) where
     abbrev D : NumberPolynomial (s .modulus)
     D = (d, P .denominator)
 
@@ -121,7 +123,8 @@ module _ (s : System) (h : Proper s) where
     unfolding cofactor
     coprime = mul-cancel Z/p G (common .s * D + common .t * cofactor) 𝟙 (monicLaws p (h .prime) .monic-nonzero G G-monic)
         (combination R (G * (common .s * D + common .t * cofactor)) (G * 𝟙)
-        (given (- 𝟙) (common .bezout) ∷ given (- common .s) W-is ∷ given (- (common .s * G)) Q-is ∷ given (- common .t) (common .right .product) ∷ [])
+        (given (- 𝟙) (common .bezout) ∷ given (- common .s) W-is ∷ given (- (common .s * G)) Q-is ∷ given (- common .t)
+        (common .right .product) ∷ [])
         (identity R (G ∷ common .s ∷ D ∷ common .t ∷ cofactor ∷ W ∷ B ∷ Q ∷ [])
         (λ ρ qG qs qD qt qc qW qB qQ. search quotes depth 20) refl))
 
@@ -129,7 +132,8 @@ module _ (s : System) (h : Proper s) where
     unfolding cofactor
     bounds = record {
       quotient = λ j. S .quotient (column j) W;
-      columns = λ j k. divisionLaws p (h .prime) .quotient-exact (column j) W (divided j k) ∙ R .mul-comm (S .quotient (column j) W) W;
+      columns = λ j k. divisionLaws p (h .prime) .quotient-exact (column j) W (divided j k)
+          ∙ R .mul-comm (S .quotient (column j) W) W;
       g = G;
       g-nonzero = monicLaws p (h .prime) .monic-nonzero G G-monic;
       s = cofactor;
@@ -151,13 +155,15 @@ module _ (s : System) (h : Proper s) where
     pub divides-clearing : (M : List (List ℕ)) (e : List ℕ) → RationalSolution s M e → (c : List ℕ) → Canonical p c → Clears p c M e
         → DividesModulo p d c
     unfolding Clears numbers
-    divides-clearing M e X c hc clears = divides-list p (h .prime) {d = D} {f = (c, hc)} (record { cofactor = t .0; product = t .1 })
+    divides-clearing M e X c hc clears = divides-list p (h .prime) {d = D} {f = (c, hc)}
+        (record { cofactor = t .0; product = t .1 })
       where
         m : ℕ → NumberPolynomial (s .modulus)
         m = vector (s .modulus) M (X .numerators)
 
         whole : (j : ℕ) → j < s .columns → DividesIn (ringOf s h) (e, X .divisor) (ringOf s h .mul (c, hc) (m j))
-        whole j k = divides-lift (s .modulus) (h .prime) (e, X .divisor) (ringOf s h .mul (c, hc) (m j)) (clears j (subst (λ n. j < n) (sym (X .count)) k))
+        whole j k = divides-lift (s .modulus) (h .prime) (e, X .divisor) (ringOf s h .mul (c, hc) (m j))
+            (clears j (subst (λ n. j < n) (sym (X .count)) k))
 
         cleared : ℕ → NumberPolynomial (s .modulus)
         cleared j = S .quotient (R .mul (c, hc) (m j)) (e, X .divisor)
@@ -207,7 +213,8 @@ module _ (s : System) (h : Proper s) where
     }
 
   -- with a right absence certificate there is no rational solution
-  pub right-absent : (q : List (List ℕ)) → AllCanonical p q → RightAbsence s q → (M : List (List ℕ)) (e : List ℕ) → ¬ RationalSolution s M e
+  pub right-absent : (q : List (List ℕ)) → AllCanonical p q → RightAbsence s q → (M : List (List ℕ)) (e : List ℕ)
+      → ¬ RationalSolution s M e
   unfolding numbers
   right-absent q hq C M e X = excludes R cancels (equations s h) (vector p q hq)
       (λ j k. equal-numbers p _ _ (column-list s h q hq j ∙ C .columns j k))
@@ -215,16 +222,20 @@ module _ (s : System) (h : Proper s) where
       (vector p M (X .numerators)) (e, X .divisor) (solves M e X)
 
   -- no system has right certificates of both kinds
-  pub never-both : {d : List ℕ} {N : List (List ℕ)} {w : List ℕ} {Z q : List (List ℕ)} → ProperSolution s d N w Z → RightSolution s d N w Z
+  pub never-both : {d : List ℕ} {N : List (List ℕ)} {w : List ℕ} {Z q : List (List ℕ)} → ProperSolution s d N w Z
+      → RightSolution s d N w Z
       → AllCanonical p q → ¬ RightAbsence s q
   never-both {d} {N} {w} {Z} {q} P C hq A = right-absent q hq A N d (right-solves P C)
 
   -- there is one least denominator at the most
   pub least-unique : (c d : List ℕ) → LeastDenominator s c → LeastDenominator s d → c ≡ d
   unfolding Monic
-  least-unique c d K L = ap (λ x. x .0) (monicLaws p (h .prime) .monic-associates (c, K .canonical) (d, L .canonical) (K .monic) (L .monic)
-      (divides-lift p (h .prime) (c, K .canonical) (d, L .canonical) (K .divides (L .numerators) (L .over) (L .solution) d (L .canonical) (L .reached .clears)))
-      (divides-lift p (h .prime) (d, L .canonical) (c, K .canonical) (L .divides (K .numerators) (K .over) (K .solution) c (K .canonical) (K .reached .clears))))
+  least-unique c d K L = ap (λ x. x .0) (monicLaws p (h .prime) .monic-associates (c, K .canonical) (d, L .canonical) (K .monic)
+      (L .monic)
+      (divides-lift p (h .prime) (c, K .canonical) (d, L .canonical)
+      (K .divides (L .numerators) (L .over) (L .solution) d (L .canonical) (L .reached .clears)))
+      (divides-lift p (h .prime) (d, L .canonical) (c, K .canonical)
+      (L .divides (K .numerators) (K .over) (K .solution) c (K .canonical) (K .reached .clears))))
 
   -- and one answer
   pub answer-unique : (a b : Answer) → Answers s a → Answers s b → a ≡ b

@@ -1,5 +1,6 @@
--- The conditions of 31 to 36 (document 01, "Turned back") as propositions on values. A certificate is turned back with a number at a
--- place exactly when that row's condition holds there and no earlier one does (`TurnedBackLaws`): "given under that condition only".
+-- The conditions of 31 to 36 (document 01, "Turned back") as propositions on values. A certificate is turned back with a number at
+-- a place exactly when that row's condition holds there and no earlier one does (`TurnedBackLaws`): "given under that condition
+-- only".
 use Prim.Native.Nat.{ℕ, _<_}
 use mathlib.Core.Path.{_≡_}
 use mathlib.Core.List.{List, [], _∷_}
@@ -36,19 +37,21 @@ abbrev pub ColumnZero : System → List (List ℕ) → ℕ → Type 0
 ColumnZero s q j = columnOf s q j ≡ []
 
 -- the rows of the table, in its order
-pub data SolutionFault (s : System) (d : List ℕ) (N : List (List ℕ)) (w : List ℕ) (Z : List (List ℕ)) (number place : ℕ) : Type 0 where
-  -- "31: d (place 0, tried first) or w (place 1) not monic"
-  not-monic : number ≡ 31 → place ≡ 0 → ¬ Monic (s .modulus) d → SolutionFault s d N w Z number place
-  certifying-not-monic : number ≡ 31 → place ≡ 1 → Monic (s .modulus) d → ¬ Monic (s .modulus) w → SolutionFault s d N w Z number place
-  -- "32: A·N not d·b; first such row"
-  row : number ≡ 32 → Monic (s .modulus) d → Monic (s .modulus) w → FirstFailing (s .rows) (RowSolved s d N) place
-      → SolutionFault s d N w Z number place
-  -- "33: w does not divide Z·A; first such column"
-  column : number ≡ 33 → Monic (s .modulus) d → Monic (s .modulus) w → All (s .rows) (RowSolved s d N)
-      → FirstFailing (s .columns) (ColumnDivided s w Z) place → SolutionFault s d N w Z number place
-  -- "34: the denominators differ; 0"
-  denominators : number ≡ 34 → place ≡ 0 → Monic (s .modulus) d → Monic (s .modulus) w → All (s .rows) (RowSolved s d N)
-      → All (s .columns) (ColumnDivided s w Z) → ¬ SameDenominators s d w Z → SolutionFault s d N w Z number place
+pub data SolutionFault (s : System) (d : List ℕ) (N : List (List ℕ)) (w : List ℕ) (Z : List (List ℕ)) (number place : ℕ) : Type 0
+  where
+    -- "31: d (place 0, tried first) or w (place 1) not monic"
+    not-monic : number ≡ 31 → place ≡ 0 → ¬ Monic (s .modulus) d → SolutionFault s d N w Z number place
+    certifying-not-monic : number ≡ 31 → place ≡ 1 → Monic (s .modulus) d → ¬ Monic (s .modulus) w
+        → SolutionFault s d N w Z number place
+    -- "32: A·N not d·b; first such row"
+    row : number ≡ 32 → Monic (s .modulus) d → Monic (s .modulus) w → FirstFailing (s .rows) (RowSolved s d N) place
+        → SolutionFault s d N w Z number place
+    -- "33: w does not divide Z·A; first such column"
+    column : number ≡ 33 → Monic (s .modulus) d → Monic (s .modulus) w → All (s .rows) (RowSolved s d N)
+        → FirstFailing (s .columns) (ColumnDivided s w Z) place → SolutionFault s d N w Z number place
+    -- "34: the denominators differ; 0"
+    denominators : number ≡ 34 → place ≡ 0 → Monic (s .modulus) d → Monic (s .modulus) w → All (s .rows) (RowSolved s d N)
+        → All (s .columns) (ColumnDivided s w Z) → ¬ SameDenominators s d w Z → SolutionFault s d N w Z number place
 
 pub data AbsenceFault (s : System) (q : List (List ℕ)) (number place : ℕ) : Type 0 where
   -- "35: q·A not zero; first such column"

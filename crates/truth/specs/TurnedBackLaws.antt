@@ -66,7 +66,8 @@ module _ {A : Type 0} (holds : ℕ → Bool) (Holds : ℕ → Type 0) (test : (i
   rows-past (suc n) next h =
       rows-past n (refuse (holds n) number n next) (λ i k. h i (omega arith)) ∙ row-past (test n) number n next (h n (omega arith))
 
-  rows-here : (n : ℕ) (next : Outcome A) (place : ℕ) → FirstFailing n Holds place → refuseFirst n holds number next ≡ refused number place
+  rows-here : (n : ℕ) (next : Outcome A) (place : ℕ) → FirstFailing n Holds place
+      → refuseFirst n holds number next ≡ refused number place
   unfolding refuseFirst
   rows-here zero next place f = absurd (omega (arith, f .inside))
   rows-here (suc n) next place f = go (ℕ-discrete place n) (rows-here n (refuse (holds n) number n next) place)
@@ -115,7 +116,11 @@ same-passes f g = (λ e. RefusalLaws.same?-true f g (not-false _ e), λ e. Refus
 
 monic-passes : (p : ℕ) (f : List ℕ) → Passes (not (monic? p f)) (Monic p f)
 unfolding Monic
-monic-passes p f = (λ e. eqb-true (leading (modulo p) f) 1 (not-false _ e), λ e. RefusalLaws.true-not (eq-eqb (leading (modulo p) f) 1 e))
+monic-passes p f = (
+  λ e. eqb-true (leading (modulo p) f) 1 (not-false _ e),
+  λ e. RefusalLaws.true-not
+      (eq-eqb (leading (modulo p) f) 1 e),
+)
 
 nonzero-passes : (f : List ℕ) → Passes (zero? f) (¬ (f ≡ []))
 nonzero-passes f = (RefusalLaws.zero?-false f, RefusalLaws.nonzero-zero? f)
@@ -126,7 +131,8 @@ not-nonzero (a ∷ f) h = absurd (h (RefusalLaws.zero?-false (a ∷ f) refl))
 
 -- ---- 31 to 34
 
-module _ (s : System) (h : Proper s) {d : List ℕ} {N : List (List ℕ)} {w : List ℕ} {Z : List (List ℕ)} (P : ProperSolution s d N w Z) where
+module _ (s : System) (h : Proper s) {d : List ℕ} {N : List (List ℕ)} {w : List ℕ} {Z : List (List ℕ)}
+    (P : ProperSolution s d N w Z) where
   abbrev p : ℕ
   p = s .modulus
 
@@ -212,7 +218,8 @@ module _ (s : System) (h : Proper s) {d : List ℕ} {N : List (List ℕ)} {w : L
             ⊎ (All (s .rows) (RowSolved s d N) × (from-33 ≡ refused number place))
             → SolutionFault s d N w Z number place
         third a b (inl f) = row (f .0) a b (f .1)
-        third a b (inr f) = fourth a b (f .0) (rows-cases wrong-column (ColumnDivided s w Z) column-passes 33 (s .columns) from-34 (f .1))
+        third a b (inr f) = fourth a b (f .0) (rows-cases wrong-column (ColumnDivided s w Z) column-passes 33 (s .columns) from-34
+            (f .1))
 
         second : Monic p d → ((number ≡ 31) × (place ≡ 1) × (¬ Monic p w)) ⊎ (Monic p w × (from-32 ≡ refused number place))
             → SolutionFault s d N w Z number place
@@ -252,7 +259,8 @@ module _ (s : System) (q : List (List ℕ)) where
     absent-fault e = first (rows-cases wrong-product (ColumnZero s q) product-passes 35 (s .columns) from-36 e)
       where
         second : All (s .columns) (ColumnZero s q) → ((number ≡ 36) × (place ≡ 0) × (¬ (¬ (sideOf s q ≡ []))))
-            ⊎ ((¬ (sideOf s q ≡ [])) × (_≡_ {A = Outcome (Unit {0})} (accepted tt) (refused number place))) → AbsenceFault s q number place
+            ⊎ ((¬ (sideOf s q ≡ [])) × (_≡_ {A = Outcome (Unit {0})} (accepted tt) (refused number place)))
+            → AbsenceFault s q number place
         second c (inl f) = side (f .0) (f .1) c (not-nonzero (sideOf s q) (f .2))
         second c (inr f) = absurd (refused-accepted (sym (f .1)))
 
@@ -269,7 +277,8 @@ module _ (s : System) (q : List (List ℕ)) where
 in-row : {n below number place : ℕ} → number ≡ n → place < below → InRow (rowWith n n 0 below) number place
 in-row e h = record { from = omega arith; to = omega arith; after = omega arith; before = h }
 
-pub refused-iff-fault : (limits : Limits) (s : System) → SystemWithin limits s → (c : Certificate) → CertificateWithin limits (shape s) c
+pub refused-iff-fault : (limits : Limits) (s : System) → SystemWithin limits s → (c : Certificate)
+    → CertificateWithin limits (shape s) c
     → (number place : ℕ) → (certificateVerdict s c ≡ refused number place) ↔ Fault s c number place
 unfolding certificateVerdict CertificateWithin Fault
 refused-iff-fault limits s h (solution d N w Z) k number place =
@@ -277,7 +286,8 @@ refused-iff-fault limits s h (solution d N w Z) k number place =
 refused-iff-fault limits s h (absence q) k number place = absence-refused-iff s q
 
 -- "31: d (place 0, tried first) or w (place 1)"; 32 at a row; 33 and 35 at a column; 34 and 36 at 0
-pub fault-rows : (s : System) (c : Certificate) (number place : ℕ) → Fault s c number place → InRows (valueRows (shape s)) number place
+pub fault-rows : (s : System) (c : Certificate) (number place : ℕ) → Fault s c number place
+    → InRows (valueRows (shape s)) number place
 unfolding Fault InRows
 fault-rows s (solution d N w Z) number place (not-monic e f a) = inl (in-row e (omega arith))
 fault-rows s (solution d N w Z) number place (certifying-not-monic e f a b) = inl (in-row e (omega arith))

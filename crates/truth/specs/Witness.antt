@@ -76,7 +76,8 @@ module _ {A : Type 0} (R : Ring A) where
     -- lemma 6 of document 002: c·x = e·Q gives A·Q = c·b, so that w divides Z·A·Q = c·(Z·b)
     pub clearing-side : (w : A) (Z q : ℕ → A) → ((j : ℕ) → j < E .columns → columnOf E Z j ≡ w * q j) → (x : ℕ → A) (e : A)
         → SolvesEquations E x e
-        → (c : A) (Q : ℕ → A) → ((j : ℕ) → j < E .columns → c * x j ≡ e * Q j) → c * sideOf E Z ≡ w * sum R (E .columns) (λ j. q j * Q j)
+        → (c : A) (Q : ℕ → A) → ((j : ℕ) → j < E .columns → c * x j ≡ e * Q j)
+        → c * sideOf E Z ≡ w * sum R (E .columns) (λ j. q j * Q j)
     clearing-side w Z q columns x e X c Q h =
         times-row Z c Q row
         ∙ sum-ext R (E .columns) (λ j. columnOf E Z j * Q j) (λ j. w * (q j * Q j))
@@ -87,7 +88,8 @@ module _ {A : Type 0} (R : Ring A) where
         row i k = cancel-eq e (rowOf E Q i) (c * E .side i) (X .nonzero)
             (sym (sum-mul R (E .columns) e (λ j. E .entry i j * Q j))
             ∙ sum-ext R (E .columns) (λ j. e * (E .entry i j * Q j)) (λ j. c * (E .entry i j * x j))
-            (λ j l. mul-left-comm R e (E .entry i j) (Q j) ∙ ap (λ z. E .entry i j * z) (sym (h j l)) ∙ mul-left-comm R (E .entry i j) c (x j))
+            (λ j l. mul-left-comm R e (E .entry i j) (Q j) ∙ ap (λ z. E .entry i j * z) (sym (h j l))
+            ∙ mul-left-comm R (E .entry i j) c (x j))
             ∙ sum-mul R (E .columns) c (λ j. E .entry i j * x j) ∙ ap (λ z. c * z) (X .rows i k) ∙ mul-left-comm R c e (E .side i))
 
     -- whatever makes a solution whole is a multiple of d: w divides c·(Z·b), so that d divides c·s and so c

@@ -50,7 +50,8 @@ Given format ws sizes sizes′ values values′ = (fs : List (List ℕ)) → Hol
 module _ (ws : List ℕ) where
   -- a refusal
   pub system-refused : {answer : SystemRead} (sizes values : List ℕ) (r : Refusal) → answer ≡ system.Refused r
-      → systemOutcome answer ≡ mapped shape (readSystem office ws) → LoadsSystem office ws (system.Refused r) sizes sizes values values
+      → systemOutcome answer ≡ mapped shape (readSystem office ws)
+      → LoadsSystem office ws (system.Refused r) sizes sizes values values
   unfolding sizesAfter valuesAfter
   system-refused sizes values r is told =
       let t = ap systemOutcome (sym is) ∙ told in
@@ -75,7 +76,8 @@ module _ (ws : List ℕ) where
     holds =
         let within = system-laws office office-fits .apart s (written .1) .entries in
         let small = written .1 .shape .modulus in
-        subst (λ (g : Shape). HoldsEntries (office .systemCoefficients) (systemCount (g .rows) (g .columns)) ws (systemEntries s)) (read .2)
+        subst (λ (g : Shape). HoldsEntries (office .systemCoefficients) (systemCount (g .rows) (g .columns)) ws (systemEntries s))
+        (read .2)
         (record {
           head = headWord (shape s);
           words = written .0;
@@ -89,8 +91,11 @@ module _ (ws : List ℕ) where
       pub system-asked : systemPolynomials ≤ length sizes → office .systemCoefficients * systemPolynomials ≤ length values
           → Asked format ws sizes values
       system-asked sized roomy =
-          subst (λ (f : Format). Asked f ws sizes values) (sym is)
-          ((systemEntries s, holds), kind-ready office office-fits h system-shape kind.System sizes values (omega arith) sized roomy .0)
+          subst (λ (f : Format). Asked f ws sizes values) (sym is) (
+            (systemEntries s, holds),
+            kind-ready office office-fits h system-shape kind.System sizes values (omega arith) sized
+                roomy .0,
+          )
 
       pub system-loads : {sizes′ values′ : List ℕ} (v : ShapeValue) → shapeOf v ≡ h → Given format ws sizes sizes′ values values′
           → LoadsSystem office ws (system.Accepted v) sizes sizes′ values values′
@@ -147,7 +152,8 @@ module _ (h : Shape) (ws : List ℕ) where
       holds-as =
           let within = certificate-laws office h .apart c (written-as .1) .entries in
           let small = certificate-shape .modulus in
-          subst (λ (f : Form). HoldsEntries (office .certificateCoefficients) (entryCount h f) ws (certificateEntries c)) (read-as .2)
+          subst (λ (f : Form). HoldsEntries (office .certificateCoefficients) (entryCount h f) ws (certificateEntries c))
+          (read-as .2)
           (record {
             head = formWord (certificateForm c);
             words = written-as .0;

@@ -36,39 +36,40 @@ withPart values from part = take from values ++ (part ++ drop (length values - f
 
 -- ---- the words at the place of polynomial k
 
-module _ {limit count : ℕ} {ws : List ℕ} {fs : List (List ℕ)} (h : HoldsEntries limit count ws fs) (k : ℕ) (some : k < length fs) where
-  abbrev f : List ℕ
-  f = getD fs k []
+module _ {limit count : ℕ} {ws : List ℕ} {fs : List (List ℕ)} (h : HoldsEntries limit count ws fs) (k : ℕ) (some : k < length fs)
+  where
+    abbrev f : List ℕ
+    f = getD fs k []
 
-  abbrev at : ℕ
-  at = entryPlace fs k
+    abbrev at : ℕ
+    at = entryPlace fs k
 
-  few : length f ≤ limit
-  few = all-at (h .modulus) limit fs (h .within .entries) k .size
+    few : length f ≤ limit
+    few = all-at (h .modulus) limit fs (h .within .entries) k .size
 
-  from-place : (rest : List ℕ) × (drop at ws ≡ polynomialWords f ++ rest)
-  from-place = polynomial-from ws (h .head) fs (h .words) k some
+    from-place : (rest : List ℕ) × (drop at ws ≡ polynomialWords f ++ rest)
+    from-place = polynomial-from ws (h .head) fs (h .words) k some
 
-  pub place-room : at + (1 + length f) ≤ length ws
-  place-room = omega (arith, polynomial-inside ws (h .head) fs (h .words) k some, length-polynomialWords f)
+    pub place-room : at + (1 + length f) ≤ length ws
+    place-room = omega (arith, polynomial-inside ws (h .head) fs (h .words) k some, length-polynomialWords f)
 
-  pub place-size : payload (getD ws at 0) ≡ length f
-  unfolding polynomialWords
-  place-size =
-      let here : at + 0 ≡ at = omega arith in
-      let short = few in
-      ap (λ (i : ℕ). payload (getD ws i 0)) (sym here)
-      ∙ ap payload (sym (getD-drop at ws 0 0) ∙ ap (λ (l : List ℕ). getD l 0 0) (from-place .1))
-      ∙ payload-word 2 (length f) (omega (arith, h .narrow))
+    pub place-size : payload (getD ws at 0) ≡ length f
+    unfolding polynomialWords
+    place-size =
+        let here : at + 0 ≡ at = omega arith in
+        let short = few in
+        ap (λ (i : ℕ). payload (getD ws i 0)) (sym here)
+        ∙ ap payload (sym (getD-drop at ws 0 0) ∙ ap (λ (l : List ℕ). getD l 0 0) (from-place .1))
+        ∙ payload-word 2 (length f) (omega (arith, h .narrow))
 
-  pub place-payloads : (size : ℕ) → size ≡ length f → payloadsIn ws (at + 1) size ≡ f
-  unfolding polynomialWords
-  place-payloads size e =
-      let n : length (map (word 3) f) ≡ at + 1 + size - (at + 1) = omega (arith, length-map f (word 3)) in
-      ap (λ (l : List ℕ). map payload (take (at + 1 + size - (at + 1)) l))
-      (sym (drop-drop 1 at ws) ∙ ap (drop 1) (from-place .1))
-      ∙ ap (map payload) (take-at (map (word 3) f) (from-place .0) _ n)
-      ∙ payloads-of (h .modulus) (h .small) f (all-at (h .modulus) limit fs (h .within .entries) k .canonical)
+    pub place-payloads : (size : ℕ) → size ≡ length f → payloadsIn ws (at + 1) size ≡ f
+    unfolding polynomialWords
+    place-payloads size e =
+        let n : length (map (word 3) f) ≡ at + 1 + size - (at + 1) = omega (arith, length-map f (word 3)) in
+        ap (λ (l : List ℕ). map payload (take (at + 1 + size - (at + 1)) l))
+        (sym (drop-drop 1 at ws) ∙ ap (drop 1) (from-place .1))
+        ∙ ap (map payload) (take-at (map (word 3) f) (from-place .0) _ n)
+        ∙ payloads-of (h .modulus) (h .small) f (all-at (h .modulus) limit fs (h .within .entries) k .canonical)
 
 -- ---- the loop
 
@@ -167,7 +168,8 @@ module _ {ws sizes₀ values₀ : List ℕ} {stride count : ℕ} {sizes values :
         part-over (payloadsIn ws (at + 1) size) values (stride * k) part p
         ∙ ap (λ (g : List ℕ). take (stride * k) values ++ overwritten g (drop (stride * k) values)) f
         ∙ ap₂ (λ (n : ℕ) (v : List ℕ). take (stride * n) v ++ overwritten next (drop (stride * n) v)) here (now .values-are)
-        ∙ laid-next stride (take k fs) next values₀ (few-taken k (omega arith)) turn-few (omega (arith, ap (λ (n : ℕ). stride * n) here))
+        ∙ laid-next stride (take k fs) next values₀ (few-taken k (omega arith)) turn-few
+        (omega (arith, ap (λ (n : ℕ). stride * n) here))
         ∙ ap (λ (gs : List (List ℕ)). laidOver stride gs values₀) (sym taken ∙ ap (λ (n : ℕ). take n fs) suc-k)
 
     next-length : length (laidOver stride (take (k + 1) fs) values₀) ≡ length values₀
@@ -200,7 +202,8 @@ module _ {ws sizes₀ values₀ : List ℕ} {stride count : ℕ} {sizes values :
 
   -- a turn stores the size and the coefficients of polynomial k
   pub loads-turn : {limit : ℕ} → limit ≤ stride → {fs : List (List ℕ)} → HoldsEntries limit count ws fs → (size : ℕ)
-      → size ≡ payload (getD ws at 0) → (part : List ℕ) → part ≡ overwritten (payloadsIn ws (at + 1) size) (lentPart values (stride * k))
+      → size ≡ payload (getD ws at 0) → (part : List ℕ) → part ≡ overwritten (payloadsIn ws (at + 1) size)
+      (lentPart values (stride * k))
       → Loads ws sizes₀ values₀ stride count (set sizes k size) (withPart values (stride * k) part) (at + 1 + size) (k + 1)
   loads-turn apart h size e part p = record {
     within = omega arith;

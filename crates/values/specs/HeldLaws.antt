@@ -1,5 +1,5 @@
--- Every system and every certificate within the limits lies in arrays as the writers take them: laid into arrays of their lengths, the
--- values are what the arrays stand for.
+-- Every system and every certificate within the limits lies in arrays as the writers take them: laid into arrays of their lengths,
+-- the values are what the arrays stand for.
 use mathlib.Core.Path.{_≡_, sym, ap, ap₂, _∙_, subst}
 use mathlib.Core.List.{List, []}
 use Prim.Native.Nat.{ℕ, _*_, _≤_}
@@ -24,11 +24,13 @@ use Rattle.values.specs.Laid.{sizesOver, laidOver}
 use Rattle.values.specs.LaidLaws.{Few, length-sizes, length-laid, below-replicate, below-sizes, below-laid, entries-laid}
 
 -- values with the same parts are the same
-same-parts : {H A : Type 0} (F : Format H A) → FormatLaws F → {v u : A} → F .Within v → F .Within u → F .apart v ≡ F .apart u → v ≡ u
+same-parts : {H A : Type 0} (F : Format H A) → FormatLaws F → {v u : A} → F .Within v → F .Within u → F .apart v ≡ F .apart u
+    → v ≡ u
 same-parts F laws {v} {u} hv hu e = sym (laws .together-apart v hv) ∙ ap (F .together) e ∙ laws .together-apart u hu
 
 -- so many polynomials within a limit in arrays that have room for them
-entries-held : {p limit count stride : ℕ} (fs : List (List ℕ)) → VectorWithin p limit count fs → limit ≤ stride → (sizes values : List ℕ)
+entries-held : {p limit count stride : ℕ} (fs : List (List ℕ)) → VectorWithin p limit count fs → limit ≤ stride
+    → (sizes values : List ℕ)
     → stride * count ≤ length values → polynomialsIn stride (sizesOver fs sizes) (laidOver stride fs values) 0 count ≡ fs
 entries-held {p} {limit} {count} {stride} fs within apart sizes values room =
     let n = within .count in
@@ -79,7 +81,8 @@ module _ (limits : Limits) (fit : LimitsFit limits) (fits : limits .certificateC
       certificateIn-entries h (sizesOver fs sizes) (laidOver certificateStride fs values) form
       ∙ entries-held fs entries-of fits sizes values (le-trans (mul-le-mul-left certificateStride few) room) in
       same-parts (certificateFormat limits h) (certificate-laws limits h)
-      (certificate-within limits 0 h (sizesOver fs sizes) (laidOver certificateStride fs values) form (rw same (entries-of .entries)))
+      (certificate-within limits 0 h (sizesOver fs sizes) (laidOver certificateStride fs values) form
+      (rw same (entries-of .entries)))
       within
       (ap₂ (λ (g : Form) (gs : List (List ℕ)). record { head = g; entries = gs })
       (certificateIn-form h (sizesOver fs sizes) (laidOver certificateStride fs values) form) same)
@@ -98,7 +101,8 @@ pub record InArrays (sizesCount valuesCount : ℕ) (Stand : List ℕ → List �
 
 held-by : {p limit count most stride : ℕ} (fs : List (List ℕ)) → VectorWithin p limit count fs → limit ≤ stride → count ≤ most
     → p ≤ 65536 → limit ≤ 65535 → {Stand : List ℕ → List ℕ → Type 0}
-    → Stand (sizesOver fs (replicate most 0)) (laidOver stride fs (replicate (stride * most) 0)) → InArrays most (stride * most) Stand
+    → Stand (sizesOver fs (replicate most 0)) (laidOver stride fs (replicate (stride * most) 0))
+    → InArrays most (stride * most) Stand
 held-by {p} {limit} {count} {most} {stride} fs within apart few small narrow stand =
     let each = all-at p limit fs (within .entries) in
     let zeros : (n : ℕ) → AllBelow 65536 (replicate n 0) = λ n. below-replicate 65536 n (omega arith) in
@@ -137,5 +141,6 @@ pub certificate-held : (limits : Limits) → LimitsFit limits → limits .certif
 certificate-held limits fit fits h shape c within =
     let few = entryCount-most limits h fit shape (certificateForm c) in
     let small = shape .modulus in
-    held-by (certificateEntries c) (entries-of limits fit fits h shape c within) fits few (omega arith) (fit .certificateCoefficients)
+    held-by (certificateEntries c) (entries-of limits fit fits h shape c within) fits few (omega arith)
+    (fit .certificateCoefficients)
     (certificate-laid limits fit fits h shape c within _ _ (le-of-eq (sym (length-replicate _ 0))))

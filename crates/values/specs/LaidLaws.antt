@@ -1,4 +1,5 @@
--- Polynomials laid into arrays: the arrays keep their lengths, one polynomial more, and the polynomials that the arrays then stand for.
+-- Polynomials laid into arrays: the arrays keep their lengths, one polynomial more, and the polynomials that the arrays then stand
+-- for.
 use mathlib.Core.Path.{_≡_, refl, sym, ap, ap₂, _∙_}
 use mathlib.Core.List.{List, [], _∷_, _++_, map, append-assoc}
 use Prim.Native.Nat.{ℕ, zero, suc, _+_, _*_, _≤_, _<_}
@@ -167,5 +168,6 @@ module _ (bound : ℕ) where
   below-laid stride [] v each h = h
   below-laid stride (f ∷ fs) v each h =
       below-append bound (overwritten f (take stride v)) (laidOver stride fs (drop stride v))
-      (below-append bound f (drop (length f) (take stride v)) (each 0) (below-drop (length f) (take stride v) (below-take stride v h)))
+      (below-append bound f (drop (length f) (take stride v)) (each 0)
+      (below-drop (length f) (take stride v) (below-take stride v h)))
       (below-laid stride fs (drop stride v) (λ k. each (suc k)) (below-drop stride v h))

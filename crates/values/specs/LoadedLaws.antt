@@ -76,7 +76,8 @@ module _ {limits : Limits} {h : Shape} {cs : List ℕ} {answer : CertificateRead
       → {c : Certificate} → readCertificate limits h cs ≡ accepted c → LoadedCertificate h c answer sizes′ values′
   certificate-loaded fit fits shape room {c} read =
       let found = shape-within limits h (readCertificate limits h cs) shape ∙ read in
-      let e = arrays-laid certificateStride sizes values (loads .sizes-are) (loads .values-are) (ap (mapped certificateEntries) found) in
+      let e = arrays-laid certificateStride sizes values (loads .sizes-are) (loads .values-are)
+      (ap (mapped certificateEntries) found) in
       record {
         answer-is = loads .answer-is ∙ ap (mapped certificateForm) found;
         values-are = rw (e .0, e .1)

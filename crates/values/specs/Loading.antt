@@ -1,5 +1,5 @@
--- What the calls do that hand out values: the answer of the reader, and the polynomials in the lent arrays; on a refusal all lent numbers
--- stay.
+-- What the calls do that hand out values: the answer of the reader, and the polynomials in the lent arrays; on a refusal all lent
+-- numbers stay.
 use mathlib.Core.Path.{_≡_}
 use mathlib.Core.List.{List}
 use Prim.Native.Nat.{ℕ}
@@ -28,10 +28,11 @@ valuesAfter stride (refused number place) lent = lent
 
 -- ---- systems
 
-pub record LoadsSystem (limits : Limits) (words : List ℕ) (answer : SystemRead) (sizes sizes′ values values′ : List ℕ) : Type 0 where
-  pub answer-is : systemOutcome answer ≡ mapped shape (readSystem limits words)
-  pub sizes-are : sizes′ ≡ sizesAfter (mapped systemEntries (readSystem limits words)) sizes
-  pub values-are : values′ ≡ valuesAfter (limits .systemCoefficients) (mapped systemEntries (readSystem limits words)) values
+pub record LoadsSystem (limits : Limits) (words : List ℕ) (answer : SystemRead) (sizes sizes′ values values′ : List ℕ) : Type 0
+  where
+    pub answer-is : systemOutcome answer ≡ mapped shape (readSystem limits words)
+    pub sizes-are : sizes′ ≡ sizesAfter (mapped systemEntries (readSystem limits words)) sizes
+    pub values-are : values′ ≡ valuesAfter (limits .systemCoefficients) (mapped systemEntries (readSystem limits words)) values
 
 -- ---- certificates for a system of a shape, which is tried first, as the writer tries it
 

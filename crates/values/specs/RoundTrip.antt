@@ -1,6 +1,6 @@
--- "Every sheet and card within the limits has one written form; it reads back as the same values, and every accepted form writes back as
--- the same words" (demand 2 of the notice), of the calls: what `write_system` writes, `load_system` loads as the values that were
--- written; what `load_system` loads, `write_system` writes as the words that were read. The same of certificates.
+-- "Every sheet and card within the limits has one written form; it reads back as the same values, and every accepted form writes
+-- back as the same words" (demand 2 of the notice), of the calls: what `write_system` writes, `load_system` loads as the values
+-- that were written; what `load_system` loads, `write_system` writes as the words that were read. The same of certificates.
 use mathlib.Core.Path.{_≡_, sym, ap, _∙_, subst}
 use mathlib.Core.List.{List}
 use Prim.Native.Nat.{ℕ, _*_, _≤_}
@@ -79,34 +79,35 @@ module _ (limits : Limits) (fit : LimitsFit limits) where
   WritesCertificate sizes values form h entry answer exit =
       Writes (writeCertificate limits (length entry) h (certificateIn h form sizes values)) entry answer exit
 
-  module _ (fits : limits .certificateCoefficients ≤ certificateStride) (h : Shape) (sizes values : List ℕ) {entry exit : List ℕ} where
-    pub certificate-writes-form : ShapeWithin limits h → {c : Certificate} → CertificateWithin limits h c
-        → certificateIn h (certificateForm c) sizes values ≡ c → longestCertificate limits ≤ length entry
-        → {answer : Counted} → WritesCertificate sizes values (certificateForm c) h entry answer exit
-        → WritesBack (certificateWords c) entry answer exit
-    certificate-writes-form shape {c} within stand enough w =
-        certificate-written-back limits fit (certificateWords c) sizes values h shape c
-        (certificate-read-of-written limits h fit shape c within) stand enough w
+  module _ (fits : limits .certificateCoefficients ≤ certificateStride) (h : Shape) (sizes values : List ℕ) {entry exit : List ℕ}
+    where
+      pub certificate-writes-form : ShapeWithin limits h → {c : Certificate} → CertificateWithin limits h c
+          → certificateIn h (certificateForm c) sizes values ≡ c → longestCertificate limits ≤ length entry
+          → {answer : Counted} → WritesCertificate sizes values (certificateForm c) h entry answer exit
+          → WritesBack (certificateWords c) entry answer exit
+      certificate-writes-form shape {c} within stand enough w =
+          certificate-written-back limits fit (certificateWords c) sizes values h shape c
+          (certificate-read-of-written limits h fit shape c within) stand enough w
 
-    pub certificate-reads-back : {form : Form} {n : ℕ} → WritesCertificate sizes values form h entry (Count n) exit
-        → {lentSizes sizes′ lentValues values′ : List ℕ} {answer : CertificateRead}
-        → LoadsCertificate limits h (take n exit) answer lentSizes sizes′ lentValues values′ → CertificateRoom lentValues
-        → (certificateOutcome answer ≡ accepted form) × (certificateIn h form sizes′ values′ ≡ certificateIn h form sizes values)
-    certificate-reads-back {form} w {sizes′ = sizes′} {values′ = values′} loads roomy =
-        let shape = certificate-accepted limits (length entry) h sizes values form _ (count-words _ w) .shape in
-        let l = certificate-loaded loads fit fits shape roomy (certificate-call-is-read limits fit h sizes values form w) in
-        let same = certificateIn-form h sizes values form in (
-          l .answer-is ∙ ap accepted same,
-          subst (λ (f : Form). certificateIn h f sizes′ values′ ≡ certificateIn h form sizes values) same (l .values-are),
-        )
+      pub certificate-reads-back : {form : Form} {n : ℕ} → WritesCertificate sizes values form h entry (Count n) exit
+          → {lentSizes sizes′ lentValues values′ : List ℕ} {answer : CertificateRead}
+          → LoadsCertificate limits h (take n exit) answer lentSizes sizes′ lentValues values′ → CertificateRoom lentValues
+          → (certificateOutcome answer ≡ accepted form) × (certificateIn h form sizes′ values′ ≡ certificateIn h form sizes values)
+      certificate-reads-back {form} w {sizes′ = sizes′} {values′ = values′} loads roomy =
+          let shape = certificate-accepted limits (length entry) h sizes values form _ (count-words _ w) .shape in
+          let l = certificate-loaded loads fit fits shape roomy (certificate-call-is-read limits fit h sizes values form w) in
+          let same = certificateIn-form h sizes values form in (
+            l .answer-is ∙ ap accepted same,
+            subst (λ (f : Form). certificateIn h f sizes′ values′ ≡ certificateIn h form sizes values) same (l .values-are),
+          )
 
-    pub certificate-loads-back : {ws lentSizes lentValues : List ℕ} {read : CertificateRead}
-        → LoadsCertificate limits h ws read lentSizes sizes lentValues values → CertificateRoom lentValues
-        → {form : Form} → certificateOutcome read ≡ accepted form → longestCertificate limits ≤ length entry
-        → {answer : Counted} → WritesCertificate sizes values form h entry answer exit → WritesBack ws entry answer exit
-    certificate-loads-back {ws} loads roomy {form} is enough {answer} w =
-        let found = mapped-accepted certificateForm (certificateToLoad limits h ws) (sym (loads .answer-is) ∙ is) in
-        let passed = shape-passed limits h (readCertificate limits h ws) (found .1) in
-        let l = certificate-loaded loads fit fits (passed .0) roomy (passed .1) in
-        certificate-written-back limits fit ws sizes values h (passed .0) (found .0) (passed .1) (l .values-are) enough
-        (subst (λ (f : Form). WritesCertificate sizes values f h entry answer exit) (sym (found .2)) w)
+      pub certificate-loads-back : {ws lentSizes lentValues : List ℕ} {read : CertificateRead}
+          → LoadsCertificate limits h ws read lentSizes sizes lentValues values → CertificateRoom lentValues
+          → {form : Form} → certificateOutcome read ≡ accepted form → longestCertificate limits ≤ length entry
+          → {answer : Counted} → WritesCertificate sizes values form h entry answer exit → WritesBack ws entry answer exit
+      certificate-loads-back {ws} loads roomy {form} is enough {answer} w =
+          let found = mapped-accepted certificateForm (certificateToLoad limits h ws) (sym (loads .answer-is) ∙ is) in
+          let passed = shape-passed limits h (readCertificate limits h ws) (found .1) in
+          let l = certificate-loaded loads fit fits (passed .0) roomy (passed .1) in
+          certificate-written-back limits fit ws sizes values h (passed .0) (found .0) (passed .1) (l .values-are) enough
+          (subst (λ (f : Form). WritesCertificate sizes values f h entry answer exit) (sym (found .2)) w)

@@ -19,8 +19,8 @@ ghost use Rattle.words.specs.Limits.{office};
 ghost use Rattle.answers.specs.Answer.{shapeOf};
 ghost use Rattle.values.specs.Loading.{LoadsSystem, LoadsCertificate};
 
-// Reads a system and stores its values. Polynomial k, of A row by row and then of b, has its size in `sizes[k]`, and its coefficients,
-// lowest power first, from `values[Office::COEFFICIENTS * k]` on.
+// Reads a system and stores its values. Polynomial k, of A row by row and then of b, has its size in `sizes[k]`, and its
+// coefficients, lowest power first, from `values[Office::COEFFICIENTS * k]` on.
 pub fn load_system(
     sizes: &mut [usize; Office::SYSTEM_POLYNOMIALS],
     values: &mut [u64; SYSTEM_VALUES],
@@ -45,8 +45,9 @@ pub fn load_system(
     }
 }
 
-// Tries p, n and m, 2, then 3, at place 0; then reads a certificate for a system of that shape and stores its values. Polynomial k, of d,
-// N, w and Z or else of q, has its size in `sizes[k]`, and its coefficients, lowest power first, from `values[STRIDE * k]` on.
+// Tries p, n and m, 2, then 3, at place 0; then reads a certificate for a system of that shape and stores its values. Polynomial k,
+// of d, N, w and Z or else of q, has its size in `sizes[k]`, and its coefficients, lowest power first, from `values[STRIDE * k]`
+// on.
 pub fn load_certificate(
     sizes: &mut [usize; Office::CERTIFICATE_POLYNOMIALS],
     values: &mut [u64; CERTIFICATE_VALUES],

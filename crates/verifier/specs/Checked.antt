@@ -1,5 +1,6 @@
--- Demands 2 and 3 of the check on files: it accepts two files exactly when they are the bytes of the written forms of a system and of a
--- certificate of which the conditions hold, the certificate then tells the truth, and no system's file has accepted files of both kinds.
+-- Demands 2 and 3 of the check on files: it accepts two files exactly when they are the bytes of the written forms of a system and
+-- of a certificate of which the conditions hold, the certificate then tells the truth, and no system's file has accepted files of
+-- both kinds.
 use Prim.Native.Nat.{ℕ, _*_, _%_}
 use mathlib.Core.Path.{_≡_, sym, _∙_, ap, subst}
 use mathlib.Core.Logic.{_↔_}
@@ -74,7 +75,8 @@ module _ (limits : Limits) (fit : LimitsFit limits) {Of : System → Certificate
         certificate = a .certificate;
         system-file = sym (bytesOf-wordsOf f small-f (eqb-true _ _ (not-false _ system))) ∙ ap bytesOf (a .system-words);
         system-within = a .system-within;
-        certificate-file = sym (bytesOf-wordsOf g small-g (eqb-true _ _ (not-false _ certificate))) ∙ ap bytesOf (a .certificate-words);
+        certificate-file = sym (bytesOf-wordsOf g small-g (eqb-true _ _ (not-false _ certificate)))
+            ∙ ap bytesOf (a .certificate-words);
         certificate-within = a .certificate-within;
         holds = a .holds;
       }
@@ -89,7 +91,8 @@ module _ (limits : Limits) (fit : LimitsFit limits) where
     files-iff-certified = (
       λ e.
           let t = refuse-passed (filesBroken limits f g) 10 0 (verdict limits (wordsOf f) (wordsOf g)) e in
-          files-of-words limits fit f g small-f small-g (t .0) (accepted-iff-certified limits fit (wordsOf f) (wordsOf g) .0 (t .1)),
+          files-of-words limits fit f g small-f small-g (t .0)
+          (accepted-iff-certified limits fit (wordsOf f) (wordsOf g) .0 (t .1)),
       λ a.
           let t = words-of-files limits fit f g a in
           ap (λ b. refuse b 10 0 (verdict limits (wordsOf f) (wordsOf g))) (t .0)
@@ -119,7 +122,8 @@ module _ (limits : Limits) (fit : LimitsFit limits) where
         (subst (λ s. True s (b .certificate)) same
         (certified-true limits (b .system) (b .system-within) (b .certificate) (b .certificate-within) (b .holds)))
 
-    pub file-verdicts-agree : Bytes f → Bytes g → Bytes h → fileVerdict limits f g ≡ accepted tt → fileVerdict limits f h ≡ accepted tt
+    pub file-verdicts-agree : Bytes f → Bytes g → Bytes h → fileVerdict limits f g ≡ accepted tt
+        → fileVerdict limits f h ≡ accepted tt
         → (a : CertifiedFiles limits f g) × (b : CertifiedFiles limits f h) × Agree (a .certificate) (b .certificate)
     file-verdicts-agree small-f small-g small-h d e =
         let a = files-iff-certified f g small-f small-g .0 d in

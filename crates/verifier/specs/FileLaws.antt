@@ -51,7 +51,8 @@ module _ (limits : Limits) (fit : LimitsFit limits) (system certificate : List �
   by-tests false true {place = place} long e = let same : place ≡ 0 = cc in omega arith
   by-tests false false {number} {place} long words =
       let short = passed-short (broken system) (tooLong limits system) (longestSystem limits) (length system) refl long in
-      let refused = verdict-room limits fit (wordsOf system) (wordsOf certificate) (longestCertificate limits + 1) (omega arith) ∙ words in
+      let refused = verdict-room limits fit (wordsOf system) (wordsOf certificate) (longestCertificate limits + 1) (omega arith)
+      ∙ words in
       let below = places-below number place (suc b) (checkRows (wordsOf system) first-words)
       (check-below (wordsOf system) first-words (omega (arith, length-wordsOf system, short)) (omega (arith, few-words)) heads)
       (words-rows limits fit (wordsOf system) first-words .in-rows number place refused) in

@@ -1,4 +1,5 @@
--- The refusals of the check on files, each under its condition only (demand 1): 10 before all others, then those of the files' words.
+-- The refusals of the check on files, each under its condition only (demand 1): 10 before all others, then those of the files'
+-- words.
 use Prim.Native.Nat.{ℕ}
 use mathlib.Core.Path.{_≡_}
 use mathlib.Core.Logic.{_↔_}
@@ -21,7 +22,8 @@ abbrev pub FilesRefused : Limits → (f g : List ℕ) (number place : ℕ) → T
 FilesRefused limits f g = TenFirst (filesBroken limits f g) (PairRefused limits Fault (wordsOf f) (wordsOf g))
 
 module _ (limits : Limits) (fit : LimitsFit limits) (f g : List ℕ) where
-  pub files-refused-iff : (number place : ℕ) → (fileVerdict limits f g ≡ refused number place) ↔ FilesRefused limits f g number place
+  pub files-refused-iff : (number place : ℕ) → (fileVerdict limits f g ≡ refused number place)
+      ↔ FilesRefused limits f g number place
   unfolding fileVerdict
   files-refused-iff =
       ten-first-iff (filesBroken limits f g) (verdict limits (wordsOf f) (wordsOf g)) _

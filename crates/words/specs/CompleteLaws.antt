@@ -1,4 +1,5 @@
--- Behind words that break no row some can always follow to the end of a written form: zero polynomials, coefficients 1, the end word.
+-- Behind words that break no row some can always follow to the end of a written form: zero polynomials, coefficients 1, the end
+-- word.
 use mathlib.Core.Path.{_≡_, refl, sym}
 use mathlib.Core.Bool.{Bool, true, false, not, _&&_}
 use mathlib.Core.Option.{Option, none}
@@ -10,7 +11,8 @@ use lib.Dec.{eqb, ltb}
 use borrow.Author.Tests.{eq-eqb, lt-leb, le-ltb, ltb-false}
 use Rattle.words.specs.Word.{kind, payload, word}
 use Rattle.words.specs.WordLaws.{kind-word, payload-word}
-use Rattle.words.specs.Table.{Expected, HeadTable, tableRow, polynomialsDue, coefficientsDue, numberAt, missingAt, after, dueAfter}
+use Rattle.words.specs.Table.{Expected, HeadTable, tableRow, polynomialsDue, coefficientsDue, numberAt, missingAt, after}
+use Rattle.words.specs.Table.{dueAfter}
 use Rattle.words.specs.Table.{Passed}
 use Rattle.words.specs.Table.Expected.{head, start, coefficient, end, nothing}
 use Rattle.words.specs.PassLaws.{none-some}

@@ -15,7 +15,8 @@ use Rattle.words.specs.Reading.Reading.{read, fault}
 use Rattle.words.specs.ReadingLaws.{fault-read, andThen-read}
 use Rattle.words.specs.Frame.{Due, framedFrom}
 use Rattle.words.specs.FrameLaws.{Expressible}
-use Rattle.words.specs.FormatLaws.{Format, FormatLaws, written, valueFrom, readValue, value-read, value-written, read-of-written}
+use Rattle.words.specs.FormatLaws.{Format, FormatLaws, written, valueFrom, readValue, value-read, value-written}
+use Rattle.words.specs.FormatLaws.{read-of-written}
 use Rattle.words.specs.Table.{HeadTable, tableRow, polynomialsDue, numberAt, missingAt, after, dueAfter}
 use Rattle.words.specs.Table.{Passed, firstAt, ByTable}
 use Rattle.words.specs.Table.Expected.{head, nothing}
@@ -94,11 +95,13 @@ module _ {H A : Type 0} (F : Format H A) (tabled : Tabled F) where
 
   value-walk : (ws : List ℕ) → forgotten (valueFrom F ws) ≡ walk T by (length ws) head ws
   value-walk ws =
-      forgotten-map (framedFrom by (F .headFrom) (F .due) ws) (F .together) ∙ framed-walk (F .headFrom) (F .due) T by (tabled .heads) ws
+      forgotten-map (framedFrom by (F .headFrom) (F .due) ws) (F .together)
+      ∙ framed-walk (F .headFrom) (F .due) T by (tabled .heads) ws
 
   -- ---- a refusal is by the table
 
-  stopped-row : (ws : List ℕ) (n k : ℕ) (us : List ℕ) → Stopped T by 0 head ws n us → k ≡ length ws - length us → ByTable T by ws n k
+  stopped-row : (ws : List ℕ) (n k : ℕ) (us : List ℕ) → Stopped T by 0 head ws n us → k ≡ length ws - length us
+      → ByTable T by ws n k
   stopped-row ws n k us stop e =
       let front = stop .front in
       let all = ap length (stop .words) ∙ length-append front us in
@@ -150,7 +153,8 @@ module _ {H A : Type 0} (F : Format H A) (tabled : Tabled F) where
         pass.passed-append T by 0 head us (t .2) (whole-passed (us ++ t .2) (t .0, t .1, t .3) .0) .0
 
     -- "or words follow, the first of them"
-    pub words-follow : (ws : List ℕ) → WholeForm F ws → (u : ℕ) (us : List ℕ) → readValue F (ws ++ u ∷ us) ≡ refused (9 + by) (length ws)
+    pub words-follow : (ws : List ℕ) → WholeForm F ws → (u : ℕ) (us : List ℕ)
+        → readValue F (ws ++ u ∷ us) ≡ refused (9 + by) (length ws)
     unfolding firstAt numberAt
     words-follow ws t u us =
         let r = whole-passed ws t in
@@ -172,7 +176,8 @@ module _ {H A : Type 0} (F : Format H A) (tabled : Tabled F) where
         tabled .heads .word w [] ∙ ap (λ (o : Option ℕ). turned o (w ∷ []) (read g [])) h in
         let valid = roomy .laws .head .read (w ∷ []) g [] e .1 in
         let x = roomy .expressible g valid .words in
-        let room = complete.room-polynomials 1 (F .due g .modulus) (F .due g .limit) (F .due g .count) (roomy .two g valid) (omega arith) in
+        let room = complete.room-polynomials 1 (F .due g .modulus) (F .due g .limit) (F .due g .count) (roomy .two g valid)
+        (omega arith) in
         subst (λ (d : Due). Room 1 (polynomialsDue (d .modulus) (d .limit) (d .count))) (tabled .heads .says w) room
 
     module _ (some-head : H) (some-valid : F .Valid some-head) where
@@ -186,7 +191,8 @@ module _ {H A : Type 0} (F : Format H A) (tabled : Tabled F) where
       unfolding Passed dueAfter numberAt
       completed [] h =
           let w = F .headWord some-head in
-          complete.completed-word T by 0 head w head-none (complete.complete-after T by 1 (after T head w) [] (head-room w head-none) tt)
+          complete.completed-word T by 0 head w head-none (complete.complete-after T by 1 (after T head w) []
+          (head-room w head-none) tt)
       completed (w ∷ us) h =
           let k : 0 + suc (length us) ≡ 1 + length us = omega arith in
           rw k (complete.complete-after T by 1 (after T head w) us (head-room w (h .0)) (h .1))

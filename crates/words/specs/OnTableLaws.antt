@@ -11,7 +11,8 @@ use lib.ListN.{length, getD, take, drop-of-length-le}
 use lib.Seq.{drop-cons}
 use lib.Dec.{eqb, leb, ltb}
 use Rattle.words.specs.Word.{kind, payload}
-use Rattle.words.specs.Table.{Expected, HeadTable, tableRow, polynomialsDue, coefficientsDue, numberAt, missingAt, after, dueAfter}
+use Rattle.words.specs.Table.{Expected, HeadTable, tableRow, polynomialsDue, coefficientsDue, numberAt, missingAt, after}
+use Rattle.words.specs.Table.{dueAfter}
 use Rattle.words.specs.Table.{firstAt, ByTable}
 use Rattle.words.specs.Table.Expected.{head, start, coefficient, end, nothing}
 use Rattle.words.specs.PassLaws.{none-some}
@@ -108,7 +109,8 @@ module _ (T : HeadTable) (by : ℕ) where
   word-five nothing count w {n} b h = let same : 9 + by ≡ n = cc in (omega arith, omega arith)
 
   module _ (lowest highest : ℕ) (heads : (w n : ℕ) → T .number w ≡ some n → (lowest ≤ n) × (n ≤ highest)) where
-    placed : (ws : List ℕ) (n k : ℕ) → ByTable T by ws n k → Dec (k < length ws) → InRows (wordsRows lowest highest by (length ws)) n k
+    placed : (ws : List ℕ) (n k : ℕ) → ByTable T by ws n k → Dec (k < length ws)
+        → InRows (wordsRows lowest highest by (length ws)) n k
     unfolding InRows numberAt dueAfter
     placed ws n k h (no less) =
         let few = h .within in

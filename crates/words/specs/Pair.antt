@@ -1,5 +1,5 @@
--- The words of a system and those of a certificate for it, handed in together: what is accepted of them, and what is refused. "Reads
--- the sheet, then the card, then tries" what is asked of their values (document 01, of the check; of the lookup "likewise").
+-- The words of a system and those of a certificate for it, handed in together: what is accepted of them, and what is refused.
+-- "Reads the sheet, then the card, then tries" what is asked of their values (document 01, of the check; of the lookup "likewise").
 use Prim.Native.Nat.{ℕ}
 use mathlib.Core.Path.{_≡_}
 use mathlib.Core.List.{List}
@@ -29,8 +29,8 @@ pub record WrittenFiles (limits : Limits) (Of : System → Certificate → Type 
   pub certificate-within : CertificateWithin limits (shape system) certificate
   pub holds : Of system certificate
 
--- A refusal: by the table's rows for a system's words; of a system's written form, by those for the words of a certificate for it; of
--- both written forms, by what is asked of the values. No reader is in it.
+-- A refusal: by the table's rows for a system's words; of a system's written form, by those for the words of a certificate for it;
+-- of both written forms, by what is asked of the values. No reader is in it.
 pub data PairRefused (limits : Limits) (Of : System → Certificate → (number place : ℕ) → Type 0) (ws cs : List ℕ) (number place : ℕ)
     : Type 0 where
   by-system : ByTable (systemTable limits) 0 ws number place → PairRefused limits Of ws cs number place

@@ -1,4 +1,5 @@
--- A system read, then a certificate for it, then what is asked of their values: when that is accepted, when it is refused and where.
+-- A system read, then a certificate for it, then what is asked of their values: when that is accepted, when it is refused and
+-- where.
 use Prim.Native.Nat.{ℕ}
 use mathlib.Core.Path.{_≡_, refl, sym, ap, _∙_, subst}
 use mathlib.Core.Logic.{_↔_}
@@ -47,13 +48,15 @@ module _ (limits : Limits) (fit : LimitsFit limits) {A : Type 0} (next : System 
   both = followedBy (readSystem limits ws) second
 
   -- of written forms it is what is asked of the values
-  pub pair-of-written : {Of : System → Certificate → Type 0} (w : WrittenPair limits Of ws cs) → both ≡ next (w .system) (w .certificate)
+  pub pair-of-written : {Of : System → Certificate → Type 0} (w : WrittenPair limits Of ws cs)
+      → both ≡ next (w .system) (w .certificate)
   pair-of-written w =
       ap (λ o. followedBy o second)
       (ap (readSystem limits) (w .system-words) ∙ system-read-of-written limits fit (w .system) (w .system-within))
       ∙ ap (λ o. followedBy o (next (w .system)))
       (ap (readCertificate limits (shape (w .system))) (w .certificate-words)
-      ∙ certificate-read-of-written limits (shape (w .system)) fit (w .system-within .shape) (w .certificate) (w .certificate-within))
+      ∙ certificate-read-of-written limits (shape (w .system)) fit (w .system-within .shape) (w .certificate)
+      (w .certificate-within))
 
   -- where both are read they are written forms
   written : {Of : System → Certificate → Type 0} (s : System) (c : Certificate) → readSystem limits ws ≡ accepted s
@@ -82,7 +85,8 @@ module _ (limits : Limits) (fit : LimitsFit limits) {A : Type 0} (next : System 
 
   module _ (Of : System → Certificate → ℕ → ℕ → Type 0) (values : (s : System) → SystemWithin limits s → (c : Certificate)
       → CertificateWithin limits (shape s) c → (n k : ℕ) → (next s c ≡ refused n k) ↔ Of s c n k) (n k : ℕ) where
-    refused-pair : (o : Outcome System) → readSystem limits ws ≡ o → followedBy o second ≡ refused n k → PairRefused limits Of ws cs n k
+    refused-pair : (o : Outcome System) → readSystem limits ws ≡ o → followedBy o second ≡ refused n k
+        → PairRefused limits Of ws cs n k
     refused-pair (refused number place) r e = by-system (system-refused-iff limits ws n k .0 (r ∙ (cc)))
     refused-pair (accepted s) r e = of-certificate (readCertificate limits (shape s) cs) refl e
       where

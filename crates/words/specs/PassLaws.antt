@@ -23,7 +23,8 @@ pub turned-fault : {A : Type 0} (o : Option ℕ) (ws : List ℕ) (next : Reading
 turned-fault (some m) ws next e = inl (cc, cc)
 turned-fault none ws next e = inr (refl, e)
 
-pub turned-read : {A : Type 0} (o : Option ℕ) (ws : List ℕ) (next : Reading A) {a : A} {rest : List ℕ} → turned o ws next ≡ read a rest
+pub turned-read : {A : Type 0} (o : Option ℕ) (ws : List ℕ) (next : Reading A) {a : A} {rest : List ℕ}
+    → turned o ws next ≡ read a rest
     → (o ≡ none) × (next ≡ read a rest)
 turned-read (some m) ws next e = absurd (fault-read e)
 turned-read none ws next e = (refl, e)

@@ -55,7 +55,8 @@ polynomials-at p limit (suc count) ws =
     then-at (polynomialFrom p limit ws) _ (polynomial-at p limit ws) (λ f rest.
     then-at (polynomialsFrom p limit count rest) _ (polynomials-at p limit count rest) (λ fs rest′. tt))
 
-used-rows : {A : Type 0} (total : ℕ) (r : Reading A) → AtFault r → Forward total r → RefusesBy (polynomialRows total) (wordsUsed total r)
+used-rows : {A : Type 0} (total : ℕ) (r : Reading A) → AtFault r → Forward total r
+    → RefusesBy (polynomialRows total) (wordsUsed total r)
 unfolding InRows
 used-rows total (read a rest) h f = by-accepted _
 used-rows total (fault n us) (inl h) f = record {
@@ -80,4 +81,5 @@ module _ (p limit : ℕ) (ws : List ℕ) where
 
   pub polynomials-rows : (count : ℕ) → RefusesBy (polynomialRows (length ws)) (used (polynomialsFrom p limit count) ws)
   polynomials-rows count =
-      used-rows (length ws) (polynomialsFrom p limit count ws) (polynomials-at p limit count ws) (polynomials-forward p limit count ws)
+      used-rows (length ws) (polynomialsFrom p limit count ws) (polynomials-at p limit count ws)
+      (polynomials-forward p limit count ws)

@@ -19,7 +19,8 @@ use Rattle.words.specs.Outcome.Outcome.{refused}
 use Rattle.words.specs.OutcomeLaws.{refuse-refused-iff}
 use Rattle.words.specs.BytesLaws.{length-wordsOf, or-right}
 use Rattle.words.specs.Reading.{Reading, turnBack}
-use Rattle.words.specs.System.{Shape, ShapeWithin, headShape, countsWithin, systemWords, systemHeadFrom, systemDue, readSystem}
+use Rattle.words.specs.System.{Shape, ShapeWithin, headShape, countsWithin, systemWords, systemHeadFrom, systemDue}
+use Rattle.words.specs.System.{readSystem}
 use Rattle.words.specs.Certificate.{formWhen, certificateHeadFrom, certificateDue, certificateWords, readCertificate}
 use Rattle.words.specs.Certificate.Form.{absent}
 use Rattle.words.specs.Bytes.{wordsOf, broken, tooLong, readSystemFile}
@@ -60,7 +61,8 @@ system-heads limits =
       says = λ w. refl;
     }
 
-certificate-heads : (limits : Limits) (h : Shape) → HeadWalk certificateHeadFrom (certificateDue limits h) (certificateTable limits h) 20
+certificate-heads : (limits : Limits) (h : Shape) → HeadWalk certificateHeadFrom (certificateDue limits h)
+    (certificateTable limits h) 20
 unfolding certificateHeadFrom certificateHeadNumber
 certificate-heads limits h =
     record {
@@ -96,8 +98,8 @@ module _ (limits : Limits) where
   abbrev system-tabled : Tabled (systemFormat limits)
   system-tabled = record { table = systemTable limits; heads = system-heads limits }
 
-  -- A system's words are refused just by the table: the number is that of the first row that the word at the place breaks, by what is
-  -- due there, and no word before it breaks one.
+  -- A system's words are refused just by the table: the number is that of the first row that the word at the place breaks, by what
+  -- is due there, and no word before it breaks one.
   pub system-refused-iff : (ws : List ℕ) (n k : ℕ) → (readSystem limits ws ≡ refused n k) ↔ ByTable (systemTable limits) 0 ws n k
   unfolding readSystem
   system-refused-iff ws n k = first.refused-iff (systemFormat limits) system-tabled ws n k
@@ -139,7 +141,13 @@ module _ (limits : Limits) where
       smallest-within : ShapeWithin limits smallest
       unfolding smallest prime?
       smallest-within =
-          record { prime = prime-of-true 2 refl; modulus = omega arith; rows = (omega arith, rows); columns = (omega arith, columns) }
+          record {
+            prime = prime-of-true 2 refl;
+            modulus = omega arith;
+            rows = (omega arith, rows);
+            columns =
+                (omega arith, columns);
+          }
 
       -- words begin a system just where none of them breaks a row
       pub system-begins-iff : (us : List ℕ) → SystemBegins limits us ↔ Passed (systemTable limits) 0 0 head us
@@ -174,7 +182,8 @@ module _ (limits : Limits) (h : Shape) where
       first.refused-iff (certificateFormat limits h) certificate-tabled cs n k
 
   pub certificate-number : (cs : List ℕ) {n k : ℕ} → readCertificate limits h cs ≡ refused n k → k < length cs
-      → numberAt (certificateTable limits h) 20 (dueAfter (certificateTable limits h) head (take k cs)) (suc k) (getD cs k 0) ≡ some n
+      → numberAt (certificateTable limits h) 20 (dueAfter (certificateTable limits h) head (take k cs)) (suc k) (getD cs k 0)
+      ≡ some n
   certificate-number cs {n} {k} e more =
       place.row-at-word (certificateTable limits h) 20 cs (certificate-refused-iff cs n k .0 e) more
 
@@ -227,7 +236,8 @@ module _ (limits : Limits) (h : Shape) where
 
 -- 10 at 0 just of files at fault; of any others, what their words are refused by
 pub ten-first-iff : {A : Type 0} (at-fault : Bool) (o : Outcome A) (Others : (number place : ℕ) → Type 0)
-    → ((n k : ℕ) → (o ≡ refused n k) ↔ Others n k) → (n k : ℕ) → (refuse at-fault 10 0 o ≡ refused n k) ↔ TenFirst at-fault Others n k
+    → ((n k : ℕ) → (o ≡ refused n k) ↔ Others n k) → (n k : ℕ) → (refuse at-fault 10 0 o ≡ refused n k)
+    ↔ TenFirst at-fault Others n k
 ten-first-iff at-fault o Others iff n k = (
   λ e. ⊎-elim (λ t. ten (t .0) (t .1) (t .2)) (λ t. others (t .0) (iff n k .0 (t .1))) (first .0 e),
   back,
@@ -245,7 +255,8 @@ pub file-refused-iff : (limits : Limits) (file : List ℕ) (n k : ℕ)
     → (readSystemFile limits file ≡ refused n k) ↔ FileRefused limits file n k
 unfolding readSystemFile
 file-refused-iff limits file =
-    ten-first-iff (broken file || tooLong limits file) (readSystem limits (wordsOf file)) _ (system-refused-iff limits (wordsOf file))
+    ten-first-iff (broken file || tooLong limits file) (readSystem limits (wordsOf file)) _
+    (system-refused-iff limits (wordsOf file))
 
 -- 10 at 0, else a row of its words
 pub file-rows : (limits : Limits) (file : List ℕ) → RefusesBy (fileRows (wordsOf file)) (readSystemFile limits file)

@@ -78,7 +78,8 @@ pub by-followed : {A B : Type 0} {rows more : List Row} (o : Outcome A) (next : 
 by-followed {rows = rows} {more} (accepted a) next h f =
     record { in-rows = λ n k e. in-second n k rows more (f a refl .in-rows n k e) }
 by-followed {rows = rows} {more} (refused number place) next h f = record {
-  in-rows = λ n k e. in-first n k rows more (h .in-rows n k (let en : number ≡ n = cc in let ek : place ≡ k = cc in ap₂ refused en ek));
+  in-rows = λ n k e. in-first n k rows more (h .in-rows n k (let en : number ≡ n = cc in let ek : place ≡ k = cc in ap₂ refused en
+      ek));
 }
 
 -- of what is handed out of a value

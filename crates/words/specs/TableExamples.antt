@@ -1,5 +1,5 @@
--- Every number that the laws of `RefusedLaws` allow is given: 1 to 9 of a system's words, 21 and 24 to 29 of a certificate's, at the
--- places of document 01's examples, or of their like on a card for case 1.
+-- Every number that the laws of `RefusedLaws` allow is given: 1 to 9 of a system's words, 21 and 24 to 29 of a certificate's, at
+-- the places of document 01's examples, or of their like on a card for case 1.
 use mathlib.Core.Path.{_≡_, refl}
 use Prim.Native.Nat.{ℕ}
 use mathlib.Core.List.{List, [], _∷_, map}
@@ -26,7 +26,8 @@ systems =
     ∷ []
 
 systems-refused : map (readSystem office) systems
-    ≡ refused 1 0 ∷ refused 2 0 ∷ refused 3 0 ∷ refused 4 1 ∷ refused 5 1 ∷ refused 6 1 ∷ refused 7 2 ∷ refused 8 2 ∷ refused 9 3 ∷ []
+    ≡ refused 1 0 ∷ refused 2 0 ∷ refused 3 0 ∷ refused 4 1 ∷ refused 5 1 ∷ refused 6 1 ∷ refused 7 2 ∷ refused 8 2 ∷ refused 9 3 ∷
+    []
 unfolding readSystem systems
 systems-refused = refl
 

@@ -136,7 +136,8 @@ module _ {H : Type 0} (headFrom : List ℕ → Reading H) (due : H → Due) (T :
     rest-walk : (total : ℕ) (g : H) (ws : List ℕ) → forgotten (rest-from total g ws)
         ≡ walk T by total (polynomialsDue (due g .modulus) (due g .limit) (due g .count)) ws
     rest-walk total g ws =
-        forgotten-map (renumber by (bodyFrom (due g) total ws)) (λ (fs : List (List ℕ)). framed g fs) ∙ body-walk T by total (due g) ws
+        forgotten-map (renumber by (bodyFrom (due g) total ws)) (λ (fs : List (List ℕ)). framed g fs)
+        ∙ body-walk T by total (due g) ws
 
     by-number : (o : Option ℕ) (total w : ℕ) (ws : List ℕ)
         → forgotten (andThen (turned o (w ∷ ws) (read (h .value w) ws)) (rest-from total))

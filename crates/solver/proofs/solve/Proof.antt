@@ -25,8 +25,10 @@ returns c =
 solve-read-requires : tie.Need-solve-read-requires
 solve-read-requires c κs =
     let read = c .before .before .before in
-    let told = read .before .before in
-    (was-read _ _ (told .before .limits .ensures) (told .read-system .ensures) (ap systemOutcome (read .read .given .1)), search needs)
+    let told = read .before .before in (
+      was-read _ _ (told .before .limits .ensures) (told .read-system .ensures) (ap systemOutcome (read .read .given .1)),
+      search needs,
+    )
 
 returns-2 : tie.Need-returns-2
 returns-2 c =

@@ -32,7 +32,8 @@ module _ (c : tie.After-opened) where
 module _ (c : tie.After-opened2) where
   stops : fileKind office (files (c .before .before .before .before) .0) (files (c .before .before .before .before) .1)
       ≡ refusedBy (c .opened2 .given .0 .0)
-  stops = ap kindOf (subst (OpensBoth office _ _ _ _) (c .opened2 .given .1) (c .before .before .before .before .open-both .ensures))
+  stops = ap kindOf (subst (OpensBoth office _ _ _ _) (c .opened2 .given .1)
+      (c .before .before .before .before .open-both .ensures))
 
 array-share-prefix-system-words : tie.Need-array-share-prefix-system-words
 array-share-prefix-system-words c =

@@ -19,7 +19,8 @@ returns : tie.Need-returns
 returns c =
     let refusal = c .before .before in
     let test = refusal .before .before in
-    absurd (none-shown _ _ _ _ _ (test .before .before .limits .ensures) (test .before .lookup .ensures .same-words) (test .if1 .taken)
+    absurd (none-shown _ _ _ _ _ (test .before .before .limits .ensures) (test .before .lookup .ensures .same-words)
+    (test .if1 .taken)
     _ (refusal .before .limits2 .ensures) (ap verdictOutcome (sym (c .enum-told .given .1)) ∙ refusal .lookup-refusal .ensures))
 
 returns-2 : tie.Need-returns-2

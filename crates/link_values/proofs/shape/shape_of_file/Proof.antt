@@ -23,7 +23,8 @@ told c read e = ap (mapped shapeNumber) (sym (ap systemOutcome (sym e) ∙ c .re
 pack-counted-requires : tie.Need-pack-counted-requires
 pack-counted-requires c κs =
     let t = c .before in
-    refusal-small (shape-places office office-fits packedMost (omega arith) (omega arith) _) (told (t .before .before) _ (t .read2 .given .1))
+    refusal-small (shape-places office office-fits packedMost (omega arith) (omega arith) _)
+    (told (t .before .before) _ (t .read2 .given .1))
 
 returns : tie.Need-returns
 returns c =

@@ -41,7 +41,8 @@ module _ (c : tie.After-written) where
   abbrev call : tie.After-write-system
   call = c .before .before .before
 
-  counted : Writes (writeSystem office (longestSystem office) (system call)) (replicate 1226 0) (Count (c .written .given .0 .0)) (words call)
+  counted : Writes (writeSystem office (longestSystem office) (system call)) (replicate 1226 0) (Count (c .written .given .0 .0))
+      (words call)
   counted = writes call _ (c .written .given .1)
 
   are : writeSystem office (longestSystem office) (system call) ≡ accepted (take (c .written .given .0 .0) (words call))
@@ -72,7 +73,14 @@ returns-2 c =
     gives-list (write-whole office (system (call w)) _ (are w) (c .before .before .before .before .before .if1 .left))
     (omega (arith, length-bytesOf (take (w .written .given .0 .0) (words (call w))), counted-length (counted w)))
     (packed-all (c .before .before .write-bytes .ensures)
-    (omega (arith, counted-length (counted w), counted-fits (counted w), room w, c .before .before .before .before .before .if1 .left)))
+    (omega (
+      arith,
+      counted-length (counted w),
+      counted-fits (counted w),
+      room w,
+      c .before .before .before .before .before .if1
+          .left,
+    )))
 
 returns-3 : tie.Need-returns-3
 returns-3 c =

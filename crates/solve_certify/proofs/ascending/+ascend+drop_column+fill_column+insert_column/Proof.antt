@@ -33,7 +33,8 @@ use Rattle.solve_certify.proofs.ascending.fill_column.Kinds as fill-col
 use Rattle.solve_certify.proofs.ascending.+ascend+drop_column+fill_column+insert_column.Lts-fill_column as fill-column-lts
 use Rattle.solve_certify.proofs.ascending.insert_column.Reads as insert-column
 use Rattle.solve_certify.proofs.ascending.insert_column.Kinds as insert-column-kinds
-use Rattle.solve_certify.proofs.ascending.+ascend+drop_column+fill_column+insert_column.Lts-insert_column as insert-column-lts
+use Rattle.solve_certify.proofs.ascending.+ascend+drop_column+fill_column+insert_column.Lts-insert_column as
+    insert-column-lts
 use Rattle.solve_certify.proofs.ascending.+ascend+drop_column+fill_column+insert_column.{statement}
 use Rattle.solve_certify.proofs.ascending.+ascend+drop_column+fill_column+insert_column.Tie.{close}
 

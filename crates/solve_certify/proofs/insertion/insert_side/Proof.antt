@@ -18,7 +18,8 @@ find-leading-requires c κs =
     let copied = C .copy in (
       (S .pre .0 .0, omega (arith, copied .kept .0)),
       below-reducible _ (copied .last .0) _
-          (block-below (S .pre .0 .0 .prime) (S .args .input .now) (S .args .columns) (S .pre .0 .2 .below) _ refl (zeros-none blockWords)
+          (block-below (S .pre .0 .0 .prime) (S .args .input .now) (S .args .columns) (S .pre .0 .2 .below) _ refl
+          (zeros-none blockWords)
           (copied .ensures)),
     )
 

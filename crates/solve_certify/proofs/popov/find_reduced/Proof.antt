@@ -36,7 +36,8 @@ reduce-by-kernel-requires c κs =
     let P = S .pre in (
       (P .0 .0, P .1 .0 .0),
       reduced-sums (P .0 .0 .prime) (P .0 .2) (P .0 .1) (P .0 .3) (S .args .block .now) (S .args .tail .now) (P .1 .1 .0 .0)
-          (P .1 .1 .1 .0) (P .1 .1 .0 .1) (P .1 .1 .1 .1) (B .copy .last .0) (T .copy2 .last .0) (B .copy .ensures) (T .copy2 .ensures)
+          (P .1 .1 .1 .0) (P .1 .1 .0 .1) (P .1 .1 .1 .1) (B .copy .last .0) (T .copy2 .last .0) (B .copy .ensures)
+          (T .copy2 .ensures)
           (R .reduce-words .ensures),
     )
 

@@ -58,7 +58,8 @@ multiply-requires c κs =
 store-solution-requires : tie.Need-store-solution-requires
 store-solution-requires c κs =
     let W = c .before .before .before .before .before .before .before .before in
-    let stage = W .before .before .before .before .before .before .before .before .before .before .before .before .before .pre .0 .0 in
+    let stage = W .before .before .before .before .before .before .before .before .before .before .before .before .before .pre .0
+    .0 in
     (stage .rows, stage .columns)
 
 returns : tie.Need-returns

@@ -15,9 +15,11 @@ returns c =
     let first = second .before .before .before in
     let S = first .before .before .before in
     c .copy3 .ensures
-    ∙ ap (λ (l : List ℕ). stored (λ j. getD (S .args .rows .now) (0 + j) 0) l (blockWords * (2 + S .args .m)) (blockWords * S .args .n))
+    ∙ ap (λ (l : List ℕ). stored (λ j. getD (S .args .rows .now) (0 + j) 0) l (blockWords * (2 + S .args .m))
+    (blockWords * S .args .n))
     (second .copy2 .ensures
-    ∙ ap (λ (l : List ℕ). stored (λ j. getD (S .args .w .now) (0 + j) 0) l (blockWords * (1 + S .args .m)) blockWords) (first .copy .ensures))
+    ∙ ap (λ (l : List ℕ). stored (λ j. getD (S .args .w .now) (0 + j) 0) l (blockWords * (1 + S .args .m)) blockWords)
+    (first .copy .ensures))
 
 pub store-solution-spec : {M : Type 1} → statement M
 store-solution-spec =

@@ -17,7 +17,8 @@ use Rattle.solve_descent.proofs.blocks.subtract_blocks.Tie as tie
 abbrev Inv-loop : tie.InvT-loop
 Inv-loop t₀ quotients degrees level rows modulus q₀ t q =
     (q ≤ rows)
-    × TakesCombination (modulus .p) lanes productWords quotients (λ r. blockTerms degrees (slotSize level r)) level (λ r. slotWords * r) q t₀ t
+    × TakesCombination (modulus .p) lanes productWords quotients (λ r. blockTerms degrees (slotSize level r)) level
+    (λ r. slotWords * r) q t₀ t
 
 abbrev μ-loop : tie.MeasureT-loop
 μ-loop t₀ quotients degrees level rows modulus q₀ t q = rows - q
@@ -69,7 +70,8 @@ returns c =
     let L = c .before .loop in
     let end : L .q ≡ S .args .rows = omega arith in
     subst (λ q. TakesCombination (S .args .modulus .p) lanes productWords (S .args .quotients .now)
-    (λ r. blockTerms (S .args .degrees) (slotSize (S .args .level .now) r)) (S .args .level .now) (λ r. slotWords * r) q (S .args .t .now)
+    (λ r. blockTerms (S .args .degrees) (slotSize (S .args .level .now) r)) (S .args .level .now) (λ r. slotWords * r) q
+    (S .args .t .now)
     (L .t)) end (L .inv .1)
 
 pub subtract-blocks-spec : {M : Type 1} → statement M

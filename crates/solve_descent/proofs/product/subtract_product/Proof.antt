@@ -5,7 +5,8 @@ use mathlib.Core.Logic.{⊎-elim}
 use native.Mathlib.Omega.{arith}
 use borrow.Author.Needs.{needs}
 use Rattle.solve_descent.specs.Product.{TakesProduct}
-use Rattle.solve_descent.proofs.Products.{next-multiple, product-start, product-none, product-sum, product-turn, product-skip}
+use Rattle.solve_descent.proofs.Products.{next-multiple, product-start, product-none, product-sum, product-turn}
+use Rattle.solve_descent.proofs.Products.{product-skip}
 use Rattle.solve_descent.proofs.product.subtract_product.Statement.{statement}
 use Rattle.solve_descent.proofs.product.subtract_product.Tie as tie
 

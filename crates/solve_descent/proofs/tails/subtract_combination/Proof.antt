@@ -53,7 +53,8 @@ returns c =
     let S = c .before .before in
     let L = c .before .loop in
     let end : L .q ≡ S .args .rows = omega arith in
-    subst (λ q. TakesCombination (S .args .modulus .p) 1 tailWords (S .args .quotients .now) (λ _. S .args .count) (S .args .level .now)
+    subst (λ q. TakesCombination (S .args .modulus .p) 1 tailWords (S .args .quotients .now) (λ _. S .args .count)
+    (S .args .level .now)
     (λ r. slotWords * r + blockWords) q (S .args .y .now) (L .y)) end (L .inv .1)
 
 pub subtract-combination-spec : {M : Type 1} → statement M

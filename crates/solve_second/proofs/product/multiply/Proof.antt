@@ -66,7 +66,8 @@ returns c =
     let clears = cleared .clear .ensures in
     multiplied (m .prime) _ _ (S .args .f .now) (S .args .n) (S .args .g .now) (S .args .m) _ _ _ _
     (c .before .minus .ensures) (S .pre .0 .1) (S .pre .0 .3)
-    (omega (arith, cleared-length blockWords (S .args .out .now) _ clears)) (cleared-none blockWords (S .args .out .now) _ clears room)
+    (omega (arith, cleared-length blockWords (S .args .out .now) _ clears))
+    (cleared-none blockWords (S .args .out .now) _ clears room)
     (negated .store-negated .ensures) (taken .subtract-product .ensures) (c .reduce-range .ensures)
 
 pub multiply-spec : {M : Type 1} → statement M

@@ -13,17 +13,21 @@ use Rattle.solve_second.specs.QuotientRows.{quotientWord, lane-row, no-r
 use Rattle.solve_second.proofs.rows.store_rows.Statement.{statement}
 use Rattle.solve_second.proofs.rows.store_rows.Tie as tie
 
-module _ (l : List ℕ) (n : ℕ) (o w : List ℕ) (k : ℕ) (so-far : Storing (quotientWord l n) o 0 rowsWords w (blockWords * k)) (small : n ≤ lanes)
+module _ (l : List ℕ) (n : ℕ) (o w : List ℕ) (k : ℕ) (so-far : Storing (quotientWord l n) o 0 rowsWords w (blockWords * k))
+    (small : n ≤ lanes)
     (w′ : List ℕ) where
   row-turn : k < n → w′ ≡ stored (λ e. getD l (lanes * e + (lastLane - reversed n k)) 0) w (blockWords * k) blockWords
       → Storing (quotientWord l n) o 0 rowsWords w′ (blockWords * (k + 1))
   row-turn lt stores =
       let next : blockWords * k + blockWords ≡ blockWords * (k + 1) = omega arith in
       subst (Storing (quotientWord l n) o 0 rowsWords w′) next
-      (storing-row so-far (λ e. getD l (lanes * e + (lastLane - reversed n k)) 0) blockWords w′ (omega arith) (λ e below. lane-row l n k e lt below)
-      (stores ∙ ap (λ d. stored (λ e. getD l (lanes * e + (lastLane - reversed n k)) 0) w d blockWords) (sym (zero-add (blockWords * k)))))
+      (storing-row so-far (λ e. getD l (lanes * e + (lastLane - reversed n k)) 0) blockWords w′ (omega arith)
+      (λ e below. lane-row l n k e lt below)
+      (stores ∙ ap (λ d. stored (λ e. getD l (lanes * e + (lastLane - reversed n k)) 0) w d blockWords)
+      (sym (zero-add (blockWords * k)))))
 
-  rows-end : k ≡ n → w′ ≡ stored (λ j. 0) w (blockWords * n) (rowsWords - blockWords * n) → w′ ≡ stored (quotientWord l n) o 0 rowsWords
+  rows-end : k ≡ n → w′ ≡ stored (λ j. 0) w (blockWords * n) (rowsWords - blockWords * n)
+      → w′ ≡ stored (quotientWord l n) o 0 rowsWords
   rows-end all stores = storing-end (storing-row so-far (λ j. 0) (rowsWords - blockWords * n) w′ (omega arith)
       (λ i below. subst (λ h. 0 ≡ quotientWord l n (blockWords * h + i)) (sym all) (no-row l n i))
       (stores ∙ ap (λ d. stored (λ j. 0) w d (rowsWords - blockWords * n)) (omega arith))) (omega arith)

@@ -46,7 +46,8 @@ returns-2 c =
     let small = greatest-small L (S .args .n) (S .pre .0 .3) (S .pre .0 .0) in
     let high = greatest-high L (S .args .n) (S .args .n - 1 - S .args .i) (omega arith) in
     side-filling-same (S .args .n) (ap (λ (s : Side). sided s L) (sym told))
-    (side-filling-row _ L (S .pre .0 .0) (S .pre .0 .3) (subst (λ (s : Side). TailsEnd (sided s L)) told (S .pre .0 .1)) (S .args .i)
+    (side-filling-row _ L (S .pre .0 .0) (S .pre .0 .3) (subst (λ (s : Side). TailsEnd (sided s L)) told (S .pre .0 .1))
+    (S .args .i)
     (S .pre .0 .4) (side-filling-same (S .args .n) (ap (λ (s : Side). sided s L) told) (S .pre .1 .1)) (S .pre .1 .0)
     (lane-spread (omega (arith, small, high, S .pre .1 .0, S .pre .1 .1 .room)) (c .transpose-lane .ensures)))
 

@@ -24,7 +24,10 @@ lay-second-requires c κs =
     let S = c .before .before .before in
     let valid = side-valid (S .args .side) (S .pre .0 .2) (S .pre .0 .3) in (
       ((λ q h. S .pre .0 .3 .slot q h .block .within), tails-end valid, S .pre .0 .2, S .pre .0 .1),
-      ((length-replicate {A = ℕ} levelWords 0, length-replicate {A = ℕ} productWords 0), (zeros-none levelWords, zeros-none productWords)),
+      (
+        (length-replicate {A = ℕ} levelWords 0, length-replicate {A = ℕ} productWords 0),
+        (zeros-none levelWords, zeros-none productWords),
+      ),
     )
 
 find-leading-requires : tie.Need-find-leading-requires

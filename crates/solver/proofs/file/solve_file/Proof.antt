@@ -34,7 +34,8 @@ returns c =
     let solved = c .before .before .solve-to-bytes in
     subst (λ o. SolvesOr office certificateBytes (withRoom (4 * longest) (length lent) o) lent (solved .last .0)
     (countedOutcome (solved .result)))
-    (sym (system-file-read office (call .open-file .ensures) (omega arith) (ap countedOutcome (found .opened .given .1)))) (solved .ensures)
+    (sym (system-file-read office (call .open-file .ensures) (omega arith) (ap countedOutcome (found .opened .given .1))))
+    (solved .ensures)
 
 returns-2 : tie.Need-returns-2
 returns-2 c =

@@ -61,7 +61,8 @@ returns-3 c =
     let told = c .before .before .before .before in
     let lent = told .before .before .before .before .args .bytes .now in
     solves-refused (4 * longest) certificateBytes lent lent _ _
-    (was-refused (told .before .before .before .before .args .system .now) (replicate longest 0) _ _ (told .solve .ensures) (omega arith)
+    (was-refused (told .before .before .before .before .args .system .now) (replicate longest 0) _ _ (told .solve .ensures)
+    (omega arith)
     (ap countedOutcome (c .before .solved2 .given .1))) refl refl
 
 pub solve-to-bytes-spec : {M : Type 1} → statement M
