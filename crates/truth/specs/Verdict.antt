@@ -39,8 +39,7 @@ solutionVerdict s d N w Z =
     refuse (not (monic? (s .modulus) d)) 31 0  -- 31: d not monic, tried first
     (refuse (not (monic? (s .modulus) w)) 31 1  -- 31: w not monic
     (refuseFirst (s .rows) (λ i. not (same? (rowOf s N i) (mul (modulo (s .modulus)) d (sideEntry s i)))) 32  -- 32: A·N not d·b
-    (refuseFirst (s .columns) (λ j. not (zero? (remainder (modulo (s .modulus)) (columnOf s Z j) w))) 33  -- 33: w does not divide
-    Z·A
+    (refuseFirst (s .columns) (λ j. not (zero? (remainder (modulo (s .modulus)) (columnOf s Z j) w))) 33  -- 33: w ∤ Z·A
     (refuse (not (same? (certified s w Z) d)) 34 0  -- 34: the denominators differ
     (accepted tt)))))
 
