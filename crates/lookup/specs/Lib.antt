@@ -1,5 +1,5 @@
--- interface, what contracts, other crates and PROVED.md cite: Lookup, Answer, Examples, Holding, LookupLaws, RefusedLaws
--- inside: FramedLaws
+-- interface, what contracts, other crates and PROVED.md cite: Lookup, Answer, Examples, Holding, FramedLaws, LookupLaws,
+--   RefusedLaws
 pub mod Lookup
 pub mod Answer
 pub mod Examples

@@ -1,9 +1,7 @@
--- interface, what contracts, other crates and PROVED.md cite: Solution, Listed, Right, Chosen, Verdict, Truth, RefusalLaws,
--- Accepted,
--- Demand, Denominators, Cases, ChosenCases, RowExamples, Prefix, Certified, CertifiedLaws, CertifiedWords, TurnedBack,
--- TurnedBackLaws,
---   DemandLaws, RefusedWords
--- inside: Witness, Lift, Fractions, CertifiedTruth
+-- interface, what contracts, other crates and PROVED.md cite: Solution, Listed, Right, Chosen, Verdict, Lift, Truth, RefusalLaws,
+--   Accepted, Demand, Denominators, Cases, ChosenCases, RowExamples, Prefix, Fractions, Certified, CertifiedLaws, CertifiedWords,
+--   TurnedBack, TurnedBackLaws, DemandLaws, RefusedWords, CertifiedTruth
+-- inside: Witness
 pub mod Witness
 pub mod Solution
 pub mod Listed

@@ -1,8 +1,8 @@
 -- interface, what contracts, other crates and PROVED.md cite: Limits, Word, Outcome, OutcomeLaws, Reading, Polynomial, Frame,
---   System, Certificate, Bytes, Examples, WordLaws, ReadingLaws, PolynomialLaws, FrameLaws, LimitsLaws, VectorLaws,
+--   System, Certificate, Bytes, Examples, WordLaws, ReadingLaws, PolynomialLaws, FrameLaws, FormatLaws, LimitsLaws, VectorLaws,
 --   SystemHeadLaws, SystemLaws, CertificateLaws, LongestLaws, WidthLaws, BytesLaws, ForwardLaws, PlaceLaws, PrefixLaws,
 --   Table, FirstFault, TenFirst, RefusedLaws, Rows, RowLaws, PolynomialRows, PolynomialsRefused, TableExamples, Pair, PairLaws
--- inside: FormatLaws, TableLaws, PassLaws, CompleteLaws, OnTableLaws, FirstFaultLaws
+-- inside: TableLaws, PassLaws, CompleteLaws, OnTableLaws, FirstFaultLaws
 pub mod Limits
 pub mod Word
 pub mod Outcome
