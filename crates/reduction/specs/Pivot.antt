@@ -15,7 +15,7 @@ use Rattle.reduction.specs.Replace.{below-suc}
 abbrev pub Vanishes : {A : Type 0} → Ring A → ℕ → (ℕ → A) → Type 0
 Vanishes R n v = (i : ℕ) → i < n → v i ≡ R .zero
 
--- q is the pivot of v and d its weighted size; (★) of mathematics.md: strictly smaller before q, no greater anywhere
+-- q is the pivot of v and d its weighted size: strictly smaller before q, no greater anywhere
 pub record Pivot {A : Type 0} {R : Ring A} (S : Sized R) (n : ℕ) (ω : ℕ → ℕ) (v : ℕ → A) (q d : ℕ) : Type 0 where
   pub inside : q < n
   pub positive : 0 < S .size (v q)

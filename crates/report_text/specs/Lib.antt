@@ -1,5 +1,5 @@
 -- interface, what contracts, other crates and PROVED.md cite: Ascii, Decimal, DecimalLaws, Text, Longest, Examples, Written,
--- WrittenLaws
+--   WrittenLaws
 pub mod Ascii
 pub mod Decimal
 pub mod DecimalLaws

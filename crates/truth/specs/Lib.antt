@@ -1,7 +1,7 @@
 -- interface, what contracts, other crates and PROVED.md cite: Solution, Listed, Right, Chosen, Verdict, Lift, Truth, RefusalLaws,
 --   Accepted, Demand, Denominators, Cases, ChosenCases, RowExamples, Prefix, Fractions, Certified, CertifiedLaws, CertifiedWords,
---   TurnedBack, TurnedBackLaws, DemandLaws, RefusedWords, CertifiedTruth
--- inside: Witness
+--   TurnedBack, DemandLaws, RefusedWords, CertifiedTruth
+-- inside: Witness, TurnedBackLaws
 pub mod Witness
 pub mod Solution
 pub mod Listed
