@@ -1,7 +1,7 @@
 -- interface, what contracts, other crates and PROVED.md cite: Monic, Product, ProductLaws, Greatest, Words, Laid,
 --   TransposeFilling, SideFilling, WithRow, Side, Solved, Denominator, QuotientRows
--- inside: Same, OtherTails, Negated, Reduced, MonicLaws, Cells, Transposed, ValidTransposed, Spread, Filling, RowLaid, SideInserted, SecondDual,
---   Scaled, DividedSecond, SecondEnds
+-- inside: Same, OtherTails, Negated, Reduced, MonicLaws, Cells, Transposed, ValidTransposed, Spread, Filling, RowLaid,
+--   SideInserted, SecondDual, Scaled, DividedSecond, SecondEnds
 -- what the products ensure
 pub mod Monic
 pub mod Product
