@@ -16,14 +16,25 @@ build_folder() {
     printf '%s\n' "${YEZSDOLAK_BUILD:-$root/target}/$1"
 }
 
-# The C compiler: the one that CC names, or what is there
-c_compiler() {
+# Ends the script where there is no compiler of C: the one that CC names, with words for it behind its name, or what is there
+need_c() {
     if [ -n "${CC:-}" ]; then
-        command -v "$CC" || stop "the C compiler that CC names is not here: $CC"
+        command -v "${CC%% *}" >/dev/null || command -v "$CC" >/dev/null || stop "the C compiler that CC names is not here: $CC"
         return
     fi
-    command -v clang || command -v gcc || command -v cc ||
+    CC=$(command -v clang || command -v gcc || command -v cc) ||
         stop "no C compiler is here: install clang or gcc, which builds this program, or name one in CC"
+}
+
+# WORDS...: compiles a program in C, with these words for the compiler
+compile_c() {
+    need_c
+    if command -v "$CC" >/dev/null; then
+        "$CC" "$@"
+    else
+        # shellcheck disable=SC2086 # its words
+        $CC "$@"
+    fi
 }
 
 # Ends the script where there is no compiler of Rust

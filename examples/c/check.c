@@ -1,8 +1,19 @@
 // Checks certificates against a system, with a status that a shell can ask: check SHEET CARD... For each card one line says
 // whether it is accepted, or why not. Status 0: all are accepted; 1: one is refused; 2: a file or the command is at fault.
+#include <errno.h>
 #include <stdio.h>
 #include <stdlib.h>
+#include <string.h>
 #include "yezsdolak.h"
+
+// Prints a file's name with question marks for control characters: a line's end in it makes no line that looks like a verdict.
+static void print_name(FILE *to, const char *name)
+{
+    for (; *name != 0; name++) {
+        unsigned char c = (unsigned char)*name;
+        putc(c < 32 || c == 127 ? '?' : c, to);
+    }
+}
 
 // Reads a file, or its first bytes up to one more than `limit`: a longer one is then seen to be longer. Ends the program where the
 // file cannot be read.
@@ -13,7 +24,9 @@ static size_t read_file(const char *name, uint8_t *bytes, size_t limit)
     if (f != NULL)
         count = fread(bytes, 1, limit + 1, f);
     if (f == NULL || ferror(f)) {
-        perror(name);
+        const char *reason = strerror(errno);
+        print_name(stderr, name);
+        fprintf(stderr, ": %s\n", reason);
         exit(2);
     }
     fclose(f);
@@ -35,16 +48,16 @@ int main(int count, char **argument)
         if (bytes > YEZSDOLAK_CERTIFICATE_BYTES + 4)
             bytes = YEZSDOLAK_CERTIFICATE_BYTES + 4;
         uint64_t verdict = yezsdolak_check(system, system_bytes, certificate, bytes);
+        print_name(stdout, argument[i]);
         if (verdict == 0) {
-            printf("%s: accepted\n", argument[i]);
+            puts(": accepted");
         } else {
             unsigned number = yezsdolak_number(verdict);
-            printf("%s: refused %u at %llu: %s\n", argument[i], number, (unsigned long long)yezsdolak_place(verdict),
-                   yezsdolak_message(number));
+            printf(": refused %u at %llu: %s\n", number, (unsigned long long)yezsdolak_place(verdict), yezsdolak_message(number));
             status = 1;
         }
     }
-    if (fflush(stdout) != 0) {
+    if (fflush(stdout) != 0 || ferror(stdout)) {
         perror("standard output");
         return 2;
     }

@@ -51,6 +51,15 @@ static void show(const char *name, uint64_t number)
     puts("");
 }
 
+// The status: 0, or 2 where standard output could not be written.
+static int written_out(void)
+{
+    if (fflush(stdout) == 0 && !ferror(stdout))
+        return 0;
+    perror("standard output");
+    return 2;
+}
+
 int main(void)
 {
     // polynomials 0 and 1 are A's row, 2 is b
@@ -77,10 +86,10 @@ int main(void)
     uint64_t kind = yezsdolak_kind(system_file, system_bytes, certificate, certificate_bytes);
     if (yezsdolak_count(kind) == YEZSDOLAK_ABSENCE) {
         puts("no solution");
-        return 0;
+        return written_out();
     }
     show("d", 0);
     show("N1", 1);
     show("N2", 2);
-    return fflush(stdout) == 0 ? 0 : 2;
+    return written_out();
 }

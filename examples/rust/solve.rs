@@ -2,6 +2,7 @@
 //! is written there. Status 1: the system is refused; 2: a file or the command is at fault.
 
 use std::env;
+use std::ffi::{OsStr, OsString};
 use std::fs;
 use std::io;
 use std::io::Write;
@@ -60,19 +61,24 @@ fn fail(status: i32, message: String) -> ! {
     exit(status)
 }
 
+/// A file's name for messages, on one line.
+fn shown(name: &OsStr) -> String {
+    name.to_string_lossy().replace(char::is_control, "?")
+}
+
 fn refused(what: &str, refusal: yezsdolak::Refusal) -> ! {
     fail(1, format!("{what}: refused {} at {}", refusal.number, refusal.place))
 }
 
 fn main() {
-    let names: Vec<String> = env::args().skip(1).collect();
+    let names: Vec<OsString> = env::args_os().skip(1).collect();
     if names.is_empty() || names.len() > 2 {
         fail(2, "usage: solve SHEET [CARD]".to_string());
     }
-    let system = fs::read(&names[0]).unwrap_or_else(|error| fail(2, format!("{}: {error}", names[0])));
+    let system = fs::read(&names[0]).unwrap_or_else(|error| fail(2, format!("{}: {error}", shown(&names[0]))));
 
     let mut lent = [0; yezsdolak::CERTIFICATE_BYTES];
-    let certificate = yezsdolak::solve(&system, &mut lent).unwrap_or_else(|refusal| refused(&names[0], refusal));
+    let certificate = yezsdolak::solve(&system, &mut lent).unwrap_or_else(|refusal| refused(&shown(&names[0]), refusal));
 
     // It is proved that this accepts; a program that was given a certificate by others would ask the same.
     yezsdolak::check(&system, certificate).unwrap_or_else(|refusal| refused("certificate", refusal));
@@ -82,6 +88,6 @@ fn main() {
     let printed = output.write_all(yezsdolak::report(&system, &mut text)).and_then(|_| output.flush());
     printed.unwrap_or_else(|error| fail(2, format!("standard output: {error}")));
     if let Some(name) = names.get(1) {
-        fs::write(name, certificate).unwrap_or_else(|error| fail(2, format!("{name}: {error}")));
+        fs::write(name, certificate).unwrap_or_else(|error| fail(2, format!("{}: {error}", shown(name))));
     }
 }

@@ -16,8 +16,10 @@ mod words;
 use refusal::Side;
 use show::Notation;
 use std::ffi::{OsStr, OsString};
-use std::fs::{canonicalize, write, File};
-use std::io::{copy, sink, stdin, stdout, ErrorKind, IsTerminal, Read, Result as IoResult, Write};
+use std::fs::{canonicalize, metadata, remove_file, File};
+use std::io::{copy, sink, stdin, stdout, Error, ErrorKind, IsTerminal, Read, Result as IoResult, Seek, Write};
+use std::os::fd::AsFd;
+use std::os::unix::fs::MetadataExt;
 use std::path::Path;
 use std::process::ExitCode;
 use values::{System, LONGEST_CERTIFICATE, LONGEST_SYSTEM};
@@ -40,8 +42,11 @@ NAME --help                      show this
     1
 
 The exit status is 0, or 1 where a file or a number is at fault, or 2 where the command is. Nothing is proved
-of this tool: the verdict on a card is that of `cardcheck`. tools/sheet/README.md has more.
+of this tool: the verdict on a card is that of `cardcheck`. linksheet(1) or tools/sheet/README.md has more.
 ";
+
+/// The most bytes that are read of a text, and of a certificate whose length the system does not tell.
+const MOST_BYTES: u64 = 1 << 24;
 
 const ACCEPTED: &str = "# check: would be accepted (unproved; cardcheck gives the proved verdict)\n";
 const UNPROVED: &str = "(unproved; cardcheck gives the proved verdict)";
@@ -115,23 +120,35 @@ fn shown(file: &OsStr) -> String {
     file.to_string_lossy().replace(char::is_control, "?")
 }
 
-fn opened(file: &OsStr) -> IoResult<Box<dyn Read>> {
+fn opened(file: &OsStr) -> IoResult<File> {
     if file == "-" {
-        return Ok(Box::new(stdin()));
+        return Ok(File::from(stdin().as_fd().try_clone_to_owned()?));
     }
-    Ok(Box::new(File::open(file)?))
+    File::open(file)
+}
+
+/// The file as it is said in a message, and what is wrong with it.
+fn fault(file: &OsStr, error: Error) -> String {
+    format!("{}: {error}\n", shown(file))
+}
+
+fn endless() -> Error {
+    Error::other(format!("no end within {MOST_BYTES} bytes"))
 }
 
 /// The bytes of a file, no more than so many.
 fn bytes_of(file: &OsStr, most: u64) -> Result<Vec<u8>, String> {
     let mut bytes = Vec::new();
     let read = opened(file).and_then(|f| f.take(most).read_to_end(&mut bytes));
-    read.map(|_| bytes).map_err(|error| format!("{}: {error}\n", shown(file)))
+    read.map(|_| bytes).map_err(|error| fault(file, error))
 }
 
 /// The bytes of the system that a text describes.
 fn system_bytes(file: &OsStr) -> Result<Vec<u8>, String> {
-    let bytes = bytes_of(file, u64::MAX)?;
+    let bytes = bytes_of(file, MOST_BYTES + 1)?;
+    if bytes.len() as u64 > MOST_BYTES {
+        return Err(fault(file, endless()));
+    }
     let text = source::decode(&bytes).map_err(|fault| fault.report(&shown(file), ""))?;
     let system = text::system(text).map_err(|fault| fault.report(&shown(file), text))?;
     Ok(words::bytes_of(&words::system_words(&system)))
@@ -147,17 +164,35 @@ fn write_to_output(text: &OsStr) -> Result<Vec<u8>, String> {
 
 fn write_to_file(text: &OsStr, sheet: &OsStr) -> Result<Vec<u8>, String> {
     let bytes = system_bytes(text)?;
-    if text != "-" && canonicalize(text).ok() == canonicalize(sheet).ok() {
+    if is_same_file(text, sheet) {
         return Err(format!("{}: this is the text itself, which would be lost\n", shown(sheet)));
     }
-    write(sheet, bytes).map_err(|error| format!("{}: {error}\n", shown(sheet)))?;
+    let mut file = File::create(sheet).map_err(|error| fault(sheet, error))?;
+    file.write_all(&bytes).map_err(|error| {
+        // a part of a sheet is of no use
+        if file.metadata().is_ok_and(|about| about.is_file()) {
+            let _ = canonicalize(sheet).and_then(remove_file);
+        }
+        fault(sheet, error)
+    })?;
     Ok(Vec::new())
+}
+
+/// Whether both are there and are one file on the disk, under whatever names.
+fn is_same_file(text: &OsStr, sheet: &OsStr) -> bool {
+    let about = if text == "-" { opened(text).and_then(|file| file.metadata()) } else { metadata(text) };
+    match (about, metadata(sheet)) {
+        (Ok(one), Ok(other)) => one.is_file() && (one.dev(), one.ino()) == (other.dev(), other.ino()),
+        _ => false,
+    }
 }
 
 /// What the table says of a number.
 fn explanation(number: &OsStr) -> Result<Vec<u8>, String> {
     let entry = number.to_str().and_then(|digits| digits.parse().ok()).and_then(refusal::entry);
-    let entry = entry.ok_or_else(|| format!("{}: no refusal has this number; docs/REFUSALS.md has the table\n", shown(number)))?;
+    let entry = entry.ok_or_else(|| {
+        format!("{}: no refusal has this number; yezsdolak(5) and docs/REFUSALS.md have the table\n", shown(number))
+    })?;
     let text = format!("{}: {}\nplace: {}\nwhat to do: {}\n", entry.number, entry.meaning, entry.place, entry.remedy);
     Ok(text.into())
 }
@@ -179,13 +214,29 @@ fn show_system(sheet: &OsStr, signed: bool) -> Result<Answer, String> {
 
 /// The bytes of a certificate's file that decide: one word more than the longest has, so that a word behind its end gets its number.
 fn card_bytes(card: &OsStr) -> Result<Vec<u8>, String> {
-    let fault = |error| format!("{}: {error}\n", shown(card));
-    let mut file = opened(card).map_err(fault)?;
+    let mut file = opened(card).map_err(|error| fault(card, error))?;
     let mut bytes = Vec::new();
-    (&mut file).take(4 * (LONGEST_CERTIFICATE as u64 + 1)).read_to_end(&mut bytes).map_err(fault)?;
-    let rest = copy(&mut file, &mut sink()).map_err(fault)?;
-    reading::file(Side::Certificate, bytes.len() + rest as usize).map_err(|refusal| refusal.report(&shown(card)))?;
+    let deciding = 4 * (LONGEST_CERTIFICATE as u64 + 1);
+    let read = (&mut file).take(deciding).read_to_end(&mut bytes).and_then(|_| length_of(&mut file, bytes.len() as u64));
+    let length = read.map_err(|error| fault(card, error))?;
+    reading::file(Side::Certificate, length as usize).map_err(|refusal| refusal.report(&shown(card)))?;
     Ok(bytes)
+}
+
+/// The length of a file of which so many bytes are read: the system tells that of one on the disk, any other is read to its end.
+fn length_of(file: &mut File, read: u64) -> IoResult<u64> {
+    let about = file.metadata()?;
+    if about.is_file() {
+        let left = about.len().saturating_sub(file.stream_position()?);
+        if left > 0 {
+            return Ok(read + left);
+        }
+    }
+    let rest = copy(&mut file.take(MOST_BYTES + 1 - read), &mut sink())?;
+    if read + rest > MOST_BYTES {
+        return Err(endless());
+    }
+    Ok(read + rest)
 }
 
 /// Number 10, of either file, comes before what is wrong with their words. A certificate that reads is shown, right or not.
