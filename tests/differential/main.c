@@ -53,7 +53,7 @@ static void try_shuffled(struct draws *g, const struct answer *a)
     compare_but_numerators(&drawn, &solved, &changed);
 }
 
-// one of the systems: all three calls; of some the solver again, with the columns in another order
+// one of the systems: all three calls, and the solver again with the columns in another order
 static void try_system(struct draws *g, struct tally *t)
 {
     static struct answer a;
@@ -67,7 +67,7 @@ static void try_system(struct draws *g, struct tally *t)
     compare_check(g);
     compare_report(g, &a, REPORT_ROOM + (chance(g, 50) ? 0 : below(g, 300)));
     count_answer(t, &a);
-    if (chance(g, 30))
+    if (drawn.m > 1)
         try_shuffled(g, &a);
 }
 
