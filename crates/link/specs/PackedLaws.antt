@@ -18,7 +18,7 @@ use Rattle.write_frame.specs.Overwriting.{overwritten}
 use Rattle.solve_meaning.specs.Existence.{Suffices, chosenCertificate}
 use Rattle.solver.specs.Solving.{certificateBytes, SolvesFile}
 use Rattle.solver.specs.RefusedLaws.{RoomLast, solve-file-refused-iff}
-use Rattle.solver.specs.OneCertificate.{Call, file-solves-unique, file-solved-same, file-solved-card}
+use Rattle.solver.specs.OneCertificate.{Call, file-solves-unique, file-solved-same, file-solved-certificate}
 use Rattle.verifier.specs.File.{fileVerdict}
 use Rattle.answers.specs.Packed.{packed, packedVerdict}
 use Rattle.link_values.specs.Refusals.{Numbers, numbers-wider}
@@ -84,14 +84,14 @@ module _ (limits : Limits) (fit : LimitsFit limits) (file file₁ : List ℕ)
       (omega arith, both .1)
 
 -- where there is room it is the number of bytes of the system's certificate, and these stand over the first of the lent ones
-pub packed-card : (limits : Limits) {s : System} (h : SystemWithin limits s) (room : Suffices limits (s .rows) (s .columns))
+pub packed-certificate : (limits : Limits) {s : System} (h : SystemWithin limits s) (room : Suffices limits (s .rows) (s .columns))
     {file entry exit : List ℕ} {r : ℕ} → readSystemFile limits file ≡ accepted s → 4 * longestCertificate limits ≤ length entry
     → SolvesPacked limits file entry exit r
     → (r ≡ 64 * length (certificateBytes (chosenCertificate limits s h room)))
     × (exit ≡ overwritten (certificateBytes (chosenCertificate limits s h room)) entry)
-packed-card limits h room {file} {entry} {exit} is enough x =
-    let card = file-solved-card limits h room entry exit (x .answer) file is enough (x .solves) in
-    (x .packs ∙ ap packed (card .0), card .1)
+packed-certificate limits h room {file} {entry} {exit} is enough x =
+    let written = file-solved-certificate limits h room entry exit (x .answer) file is enough (x .solves) in
+    (x .packs ∙ ap packed (written .0), written .1)
 
 -- ---- the check
 

@@ -2,9 +2,9 @@
 -- certificate. What a call gives is what its contract says: `Solves` and `verdict` for the solver and the check on words,
 -- `SolvesPacked` for the number and the bytes of `yezsdolak_solve`, `checkGives` for the number of `yezsdolak_check`, `GivesPacked`
 -- and `packed` for `yezsdolak_write_system`, `_lookup`, `_shape` and `_kind`, `Writes` for the writers, `LoadsSystem` and
--- `LoadsCertificate` for the calls that hand out values, `polynomialLookup` for the lookup, `Opened` for the words of a file. Each of
--- these has a contract without `requires`, so it is proved for all that is lent that the call reads and writes nothing beside it and
--- returns.
+-- `LoadsCertificate` for the calls that hand out values, `polynomialLookup` for the lookup, `Opened` for the words of a file. Each
+-- of these has a contract without `requires`, so it is proved for all that is lent that the call reads and writes nothing beside it
+-- and returns.
 use Prim.Native.Nat.{ℕ, _+_, _*_, _/_, _%_, _≤_}
 use mathlib.Core.Path.{_≡_}
 use mathlib.Core.Logic.{_↔_}
@@ -64,7 +64,7 @@ use Rattle.solve_meaning.specs.Existence.{officeCertificate, office-suffices, c
 use Rattle.solver.specs.Solving.{Solves, systemToSolve}
 use Rattle.solver.specs.SolvingLaws.{every-system-solved, refused-unchanged as words-unchanged}
 use Rattle.solver.specs.RefusedLaws.{RoomLast, solve-refused-iff}
-use Rattle.solver.specs.OneCertificate.{GivesWords, solved-card}
+use Rattle.solver.specs.OneCertificate.{GivesWords, solved-certificate}
 use Rattle.link.specs.Packed.{SolvesPacked}
 use Rattle.link_values.specs.Files.{fileShape, fileKind, fileLookup, writeSystemFile}
 use Rattle.link_values.specs.Giving.{GivesPacked}
@@ -72,7 +72,8 @@ use Rattle.link_values.specs.RefusedLaws.{FilesRefusedBy, NothingTried, shape-g
 use Rattle.link_values.specs.RefusedLaws.{write-gives-iff, unchanged-lookup, unchanged-write}
 use Rattle.link.specs.PackedLaws.{solver-refused-iff, packed-same, packed-unique}
 use Rattle.link.specs.Checked.{checkGives, checked-iff, checked-says, checked-refused-iff, checked-agree}
-use Rattle.link.specs.Together.{checkedAfter, CardIn, every-system-checked, every-system-card, refused-unchanged}
+use Rattle.link.specs.Together.{checkedAfter, CertificateBytesIn, every-system-checked, every-system-certificate}
+use Rattle.link.specs.Together.{refused-unchanged}
 
 -- 1. "No words handed in, for sheet or card, can make a call read outside them, fail to end, or change a lent word when it refuses;
 -- each refusal has the number and place on the table, and is given under that condition only."
@@ -285,15 +286,18 @@ pub record Demand3 : Type 0 where
       → (r % 64 ≡ 0) × (checkedAfter (bytesOf (systemWords s)) exit r ≡ 0)
   -- which card it is, is a function of the sheet: what the call returns and leaves is the written form of the sheet's own card, the
   -- chosen one, whatever proof the function is handed
-  pub card-chosen : (s : System) (h : SystemWithin office s) → Chosen s (officeCertificate s h)
-  pub card-same : (s : System) (h h₁ : SystemWithin office s) → officeCertificate s h ≡ officeCertificate s h₁
-  pub card-words : (s : System) (h : SystemWithin office s) (entry exit : List ℕ) (answer : Outcome ℕ)
+  pub certificate-chosen : (s : System) (h : SystemWithin office s) → Chosen s (officeCertificate s h)
+  pub certificate-same : (s : System) (h h₁ : SystemWithin office s) → officeCertificate s h ≡ officeCertificate s h₁
+  pub certificate-given-words : (s : System) (h : SystemWithin office s) (entry exit : List ℕ) (answer : Outcome ℕ)
       → longestCertificate office ≤ length entry → Solves office (systemWords s) entry exit answer
       → GivesWords (certificateWords (officeCertificate s h)) entry exit answer
-  pub card : (s : System) (h : SystemWithin office s) → {entry exit : List ℕ} {r : ℕ} → 4 * longestCertificate office ≤ length entry
-      → SolvesPacked office (bytesOf (systemWords s)) entry exit r → CardIn (certificateWords (officeCertificate s h)) entry exit r
+  pub certificate-given : (s : System) (h : SystemWithin office s) → {entry exit : List ℕ} {r : ℕ}
+      → 4 * longestCertificate office ≤ length entry
+      → SolvesPacked office (bytesOf (systemWords s)) entry exit r
+      → CertificateBytesIn (certificateWords (officeCertificate s h)) entry exit r
   -- so calls on the same sheet give the same number and the same bytes, whatever stood there and whatever file it was read from
-  pub one-card : {file file₁ entry exit entry₁ exit₁ : List ℕ} {r r₁ : ℕ} → readSystemFile office file ≡ readSystemFile office file₁
+  pub one-certificate : {file file₁ entry exit entry₁ exit₁ : List ℕ} {r r₁ : ℕ}
+      → readSystemFile office file ≡ readSystemFile office file₁
       → SolvesPacked office file entry exit r → SolvesPacked office file₁ entry₁ exit₁ r₁ → r % 64 ≡ 0 → r₁ % 64 ≡ 0
       → (r ≡ r₁) × (take (r / 64) exit ≡ take (r₁ / 64) exit₁)
   -- and all is the same where the same was lent, refusals too
@@ -308,12 +312,13 @@ demand-3 = record {
   one-kind = checked-agree;
   solved-words = λ s within entry exit answer room. every-system-solved office office-fits s within entry exit room answer;
   solved = λ s within room. every-system-checked s within room;
-  card-chosen = λ s h. chosenCertificate-chosen office s h (office-suffices s h);
-  card-same = λ s h h₁. chosenCertificate-same office office s h h₁ (office-suffices s h) (office-suffices s h₁);
-  card-words = λ s h entry exit answer room solves.
-      solved-card office h (office-suffices s h) entry exit answer (systemWords s) (system-read-of-written office office-fits s h)
+  certificate-chosen = λ s h. chosenCertificate-chosen office s h (office-suffices s h);
+  certificate-same = λ s h h₁. chosenCertificate-same office office s h h₁ (office-suffices s h) (office-suffices s h₁);
+  certificate-given-words = λ s h entry exit answer room solves.
+      solved-certificate office h (office-suffices s h) entry exit answer (systemWords s)
+      (system-read-of-written office office-fits s h)
       room solves;
-  card = every-system-card;
-  one-card = λ {file} {file₁} same. packed-same office office-fits file file₁ same;
+  certificate-given = every-system-certificate;
+  one-certificate = λ {file} {file₁} same. packed-same office office-fits file file₁ same;
   one-answer = λ {file} {file₁} {entry} same. packed-unique office office-fits file file₁ same entry;
 }

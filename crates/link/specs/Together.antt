@@ -22,7 +22,7 @@ use Rattle.link.specs.FileLaws.{bytes-are, solved-file-accepted, every-f
 use Rattle.answers.specs.Packed.{packed, packedVerdict}
 use Rattle.link.specs.Packed.{SolvesPacked}
 use Rattle.link_values.specs.Unpacked.{refusedUnless0, unpacked}
-use Rattle.link.specs.PackedLaws.{solves-unpacked, packed-card}
+use Rattle.link.specs.PackedLaws.{solves-unpacked, packed-certificate}
 
 -- what the check is handed: the system's file, and as many of the lent bytes as the solver counted
 abbrev pub checkedAfter : (file exit : List ℕ) (r : ℕ) → ℕ
@@ -46,16 +46,16 @@ module _ (s : System) (within : SystemWithin office s) {entry exit : List ℕ} {
       (count, solved-checked h count)
 
 -- a certificate's words as bytes: the number is how many these are, packed, and they stand over the first of the lent ones
-abbrev pub CardIn : (words entry exit : List ℕ) → ℕ → Type 0
-CardIn words entry exit r = (r ≡ 64 * length (bytesOf words)) × (exit ≡ overwritten (bytesOf words) entry)
+abbrev pub CertificateBytesIn : (words entry exit : List ℕ) → ℕ → Type 0
+CertificateBytesIn words entry exit r = (r ≡ 64 * length (bytesOf words)) × (exit ≡ overwritten (bytesOf words) entry)
 
 -- for every system's file, those of the system's own certificate
-pub every-system-card : (s : System) (h : SystemWithin office s) → {entry exit : List ℕ} {r : ℕ}
+pub every-system-certificate : (s : System) (h : SystemWithin office s) → {entry exit : List ℕ} {r : ℕ}
     → 4 * longestCertificate office ≤ length entry → SolvesPacked office (bytesOf (systemWords s)) entry exit r
-    → CardIn (certificateWords (officeCertificate s h)) entry exit r
-every-system-card s h {entry} {exit} {r} room x =
+    → CertificateBytesIn (certificateWords (officeCertificate s h)) entry exit r
+every-system-certificate s h {entry} {exit} {r} room x =
     subst (λ bs. (r ≡ 64 * length bs) × (exit ≡ overwritten bs entry)) (bytes-are (officeCertificate s h))
-    (packed-card office h (office-suffices s h) (file-read-of-written office office-fits s h) room x)
+    (packed-certificate office h (office-suffices s h) (file-read-of-written office office-fits s h) room x)
 
 -- where the solver refuses, the lent bytes stand as before
 pub refused-unchanged : {file entry exit : List ℕ} {r : ℕ} → SolvesPacked office file entry exit r → ¬ (r % 64 ≡ 0) → exit ≡ entry

@@ -18,11 +18,11 @@ use Rattle.link_values.specs.Files.{fileShape, readFiles, fileKind, side
 system1 : System
 system1 = record { modulus = 2; rows = 1; columns = 1; matrix = (0 ∷ 1 ∷ []) ∷ []; side = (1 ∷ []) ∷ [] }
 
-sheet1 : List ℕ
-sheet1 = bytesOf (0x10110002 ∷ 0x20000002 ∷ 0x30000000 ∷ 0x30000001 ∷ 0x20000001 ∷ 0x30000001 ∷ 0x40000007 ∷ [])
+systemFile1 : List ℕ
+systemFile1 = bytesOf (0x10110002 ∷ 0x20000002 ∷ 0x30000000 ∷ 0x30000001 ∷ 0x20000001 ∷ 0x30000001 ∷ 0x40000007 ∷ [])
 
-card1 : List ℕ
-card1 = bytesOf
+certificateFile1 : List ℕ
+certificateFile1 = bytesOf
     (0x50000001
     ∷ 0x20000002 ∷ 0x30000000 ∷ 0x30000001
     ∷ 0x20000001 ∷ 0x30000001
@@ -32,11 +32,11 @@ card1 = bytesOf
     ∷ [])
 
 -- p = 2, A = (0), b = 1: absent, q = 1
-sheet5 : List ℕ
-sheet5 = bytesOf (0x10110002 ∷ 0x20000000 ∷ 0x20000001 ∷ 0x30000001 ∷ 0x40000005 ∷ [])
+systemFile5 : List ℕ
+systemFile5 = bytesOf (0x10110002 ∷ 0x20000000 ∷ 0x20000001 ∷ 0x30000001 ∷ 0x40000005 ∷ [])
 
-card5 : List ℕ
-card5 = bytesOf (0x50000002 ∷ 0x20000001 ∷ 0x30000001 ∷ 0x40000004 ∷ [])
+certificateFile5 : List ℕ
+certificateFile5 = bytesOf (0x50000002 ∷ 0x20000001 ∷ 0x30000001 ∷ 0x40000004 ∷ [])
 
 -- a row: what is told, and what is to be
 record Told : Type 0 where
@@ -47,25 +47,26 @@ number : Outcome ℕ → Outcome (List ℕ)
 number o = mapped (λ n. n ∷ []) o
 
 looked : ℕ → ℕ → Outcome (List ℕ)
-looked side k = fileLookup office sheet1 card1 (sideNumbered side) k
+looked side k = fileLookup office systemFile1 certificateFile1 (sideNumbered side) k
 
 rows : List Told
 rows =
-    record { told = number (fileShape office sheet1); due = accepted (0x110002 ∷ []) }
-    ∷ record { told = number (fileKind office sheet1 card1); due = accepted (1 ∷ []) }
-    ∷ record { told = number (fileKind office sheet5 card5); due = accepted (2 ∷ []) }
+    record { told = number (fileShape office systemFile1); due = accepted (0x110002 ∷ []) }
+    ∷ record { told = number (fileKind office systemFile1 certificateFile1); due = accepted (1 ∷ []) }
+    ∷ record { told = number (fileKind office systemFile5 certificateFile5); due = accepted (2 ∷ []) }
     ∷ record { told = looked 0 0; due = accepted (0 ∷ 1 ∷ []) }
     ∷ record { told = looked 0 1; due = accepted (1 ∷ []) }
     ∷ record { told = looked 0 2; due = refused 12 0 }
     ∷ record { told = looked 1 0; due = accepted (0 ∷ 1 ∷ []) }
     ∷ record { told = looked 1 1; due = accepted (1 ∷ []) }
     ∷ record { told = looked 1 4; due = refused 12 0 }
-    ∷ record { told = writeSystemFile office 4904 system1; due = accepted sheet1 }
+    ∷ record { told = writeSystemFile office 4904 system1; due = accepted systemFile1 }
     ∷ record { told = writeSystemFile office 4903 system1; due = refused 11 0 }
     ∷ []
 
 case-1-told : map (λ (r : Told). r .told) rows ≡ map (λ (r : Told). r .due) rows
-unfolding rows number looked system1 sheet1 card1 sheet5 card5 bytesOf wordsOf readSystemFile readFiles
+unfolding rows number looked system1 systemFile1 certificateFile1 systemFile5 certificateFile5 bytesOf wordsOf readSystemFile
+    readFiles
     certificateForm certificateEntries
     writeSystem refusePolynomials refuseCoefficients systemWords polynomialsWords prime?
 case-1-told = refl

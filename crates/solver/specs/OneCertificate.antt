@@ -66,10 +66,10 @@ CallOn limits read write longest x = SolvesOr limits write (withRoom longest (le
 module _ (limits : Limits) {s : System} (h : SystemWithin limits s) (room : Suffices limits (s .rows) (s .columns))
     {read : Outcome System} (is : read ≡ accepted s) (write : Certificate → List ℕ) (longest : ℕ) (entry exit : List ℕ)
     (answer : Outcome ℕ) where
-  pub call-card : longest ≤ length entry → SolvesOr limits write (withRoom longest (length entry) read) entry exit answer
+  pub call-certificate : longest ≤ length entry → SolvesOr limits write (withRoom longest (length entry) read) entry exit answer
       → GivesWords (write (chosenCertificate limits s h room)) entry exit answer
   unfolding SolvesOr
-  call-card enough x =
+  call-certificate enough x =
       let g = subst (λ o. SolvesOr limits write o entry exit answer) (room-enough longest (length entry) enough read ∙ is) x in
       let c = gives-chosen limits h (g .2) room in (
         g .1 ∙ ap accepted (g .2 .given .same-count ∙ ap (λ c. length (write c)) c),
@@ -138,14 +138,16 @@ SameWords x y = (count count₁ : ℕ) → x .answer ≡ accepted count → y .a
 
 module _ (limits : Limits) {s : System} (h : SystemWithin limits s) (room : Suffices limits (s .rows) (s .columns))
     (entry exit : List ℕ) (answer : Outcome ℕ) where
-  pub solved-card : (ws : List ℕ) → readSystem limits ws ≡ accepted s → longestCertificate limits ≤ length entry
+  pub solved-certificate : (ws : List ℕ) → readSystem limits ws ≡ accepted s → longestCertificate limits ≤ length entry
       → Solves limits ws entry exit answer → GivesWords (certificateWords (chosenCertificate limits s h room)) entry exit answer
-  solved-card ws is = call-card limits h room is certificateWords (longestCertificate limits) entry exit answer
+  solved-certificate ws is = call-certificate limits h room is certificateWords (longestCertificate limits) entry exit answer
 
-  pub file-solved-card : (file : List ℕ) → readSystemFile limits file ≡ accepted s → 4 * longestCertificate limits ≤ length entry
+  pub file-solved-certificate : (file : List ℕ) → readSystemFile limits file ≡ accepted s
+      → 4 * longestCertificate limits ≤ length entry
       → SolvesFile limits file entry exit answer
       → GivesWords (certificateBytes (chosenCertificate limits s h room)) entry exit answer
-  file-solved-card file is = call-card limits h room is certificateBytes (4 * longestCertificate limits) entry exit answer
+  file-solved-certificate file is = call-certificate limits h room is certificateBytes (4 * longestCertificate limits) entry exit
+      answer
 
 -- ---- on words
 

@@ -33,18 +33,18 @@ use Rattle.writer.specs.Refused.WriterFault.{modulus, sizes, value, room
 -- ---- the tests of p, n and m
 
 -- a test that is passed just by what is good is failed just by what is not
-failed-iff : {Good : Type 0} (b : Bool) → (b ≡ false) ↔ Good → (b ≡ true) ↔ ¬ Good
+pub failed-iff : {Good : Type 0} (b : Bool) → (b ≡ false) ↔ Good → (b ≡ true) ↔ ¬ Good
 failed-iff true good = (λ e g. let z = good .1 g in let z′ : _≡_ {A = ℕ} 0 1 = cc in omega arith, λ no. refl)
 failed-iff false good = (λ e g. let z′ : _≡_ {A = ℕ} 0 1 = cc in omega arith, λ no. absurd (no (good .0 refl)))
 
-modulus-iff : (p : ℕ) → (not (prime? p) || ltb largestModulus p ≡ false) ↔ MayBeModulus p
+pub modulus-iff : (p : ℕ) → (not (prime? p) || ltb largestModulus p ≡ false) ↔ MayBeModulus p
 modulus-iff p = (
   λ e. let t = or-passed (not (prime? p)) (ltb largestModulus p) e in
       (prime-of-true p (not-false _ (t .0)), ltb-false largestModulus p (t .1)),
   λ good. simp (true-of-prime p (good .0), le-ltb largestModulus p (good .1)),
 )
 
-sizes-iff : (limits : Limits) (h : Shape)
+pub sizes-iff : (limits : Limits) (h : Shape)
     → (not (oneTo (limits .rows) (h .rows) && oneTo (limits .columns) (h .columns)) ≡ false) ↔ MayBeSizes limits h
 sizes-iff limits h = (
   λ e. let t = and-passed (oneTo (limits .rows) (h .rows)) (oneTo (limits .columns) (h .columns)) e in
@@ -52,7 +52,7 @@ sizes-iff limits h = (
   λ good. simp (oneTo-true _ _ (good .0 .0) (good .0 .1), oneTo-true _ _ (good .1 .0) (good .1 .1)),
 )
 
-shape-of : {limits : Limits} {h : Shape} → MayBeModulus (h .modulus) → MayBeSizes limits h → ShapeWithin limits h
+pub shape-of : {limits : Limits} {h : Shape} → MayBeModulus (h .modulus) → MayBeSizes limits h → ShapeWithin limits h
 shape-of m n = record { prime = m .0; modulus = m .1; rows = n .0; columns = n .1 }
 
 -- ---- both writers
