@@ -55,16 +55,22 @@ combinationProducts = 1088
 abbrev pub lastLane : ℕ
 lastLane = 7
 
--- degrees of a block, and of a long block
+-- degrees of a block, the greatest of them, and degrees of a long block
 abbrev pub blockDegrees : ℕ
 blockDegrees = 16
+
+abbrev pub blockDegree : ℕ
+blockDegree = 15
 
 abbrev pub productDegrees : ℕ
 productDegrees = 136
 
--- coefficients of a polynomial of a certificate, and of a tail on the way
+-- coefficients of a polynomial of a certificate, and of a tail on the way; its greatest degree
 abbrev pub mostCoefficients : ℕ
 mostCoefficients = 121
+
+abbrev pub mostDegree : ℕ
+mostDegree = 120
 
 -- places that the slots and the hand have together, the most steps of an insertion
 abbrev pub mostPlaces : ℕ
