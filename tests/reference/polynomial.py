@@ -1,10 +1,11 @@
 """Polynomials modulo a prime p.
 
 A polynomial is the list of its coefficients, lowest power first, the last one not 0; zero is the empty list. This is the form
-that document 01's kinds 2 and 3 write down. Every operation is the schoolbook one.
+that document 01's kinds 2 and 3 write down. Every operation is the schoolbook one, but for long products.
 """
 
 from itertools import zip_longest
+from struct import pack, unpack
 
 import residue
 
@@ -47,29 +48,36 @@ def shift(f, k):
 
 
 def multiply(f, g, p):
-    """f * g."""
+    """f * g. Of short factors by rows; of long ones as numbers, a coefficient in each 8 bytes, which no sum of products fills."""
     if not f or not g:
         return []
-    product = [0] * (len(f) + len(g) - 1)
-    for i, a in enumerate(f):
-        if a:
-            for j, b in enumerate(g, i):
-                product[j] += a * b
-    return canonical(product, p)
+    if min(len(f), len(g)) < 6:
+        product = [0] * (len(f) + len(g) - 1)
+        for i, a in enumerate(f):
+            if a:
+                for j, b in enumerate(g, i):
+                    product[j] += a * b
+        return canonical(product, p)
+    product = number(f) * number(g)
+    return canonical(unpack(f"<{len(f) + len(g) - 1}Q", product.to_bytes(8 * (len(f) + len(g) - 1), "little")), p)
+
+
+def number(f):
+    """The value of f at 2 to the power 64."""
+    return int.from_bytes(pack(f"<{len(f)}Q", *f), "little")
 
 
 def divide(f, g, p):
     """Quotient and remainder of f by g, g not zero: f = quotient * g + remainder, the remainder of lower degree than g."""
-    remainder = list(f)
-    quotient = [0] * max(0, len(f) - len(g) + 1)
+    remainder, n = list(f), len(g)
+    quotient = [0] * max(0, len(f) - n + 1)
     leading = residue.inverse(g[-1], p)
     for k in range(len(quotient) - 1, -1, -1):
-        c = remainder[k + len(g) - 1] * leading % p
+        c = remainder[k + n - 1] * leading % p
         quotient[k] = c
         if c:
-            for j, b in enumerate(g, k):
-                remainder[j] = (remainder[j] - c * b) % p
-    return canonical(quotient, p), canonical(remainder[:len(g) - 1], p)
+            remainder[k:k + n] = [a - c * b for a, b in zip(remainder[k:k + n], g)]
+    return canonical(quotient, p), canonical(remainder[:n - 1], p)
 
 
 def remainder(f, g, p):

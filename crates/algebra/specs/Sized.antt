@@ -11,6 +11,25 @@ use Rattle.ring.specs.Sum.{sum}
 use Rattle.ring.specs.Identity.{quotes, identity}
 use Rattle.ring.specs.Combination.{given, combination}
 
+-- no zero divisors
+abbrev pub Cancels : {A : Type 0} → Ring A → Type 0
+Cancels {A} R = (x y : A) → ¬ (x ≡ R .zero) → R .mul x y ≡ R .zero → y ≡ R .zero
+
+module _ {A : Type 0} (R : Ring A) (cancels : Cancels R) where
+  open Ring R using (add as _+_, mul as _*_, neg as -_, zero as 𝟘, one as 𝟙)
+
+  infixl 65 _+_
+  infixl 70 _*_
+  infix 75 -_
+  pub cancels-equal : (x y z : A) → ¬ (x ≡ 𝟘) → x * y ≡ x * z → y ≡ z
+  cancels-equal x y z h e = combination R y z (given 𝟙 difference ∷ [])
+      (identity R (y ∷ z ∷ []) (λ ρ qy qz. search quotes depth 16) refl)
+    where
+      difference : y + (- z) ≡ 𝟘
+      difference = cancels x (y + (- z)) h
+          (combination R (x * (y + (- z))) 𝟘 (given 𝟙 e ∷ [])
+          (identity R (x ∷ y ∷ z ∷ []) (λ ρ qx qy qz. search quotes depth 16) refl))
+
 pub record Sized {A : Type 0} (R : Ring A) : Type 0 where
   pub size : A → ℕ
   pub size-zero : size (R .zero) ≡ 0
@@ -73,13 +92,7 @@ module _ {A : Type 0} {R : Ring A} (S : Sized R) where
       go (no k) = absurd (mul-nonzero x y h k e)
 
   pub mul-cancel : (x y z : A) → ¬ (x ≡ 𝟘) → x * y ≡ x * z → y ≡ z
-  mul-cancel x y z h e = combination R y z (given 𝟙 difference ∷ [])
-      (identity R (y ∷ z ∷ []) (λ ρ qy qz. search quotes depth 16) refl)
-    where
-      difference : y + (- z) ≡ 𝟘
-      difference = cancel-mul x (y + (- z)) h
-          (combination R (x * (y + (- z))) 𝟘 (given 𝟙 e ∷ [])
-          (identity R (x ∷ y ∷ z ∷ []) (λ ρ qx qy qz. search quotes depth 16) refl))
+  mul-cancel = cancels-equal R cancel-mul
 
   -- the factors of a product that is not zero
   pub mul-nonzero-left : (x y : A) → ¬ (x * y ≡ 𝟘) → ¬ (x ≡ 𝟘)

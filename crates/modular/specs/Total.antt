@@ -4,7 +4,7 @@ use Prim.Native.Nat.{ℕ, zero, suc, _+_, _*_, _%_, _≤_, _<_}
 use native.Mathlib.Nat.{add-zero, add-assoc, add-mod, suc-mul}
 use native.Mathlib.Decide.{le-ind}
 use native.Mathlib.Omega.{arith}
-use Rattle.ring.specs.Total.{total, total-ext}
+use Rattle.ring.specs.Total.{total}
 
 pub total-front : (n : ℕ) (t : ℕ → ℕ) → total (suc n) t ≡ t 0 + total n (λ i. t (suc i))
 unfolding total

@@ -12,7 +12,7 @@ use Rattle.ring.specs.Sum.{sum, sum-ext, sum-add, sum-mul, sum-assoc}
 use Rattle.ring.specs.Identity.{quotes, identity}
 use Rattle.ring.specs.Combination.{given, combination}
 use Rattle.algebra.specs.Sized.{Sized, mul-cancel, size-neg-equal, zero-decided, positive-nonzero, size-mul-nonzero}
-use Rattle.algebra.specs.Divides.{Divides, divides-size, divides-add, divides-mul, divides-zero, divides-equal}
+use Rattle.algebra.specs.Divides.{Divides, divides-size, divides-add, divides-mul, divides-sum, divides-equal}
 use Rattle.reduction.specs.Pivot.{Vanishes, Pivot}
 use Rattle.reduction.specs.Slots.{unweighted}
 use Rattle.reduction.specs.Row.{Last, find-last, row-size}
@@ -54,11 +54,6 @@ module _ {A : Type 0} {R : Ring A} (S : Sized R) (n m : ℕ) (M : ℕ → ℕ �
     -- lowest terms
     pub lowest : (c : A) (y : ℕ → A) → ((i : ℕ) → i < n → c * Z i ≡ y i * w) → Divides R w c
 
-  sum-divides : {w : A} (l : ℕ) (f : ℕ → A) → ((j : ℕ) → j < l → Divides R w (f j)) → Divides R w (sum R l f)
-  unfolding sum
-  sum-divides {w} zero f h = divides-zero w
-  sum-divides (suc l) f h = divides-add (sum-divides l f (λ j g. h j (omega arith))) (h l (omega arith))
-
   module _ {d w : A} {Z : ℕ → A} (K : Certifying d w Z) {x : ℕ → A} (s : Spanned x) where
     abbrev β : A
     β = s .part
@@ -81,7 +76,7 @@ module _ {A : Type 0} {R : Ring A} (S : Sized R) (n m : ℕ) (M : ℕ → ℕ �
         ∙ ap (λ y. Zm + y) (sum-mul R n β (λ i. Z i * b i))
 
     columns-divide : Divides R w Zm
-    columns-divide = divides-equal (sym (sum-assoc R n m Z M u)) (sum-divides m (λ j. sum R n (λ i. Z i * M i j) * u j)
+    columns-divide = divides-equal (sym (sum-assoc R n m Z M u)) (divides-sum m (λ j. sum R n (λ i. Z i * M i j) * u j)
         (λ j h. divides-equal (R .mul-comm (u j) (sum R n (λ i. Z i * M i j))) (divides-mul (u j) (K .columns j h))))
 
     -- Z·x = (part of b)·w/d modulo w

@@ -1,5 +1,5 @@
 -- interface, what contracts, other crates and PROVED.md cite: Room, Word, Memory, Holding, Range, LaneStored, Sums, Found,
---   Reading, Step, Monomial, Quotients, Coefficients, Remainder, Moves, Lanes, Insertion, Stage, Input, Output
+--   Reading, SameBlocks, Step, Monomial, Quotients, Coefficients, Remainder, Moves, Lanes, Insertion, Stage, Input, Output
 -- inside: Noted, Leading
 -- what stands in memory
 pub mod Room
@@ -13,6 +13,7 @@ pub mod LaneStored
 pub mod Sums
 pub mod Found
 pub mod Reading
+pub mod SameBlocks
 -- a step
 pub mod Step
 -- divide

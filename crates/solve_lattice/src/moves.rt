@@ -18,7 +18,7 @@ use vector::add_scaled;
 use vector::exchange;
 use vector::find_leading;
 ghost use mathlib.Core.Path.{_≡_};
-ghost use Prim.Native.Nat.{ℕ, _+_, _<_, _≤_, max};
+ghost use Prim.Native.Nat.{ℕ, _+_, _<_, _≤_};
 ghost use lib.ListN.{length, getD};
 ghost use Rattle.residue.specs.Modulus.{ValidModulus};
 ghost use Rattle.vector.specs.Multiple.{sumAt};

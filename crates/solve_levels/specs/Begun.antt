@@ -28,7 +28,7 @@ use Rattle.solve_lattice.specs.Sums.{sums-fewer}
 use Rattle.solve_lattice.specs.Reading.{flat-same}
 use Rattle.solve_lattice.specs.Insertion.{Starts}
 use Rattle.solve_lattice.specs.Room.{productWords, slotPlaces, blockWords, tailWords, lanes}
-use Rattle.solve_levels.specs.Cleared.{held-extend}
+use Rattle.solve_lattice.specs.SameBlocks.{held-extend}
 
 -- a column in memory: a block of 128 words, of which so many count, in sums with room for an insertion
 pub record ValidColumn (p : ℕ) (column : List ℕ) (size : ℕ) : Type 0 where

@@ -6,23 +6,16 @@ use mathlib.Core.Logic.{_⊎_, inl, inr, ⊎-elim}
 use native.Mathlib.Nat.{zero-mod, mod-eq-of-lt}
 use native.Mathlib.Omega.{arith}
 use lib.ListN.{length, getD}
-use Rattle.algebra.specs.Field.{Field}
 use Rattle.algebra.specs.Polynomial.{Polynomial, polynomials, coefficients-zero}
-use Rattle.algebra.specs.Expressions.{shift}
 use Rattle.modular.specs.Prime.{Prime}
-use Rattle.modular.specs.Modulo.{modulo}
 use Rattle.modular.specs.Residue.{residues}
 use Rattle.vector.specs.Stored.{below-or-not}
-use Rattle.reduction.specs.Replace.{extend, extend-below, extend-at}
 use Rattle.reduction.specs.Slots.{Slots}
 use Rattle.reduction.specs.Inserting.{cleared}
-use Rattle.reduction.specs.Holds.{Holds}
-use Rattle.reduction.specs.Flat.{Flat, flat}
-use Rattle.reduction.specs.Held.{Held}
-use Rattle.solve_lattice.specs.Memory.{row, height, Ends, Level, slotSize, tailSize, slotInverse, ValidSlot, ValidLevel}
+use Rattle.solve_lattice.specs.Memory.{height, Level, slotSize, tailSize, ValidLevel}
 use Rattle.solve_lattice.specs.Holding.{HoldsSlots}
-use Rattle.solve_lattice.specs.Range.{words-same, words-zero}
-use Rattle.solve_lattice.specs.Reading.{flat-same}
+use Rattle.solve_lattice.specs.Range.{words-zero}
+use Rattle.solve_lattice.specs.SameBlocks.{SameLevelBlocks, held-extend, same-slot, same-flat}
 use Rattle.solve_lattice.specs.Room.{levelWords, sizesFrom, blockWords, slotWords, lanes}
 use Rattle.solve_levels.specs.Copied.{Copied}
 
@@ -30,23 +23,23 @@ use Rattle.solve_levels.specs.Copied.{Copied}
 pub record Copies (p : ℕ) (L L′ : Level) : Type 0 where
   pub room : levelWords ≤ length L′
   pub below : (i : ℕ) → i < sizesFrom → getD L′ i 0 < p
-  pub blocks : (q j : ℕ) → q < lanes → j < blockWords → getD L′ (slotWords * q + j) 0 ≡ getD L (slotWords * q + j) 0
+  pub same : SameLevelBlocks L L′
   pub tails : (q j : ℕ) → q < lanes → j < blockWords → getD L′ (slotWords * q + blockWords + j) 0 ≡ 0
-  pub sizes : (q : ℕ) → q < lanes → slotSize L′ q ≡ slotSize L q
   pub tail-sizes : (q : ℕ) → q < lanes → tailSize L′ q ≡ 0
-  pub inverses : (q : ℕ) → q < lanes → slotInverse L′ q ≡ slotInverse L q
 
 -- words of a block that do not count are 0, since they are below p
 pub copied-copies : {p : ℕ} {L L′ : Level} → ValidLevel p L → Copied L lanes L′ → Copies p L L′
 copied-copies {p} {L} {L′} valid copied = record {
   room = omega (arith, copied .room);
   below = λ i h. subst (λ x. getD L′ x 0 < p) (omega arith) (below (i / slotWords) (i % slotWords) (omega arith) (omega arith));
-  blocks = λ q j h lt. block q j h lt (below-or-not j (slotSize L q));
+  same = record {
+    words = λ q j h lt. block q j h lt (below-or-not j (slotSize L q));
+    sizes = copied .sizes;
+    inverses = copied .inverses;
+  };
   tails = λ q j h lt. ap (λ x. getD L′ x 0) (omega arith)
       ∙ copied .others q (blockWords + j) h (omega arith) (λ l. omega (arith, valid .slot q h .block .within));
-  sizes = copied .sizes;
   tail-sizes = copied .tail-sizes;
-  inverses = copied .inverses;
 }
   where
     block : (q j : ℕ) → q < lanes → j < blockWords → (j < slotSize L q) ⊎ (slotSize L q ≤ j)
@@ -61,55 +54,20 @@ copied-copies {p} {L} {L′} valid copied = record {
         (λ not. omega (arith, copied .others q j h lt (λ l. not), valid .below 0 (omega arith)))
         (below-or-not j (slotSize L q))
 
--- a block, and a tail behind it
-pub held-extend : {K : Type 0} {F : Field K} {n W : ℕ} {ω : ℕ → ℕ} {H τ : ℕ → K} {v : ℕ → Polynomial F} {t : Polynomial F}
-    → Flat F n W ω H v → Holds F τ t → Held F n W ω H τ (extend n v t)
-held-extend {F = F} {n = n} {W = W} {ω = ω} {H = H} {τ = τ} {v = v} {t = t} A B = record {
-  block = record {
-    lanes = A .lanes;
-    lane = λ i h. subst (λ x. Holds F (λ e. H (flat W i e)) (shift F (ω i) x)) (sym (extend-below n v t i h)) (A .lane i h);
-    beside = A .beside;
-  };
-  tail = subst (Holds F τ) (sym (extend-at n v t)) B;
-}
-
 module _ {p : ℕ} {L L′ : Level} (copies : Copies p L L′) where
   pub copies-valid : ValidLevel p L → ValidLevel p L′
   copies-valid valid = record {
     room = copies .room;
     below = copies .below;
-    slot = slot;
+    slot = λ q h. same-slot (copies .same) q h (valid .slot q h) (omega (arith, copies .tail-sizes q h))
+        (λ j l lt. ap (λ w. w % p) (copies .tails q j h lt) ∙ zero-mod p);
   }
-    where
-      slot : (q : ℕ) → q < lanes → ValidSlot p L′ q
-      slot q h =
-          let old = valid .slot q h in
-          let k : ℕ = slotSize L q in
-          let same : slotSize L′ q ≡ k = copies .sizes q h in record {
-            block = subst (Ends p L′ (slotWords * q) blockWords) (sym same) record {
-              within = old .block .within;
-              last = λ some. subst (λ w. 0 < w % p) (sym (copies .blocks q (k - 1) h (omega (arith, old .block .within))))
-                  (old .block .last some);
-              behind = λ j l lt. ap (λ w. w % p) (copies .blocks q j h lt) ∙ old .block .behind j l lt;
-            };
-            pivot = λ some. ap row same ∙ old .pivot (omega arith);
-            inverse = λ some.
-                copies .inverses q h
-                ∙ old .inverse (omega arith)
-                ∙ ap (λ w. modulo p .inverse w)
-                (sym (ap (λ i. getD L′ (slotWords * q + (i - 1)) 0) same
-                ∙ copies .blocks q (k - 1) h (omega (arith, old .block .within))));
-            tail-within = omega (arith, copies .tail-sizes q h);
-            tail = λ j l lt. ap (λ w. w % p) (copies .tails q j h lt) ∙ zero-mod p;
-          }
 
   pub copies-holds : (prime : Prime p) (n : ℕ) (ω : ℕ → ℕ) (U : Slots (Polynomial (residues p prime))) → n ≤ lanes
       → HoldsSlots p prime n ω L U → HoldsSlots p prime n ω L′ (cleared (polynomials (residues p prime)) n U)
   copies-holds prime n ω U few-rows holds = record {
-    size = λ q h. holds .size q h ∙ ap height (sym (copies .sizes q (omega arith)));
-    vector = λ q h f. held-extend
-        (flat-same (λ x. words-same p prime L L′ (slotWords * q) (slotWords * q) blockWords x
-        (λ lt. ap (λ w. w % p) (sym (copies .blocks q x (omega arith) lt)))) (holds .vector q h f .block))
+    size = λ q h. holds .size q h ∙ ap height (sym (copies .same .sizes q (omega arith)));
+    vector = λ q h f. held-extend (same-flat (copies .same) prime q (omega arith) (holds .vector q h f .block))
         (record {
           at = λ e. coefficients-zero (residues p prime) e ∙ sym (words-zero p prime L′ (slotWords * q + blockWords) blockWords 0
               (λ j l lt. ap (λ w. w % p) (copies .tails q j (omega arith) lt) ∙ zero-mod p) e (omega arith));

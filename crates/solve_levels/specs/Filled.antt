@@ -26,7 +26,7 @@ use Rattle.solve_lattice.specs.Memory.{row, height, Ends, Level, slotSize, tail
 use Rattle.solve_lattice.specs.Holding.{HoldsSlots}
 use Rattle.solve_lattice.specs.Range.{words-same}
 use Rattle.solve_lattice.specs.Reading.{flat-same, held-same}
-use Rattle.solve_levels.specs.Cleared.{held-extend}
+use Rattle.solve_lattice.specs.SameBlocks.{held-extend}
 
 -- size and inverse of slot q set behind the slots of a level
 abbrev pub renumbered : Level → (q k i : ℕ) → Level

@@ -4,16 +4,12 @@ use mathlib.Core.Path.{_≡_, sym, _∙_, ap, ap₂, subst}
 use native.Mathlib.Omega.{arith}
 use native.Mathlib.Decide.{decLt, decLe}
 use lib.ListN.{getD}
-use Rattle.solve_lattice.specs.Memory.{height, Level, slotSize, slotInverse}
-use Rattle.solve_lattice.specs.Room.{blockWords, slotWords, blockDegrees, lanes, lastLane}
+use Rattle.solve_lattice.specs.Memory.{height, Level, slotSize}
+use Rattle.solve_lattice.specs.Room.{slotWords, blockDegrees, lanes, lastLane}
+use Rattle.solve_lattice.specs.SameBlocks.{SameLevelBlocks}
 use Rattle.solve_second.specs.Greatest.{LowBlocks, greatest, greatest-small, greatest-same}
 use Rattle.solve_second.specs.Words.{when, when-same, reversed, lift, blockWord, transposedSize, transposedWord}
 use Rattle.solve_second.specs.Laid.{SlotsLaid}
-
-pub record SameLevelBlocks (L L′ : Level) : Type 0 where
-  pub words : (q j : ℕ) → q < lanes → j < blockWords → getD L′ (slotWords * q + j) 0 ≡ getD L (slotWords * q + j) 0
-  pub sizes : (q : ℕ) → q < lanes → slotSize L′ q ≡ slotSize L q
-  pub inverses : (q : ℕ) → q < lanes → slotInverse L′ q ≡ slotInverse L q
 
 module _ {L L′ : Level} (same : SameLevelBlocks L L′) (low : LowBlocks L) {n : ℕ} (small : n ≤ lanes) where
   pub same-greatest : greatest L′ n ≡ greatest L n

@@ -2,7 +2,7 @@
 use Prim.Native.Nat.{ℕ, _<_}
 use mathlib.Core.Path.{refl}
 use Rattle.solve_lattice.specs.Memory.{Level, ValidLevel}
-use Rattle.solve_second.specs.Same.{SameLevelBlocks}
+use Rattle.solve_lattice.specs.SameBlocks.{SameLevelBlocks}
 use Rattle.solve_second.specs.WithRow.{withRow, row-blocks, row-valid}
 use Rattle.solve_second.specs.declared.second_side.Side.{Side}
 use Rattle.solve_second.specs.declared.second_side.Side.the-variants.{Tails, Row}

@@ -23,8 +23,8 @@ use Rattle.solve_lattice.specs.Room.{levelWords, inversesFrom, tailSizesFrom, s
 use Rattle.solve_lattice.specs.Room.{lastLane}
 use Rattle.solve_second.specs.Words.{either, either-yes, either-no, when, when-yes, when-no, blockWord}
 use Rattle.solve_second.specs.ValidTransposed.{when-below}
-use Rattle.solve_second.specs.Same.{SameLevelBlocks}
-use Rattle.solve_second.specs.OtherTails.{same-slot, same-holds}
+use Rattle.solve_lattice.specs.SameBlocks.{SameLevelBlocks, same-slot}
+use Rattle.solve_second.specs.OtherTails.{same-holds}
 
 -- coefficient e of row h in the block of slot q, which has 16
 abbrev pub rowWord : Level → (h q e : ℕ) → ℕ

@@ -9,7 +9,7 @@ use Rattle.ring.specs.Ring.{Ring}
 use Rattle.ring.specs.Identity.{quotes, identity}
 use Rattle.ring.specs.Combination.{given, combination}
 use Rattle.algebra.specs.Coefficients.{mul, monic, quotient, gcd}
-use Rattle.algebra.specs.Sized.{Sized, cancel-mul, mul-cancel}
+use Rattle.algebra.specs.Sized.{Sized, Cancels, cancel-mul, mul-cancel}
 use Rattle.algebra.specs.Divides.{Divides as DividesIn, divides-size}
 use Rattle.algebra.specs.Bezout.{Greatest}
 use Rattle.modular.specs.Modulo.{modulo}
@@ -30,7 +30,7 @@ use Rattle.truth.specs.Solution.Answer.{none, least}
 use Rattle.truth.specs.Right.{RightSolution, RightAbsence, certified}
 use Rattle.truth.specs.Lift.{Proper, canonical-at, ringOf, equations, vector, row-list, column-list, side-list, divides-list}
 use Rattle.truth.specs.Lift.{divides-lift}
-use Rattle.truth.specs.Witness.{Bounds, SolvesEquations, Cancels, bounds-clearing, excludes}
+use Rattle.truth.specs.Witness.{Bounds, SolvesEquations, bounds-clearing, excludes}
 use Rattle.truth.specs.Witness
 
 -- d, N, w and Z are polynomials modulo p, of any degree, as many as the system asks

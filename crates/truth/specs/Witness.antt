@@ -7,10 +7,7 @@ use Rattle.ring.specs.Ring.{Ring, mul-left-comm, zero-mul}
 use Rattle.ring.specs.Identity.{quotes, identity}
 use Rattle.ring.specs.Combination.{given, combination}
 use Rattle.ring.specs.Sum.{sum, sum-ext, sum-none, sum-mul, sum-assoc}
-
--- no zero divisors
-abbrev pub Cancels : {A : Type 0} → Ring A → Type 0
-Cancels {A} R = (x y : A) → ¬ (x ≡ R .zero) → R .mul x y ≡ R .zero → y ≡ R .zero
+use Rattle.algebra.specs.Sized.{Cancels, cancels-equal}
 
 -- a matrix of n rows and m columns with a right side
 pub record RingEquations (A : Type 0) : Type 0 where
@@ -56,14 +53,6 @@ module _ {A : Type 0} (R : Ring A) where
     pub coprime : α * d + β * s ≡ 𝟙
 
   module _ (cancels : Cancels R) (E : RingEquations A) where
-    cancel-eq : (x y z : A) → ¬ (x ≡ 𝟘) → x * y ≡ x * z → y ≡ z
-    cancel-eq x y z h e = combination R y z (given 𝟙 difference ∷ [])
-        (identity R (y ∷ z ∷ []) (λ ρ qy qz. search quotes depth 16) refl)
-      where
-        difference : y + (- z) ≡ 𝟘
-        difference = cancels x (y + (- z)) h (combination R (x * (y + (- z))) 𝟘 (given 𝟙 e ∷ [])
-            (identity R (x ∷ y ∷ z ∷ []) (λ ρ qx qy qz. search quotes depth 16) refl))
-
     -- A·x = c·b gives c·(Z·b) = (Z·A)·x
     times-row : (Z : ℕ → A) (c : A) (x : ℕ → A) → ((i : ℕ) → i < E .rows → rowOf E x i ≡ c * E .side i)
         → c * sideOf E Z ≡ sum R (E .columns) (λ j. columnOf E Z j * x j)
@@ -85,7 +74,7 @@ module _ {A : Type 0} (R : Ring A) where
         ∙ sum-mul R (E .columns) w (λ j. q j * Q j)
       where
         row : (i : ℕ) → i < E .rows → rowOf E Q i ≡ c * E .side i
-        row i k = cancel-eq e (rowOf E Q i) (c * E .side i) (X .nonzero)
+        row i k = cancels-equal R cancels e (rowOf E Q i) (c * E .side i) (X .nonzero)
             (sym (sum-mul R (E .columns) e (λ j. E .entry i j * Q j))
             ∙ sum-ext R (E .columns) (λ j. e * (E .entry i j * Q j)) (λ j. c * (E .entry i j * x j))
             (λ j l. mul-left-comm R e (E .entry i j) (Q j) ∙ ap (λ z. E .entry i j * z) (sym (h j l))
@@ -104,7 +93,7 @@ module _ {A : Type 0} (R : Ring A) where
         both = ap (λ z. c * z) (sym (B .side-is)) ∙ clearing-side w Z (B .quotient) (B .columns) x e X c Q h
 
         divided : c * B .s ≡ d * Y
-        divided = cancel-eq (B .g) (c * B .s) (d * Y) (B .g-nonzero)
+        divided = cancels-equal R cancels (B .g) (c * B .s) (d * Y) (B .g-nonzero)
             (combination R (B .g * (c * B .s)) (B .g * (d * Y)) (given 𝟙 both ∷ given Y (B .w-is) ∷ [])
             (identity R (B .g ∷ d ∷ Y ∷ c ∷ B .s ∷ w ∷ []) (λ ρ qg qd qY qc qs qw. search quotes depth 20) refl))
 

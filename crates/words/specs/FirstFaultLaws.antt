@@ -17,14 +17,14 @@ use Rattle.words.specs.Frame.{Due, framedFrom}
 use Rattle.words.specs.FrameLaws.{Expressible}
 use Rattle.words.specs.FormatLaws.{Format, FormatLaws, written, valueFrom, readValue, value-read, value-written}
 use Rattle.words.specs.FormatLaws.{read-of-written}
-use Rattle.words.specs.Table.{HeadTable, tableRow, polynomialsDue, numberAt, missingAt, after, dueAfter}
+use Rattle.words.specs.Table.{HeadTable, polynomialsDue, numberAt, missingAt, after, dueAfter}
 use Rattle.words.specs.Table.{Passed, firstAt, ByTable}
 use Rattle.words.specs.Table.Expected.{head, nothing}
 use Rattle.words.specs.FirstFault.{FirstFault}
 use Rattle.words.specs.TableLaws.{turned, walk, forgotten, forgotten-map, HeadWalk, framed-walk}
 use Rattle.words.specs.OnTableLaws.{missing-none, missing-four, row-at-word, row-at-end}
 use Rattle.words.specs.PassLaws as pass
-use Rattle.words.specs.PassLaws.{Stopped, none-some, turned-read}
+use Rattle.words.specs.PassLaws.{Stopped, none-some, turned-read, parted-at}
 use Rattle.words.specs.CompleteLaws as complete
 use Rattle.words.specs.CompleteLaws.{Room, Completed}
 
@@ -103,13 +103,12 @@ module _ {H A : Type 0} (F : Format H A) (tabled : Tabled F) where
   stopped-row : (ws : List ℕ) (n k : ℕ) (us : List ℕ) → Stopped T by 0 head ws n us → k ≡ length ws - length us
       → ByTable T by ws n k
   stopped-row ws n k us stop e =
-      let front = stop .front in
-      let all = ap length (stop .words) ∙ length-append front us in
-      let ek : length front ≡ k = omega arith in
-      let ez : k ≡ 0 + length front = omega arith in
-      let et : take k ws ≡ front = ap (take k) (stop .words) ∙ take-at front us k ek in
-      let ed : drop k ws ≡ us = ap (drop k) (stop .words) ∙ drop-at front us k ek in
-      record { within = omega arith; before = rw et (stop .passed); row = rw (et, ed, ez) (stop .row) }
+      let parted = parted-at ws (stop .front) us k (stop .words) e in
+      let et = parted .front-is in record {
+        within = parted .within;
+        before = rw et (stop .passed);
+        row = rw (et, parted .rest-is, parted .place) (stop .row);
+      }
 
   pub refused-row : (ws : List ℕ) {n k : ℕ} → readValue F ws ≡ refused n k → ByTable T by ws n k
   refused-row ws {n} {k} e =

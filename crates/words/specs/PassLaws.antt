@@ -3,13 +3,14 @@ use mathlib.Core.Path.{_≡_, refl, sym, ap, _∙_, subst}
 use mathlib.Core.Logic.{_⊎_, inl, inr, ⊎-elim}
 use mathlib.Core.Option.{Option, none, some}
 use mathlib.Core.List.{List, [], _∷_, _++_}
-use Prim.Native.Nat.{ℕ, suc, _+_, _-_}
+use Prim.Native.Nat.{ℕ, suc, _+_, _-_, _≤_}
 use native.Mathlib.Omega.{arith}
-use lib.ListN.{length}
+use lib.ListN.{length, take, drop, length-append}
+use lib.Seq.{take-at, drop-at}
 use Rattle.words.specs.Reading.{Reading}
 use Rattle.words.specs.Reading.Reading.{read, fault}
 use Rattle.words.specs.ReadingLaws.{fault-read}
-use Rattle.words.specs.Table.{Expected, HeadTable, tableRow, numberAt, missingAt, after, dueAfter}
+use Rattle.words.specs.Table.{Expected, HeadTable, numberAt, missingAt, after, dueAfter}
 use Rattle.words.specs.Table.{Passed, firstAt}
 use Rattle.words.specs.TableLaws.{turned, walk}
 
@@ -33,6 +34,24 @@ pub dueAfter-append : (T : HeadTable) (e : Expected) (us vs : List ℕ) → dueA
 unfolding dueAfter
 dueAfter-append T e [] vs = refl
 dueAfter-append T e (u ∷ us) vs = dueAfter-append T (after T e u) us vs
+
+-- ---- words in two parts, by the place where the second begins
+
+pub record PartedAt (ws front us : List ℕ) (k : ℕ) : Type 0 where
+  pub within : k ≤ length ws
+  pub place : k ≡ 0 + length front
+  pub front-is : take k ws ≡ front
+  pub rest-is : drop k ws ≡ us
+
+pub parted-at : (ws front us : List ℕ) (k : ℕ) → ws ≡ front ++ us → k ≡ length ws - length us → PartedAt ws front us k
+parted-at ws front us k words place =
+    let all = ap length words ∙ length-append front us in
+    let ek : length front ≡ k = omega arith in record {
+      within = omega arith;
+      place = omega arith;
+      front-is = ap (take k) words ∙ take-at front us k ek;
+      rest-is = ap (drop k) words ∙ drop-at front us k ek;
+    }
 
 -- ---- the walk
 

@@ -8,7 +8,6 @@ use native.Mathlib.Omega.{arith}
 use lib.ListN.{length}
 use lib.Dec.{eqb, leb, ltb}
 use Rattle.words.specs.Word.{kind, payload}
-use Rattle.words.specs.Outcome.Outcome.{refused}
 use Rattle.words.specs.Reading.{Reading, turnBack, andThen, wordsUsed, used}
 use Rattle.words.specs.Reading.Reading.{read, fault}
 use Rattle.words.specs.Polynomial.{coefficientsFrom, polynomialFrom, polynomialsFrom}

@@ -7,8 +7,8 @@ use mathlib.Core.Option.{Option, some}
 use mathlib.Core.List.{List, [], _∷_, _++_}
 use Prim.Native.Nat.{ℕ, zero, suc, _+_, _-_}
 use native.Mathlib.Omega.{arith}
-use lib.ListN.{length, take, drop, length-append, length-drop, take-append-drop}
-use lib.Seq.{length-take-le, take-at, drop-at}
+use lib.ListN.{length, take, drop, length-drop, take-append-drop}
+use lib.Seq.{length-take-le}
 use lib.Dec.{eqb, leb, ltb}
 use Rattle.words.specs.Word.{kind, payload}
 use Rattle.words.specs.Outcome.Outcome.{refused}
@@ -21,7 +21,7 @@ use Rattle.words.specs.Table.{Expected, tableRow, polynomialsDue, coeffi
 use Rattle.words.specs.Table.{Passed, firstAt, OfPolynomials, headless, PolynomialsByTable}
 use Rattle.words.specs.Table.Expected.{head, start, coefficient, end, nothing}
 use Rattle.words.specs.TableLaws.{turned, then-same, forgotten, forgotten-map}
-use Rattle.words.specs.PassLaws.{turned-fault}
+use Rattle.words.specs.PassLaws.{turned-fault, parted-at}
 
 -- ---- the walk by the table, for as long as a word of a polynomial is due
 
@@ -205,13 +205,14 @@ refused-used total (fault m vs) {n} {us} e =
 stopped-row : (p limit count : ℕ) (ws : List ℕ) (n k : ℕ) (us : List ℕ) → StoppedIn 0 (polynomialsDue p limit count) ws n us
     → k ≡ length ws - length us → PolynomialsByTable p limit count ws n k
 stopped-row p limit count ws n k us stop place =
-    let front = stop .front in
-    let all = ap length (stop .words) ∙ length-append front us in
-    let ek : length front ≡ k = omega arith in
-    let ez : k ≡ 0 + length front = omega arith in
-    let et : take k ws ≡ front = ap (take k) (stop .words) ∙ take-at front us k ek in
-    let ed : drop k ws ≡ us = ap (drop k) (stop .words) ∙ drop-at front us k ek in
-    record { within = omega arith; before = rw et (stop .passed); due = rw et (stop .due); row = rw (et, ed, ez) (stop .row) }
+    let parted = parted-at ws (stop .front) us k (stop .words) place in
+    let et = parted .front-is in
+    record {
+      within = parted .within;
+      before = rw et (stop .passed);
+      due = rw et (stop .due);
+      row = rw (et, parted .rest-is, parted .place) (stop .row);
+    }
 
 module _ {A : Type 0} (p limit count : ℕ) (reading : List ℕ → Reading A) (ws : List ℕ)
     (is : forgotten (reading ws) ≡ over (polynomialsDue p limit count) ws) (n k : ℕ) where
