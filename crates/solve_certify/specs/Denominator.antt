@@ -23,7 +23,8 @@ use Rattle.solve_lattice.specs.Reading.{flat-same}
 use Rattle.solve_second.specs.Monic.{MadeMonic}
 use Rattle.solve_second.specs.Product.{BlockMultiplied}
 use Rattle.solve_second.specs.ProductLaws.{product-sums}
-use Rattle.solve_certify.specs.Words.{held-zero-from, held-fewer, words-copied, stored-below}
+use Rattle.solve_popov.specs.Words.{held-zero-from, words-copied}
+use Rattle.solve_certify.specs.Words.{stored-below, held-fewer}
 
 -- the tail is not zero
 pub record HasTail (p : ℕ) (tail : List ℕ) : Type 0 where

@@ -32,9 +32,9 @@ use Rattle.solve_lattice.specs.Insertion.{Inserts}
 use Rattle.solve_lattice.specs.Input.{Equations, inputSystem}
 use Rattle.solve_levels.specs.Begun.{ValidColumn}
 use Rattle.solve_levels.specs.Started.{Started}
+use Rattle.solve_popov.specs.Words.{words-copied}
 use Rattle.solve_lattice.specs.Room.{blockWords, tailWords, blockDegrees, lanes, mostCoefficients}
 use Rattle.solve_certify.specs.Witnessed.{HoldsLast}
-use Rattle.solve_certify.specs.Words.{words-copied}
 use Rattle.solve_certify.specs.Denominator.{sideWords, side-below}
 
 module _ (p : ℕ) (prime : Prime p) (n m : ℕ) where

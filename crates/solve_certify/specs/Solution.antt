@@ -28,12 +28,13 @@ use Rattle.solve_lattice.specs.Input.{Equations, inputSystem}
 use Rattle.solve_lattice.specs.Output.{ValidOutput}
 use Rattle.solve_second.specs.Product.{Multiplied}
 use Rattle.solve_second.specs.Solved.{HoldsSecond}
+use Rattle.solve_popov.specs.Words.{held-zero-from, words-copied}
+use Rattle.solve_popov.specs.Short.{HasMonicTops, HoldsShort, ShortSolved}
 use Rattle.solve_lattice.specs.Room.{outputWords, blockWords, lanes}
 use Rattle.solve_certify.specs.Witnessed.{HoldsUnfinished}
-use Rattle.solve_certify.specs.Words.{stored-below, held-zero-from, held-fewer, words-copied}
+use Rattle.solve_certify.specs.Words.{stored-below, held-fewer}
 use Rattle.solve_certify.specs.Inserted.{HoldsVanished, HasVanished, last-degrees, vanished-some, vanished-tops}
 use Rattle.solve_certify.specs.Inserted.{vanished-room}
-use Rattle.solve_certify.specs.Short.{HasMonicTops, HoldsShort, ShortSolved}
 use Rattle.solve_certify.specs.Denominator.{HasTail, HasDenominator, HoldsDenominator}
 
 pub record SolutionFound (p n m : ℕ) (input : List ℕ) (L L′ : Level) (tail quotients output : List ℕ) : Type 0 where

@@ -1,5 +1,4 @@
 // Where there is a solution: all of its certificate but the numerators.
-use crate::popov::solve_short;
 use residue::modulus::Modulus;
 use solve_lattice::BLOCK;
 use solve_lattice::Block;
@@ -12,6 +11,7 @@ use solve_lattice::ROWS;
 use solve_lattice::Stage;
 use solve_lattice::Tail;
 use solve_lattice::divide;
+use solve_popov::solve_short;
 use solve_second::make_monic;
 use solve_second::multiply;
 use solve_second::multiply_block;

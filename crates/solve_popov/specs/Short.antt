@@ -22,8 +22,8 @@ use Rattle.solve_lattice.specs.Word.{words}
 use Rattle.solve_lattice.specs.Memory.{Ends, Level, slotSize, ValidLevel}
 use Rattle.solve_lattice.specs.Holding.{HoldsSlots}
 use Rattle.solve_second.specs.Solved.{HasTops, HoldsSecond, SecondSolved}
-use Rattle.solve_certify.specs.Rework.{HoldsReworked, SlotReworked, HoldsPopov, SlotsReworked}
-use Rattle.solve_certify.specs.SlotStored.{d-size}
+use Rattle.solve_popov.specs.Rework.{HoldsReworked, SlotReworked, HoldsPopov, SlotsReworked}
+use Rattle.solve_popov.specs.SlotStored.{d-size}
 
 -- slots that have a second system within the room, and a monic d, which has that room too
 pub record HasMonicTops (p n : ℕ) (L : Level) (d : List ℕ) : Type 0 where
