@@ -150,7 +150,8 @@ module _ {p : ℕ} {n m j : ℕ} {input : List ℕ} {L : Level} (inside : j < m)
       undone-filling = undone inside filling D x vector turn record {
         span = filled-lowered (sized (residues p prime)) n blockDegree full P empty (S .span) (G .span);
         holds = λ i h. subst (HoldsQuotient p prime quotients′ i)
-            (sym (filled-coefficient (sized (residues p prime)) n blockDegree full P empty (S .span) (G .span) i h)) (lowered .lowered i h);
+            (sym (filled-coefficient (sized (residues p prime)) n blockDegree full P empty (S .span) (G .span) i h))
+            (lowered .lowered i h);
       } (lowered .coordinate) (low .others)
 
 -- at a stage: so many words are left of its column, in `rest`, and their slot is empty

@@ -221,8 +221,8 @@ module _ {p n m : ℕ} {input : List ℕ} {L L′ : Level} {tail d t : List ℕ}
   }
 
   -- L7 and L8
-  pub solution-found : {product output output′ : List ℕ} → Prime p → m ≤ lanes → Multiplied p d found w (mostCoefficients + 1 - found) product
-      → ValidOutput p output → output′ ≡ storedSolution n m d product rows output
-      → SolutionFound p n m input L L′ tail quotients output′
+  pub solution-found : {product output output′ : List ℕ} → Prime p → m ≤ lanes
+      → Multiplied p d found w (mostCoefficients + 1 - found) product → ValidOutput p output
+      → output′ ≡ storedSolution n m d product rows output → SolutionFound p n m input L L′ tail quotients output′
   solution-found prime₀ columns multiplied valid stores =
       subst (SolutionFound p n m input L L′ tail quotients) (sym stores) (stored-found prime₀ columns multiplied valid)
