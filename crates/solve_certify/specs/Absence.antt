@@ -29,8 +29,9 @@ use Rattle.solve_lattice.specs.Input.{Equations, inputSystem}
 use Rattle.solve_lattice.specs.Output.{ValidOutput, HoldsAt, HoldsAbsence}
 use Rattle.solve_second.specs.WithRow.{withRow, row-valid, row-holds}
 use Rattle.solve_second.specs.Solved.{HasTops, HoldsSecond, SecondSolved}
+use Rattle.solve_popov.specs.Words.{words-copied}
 use Rattle.solve_lattice.specs.Room.{outputWords, blockWords, blockDegrees, lanes}
-use Rattle.solve_certify.specs.Words.{stored-below, words-copied, holds-negated}
+use Rattle.solve_certify.specs.Words.{stored-below, holds-negated}
 use Rattle.solve_certify.specs.Inserted.{HoldsStuck, slots-high, last-degrees}
 
 pub record AbsenceFound (p n : ℕ) (L : Level) (h : ℕ) (output : List ℕ) : Type 0 where

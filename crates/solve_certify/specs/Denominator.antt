@@ -23,7 +23,8 @@ use Rattle.solve_lattice.specs.Reading.{flat-same}
 use Rattle.solve_second.specs.Monic.{MadeMonic}
 use Rattle.solve_second.specs.Product.{BlockMultiplied}
 use Rattle.solve_second.specs.ProductLaws.{product-sums}
-use Rattle.solve_certify.specs.Words.{held-zero-from, held-fewer, words-copied, stored-below}
+use Rattle.solve_popov.specs.Words.{held-zero-from, words-copied}
+use Rattle.solve_certify.specs.Words.{stored-below, held-fewer}
 
 -- the tail is not zero
 pub record HasTail (p : ℕ) (tail : List ℕ) : Type 0 where
@@ -32,7 +33,7 @@ pub record HasTail (p : ℕ) (tail : List ℕ) : Type 0 where
   pub some : 0 < size (residues p prime) polynomial
   pub holds : Holds (residues p prime) (words p prime tail 0 tailWords) polynomial
 
--- d in 128 words, d·b in t
+-- d in a block, d·b in t
 pub record HoldsDenominator (p : ℕ) (prime : Prime p) (n : ℕ) (d t : List ℕ) (x : Polynomial (residues p prime))
     (b : ℕ → Polynomial (residues p prime)) : Type 0 where
   pub denominator : Holds (residues p prime) (words p prime d 0 blockWords) x
@@ -64,7 +65,7 @@ side-below {p} prime input m l copied below none = subst (λ w. (i : ℕ) → ge
     some = omega (arith, prime .large)
 
 module _ {p : ℕ} {tail d : List ℕ} {found : ℕ} (made : MadeMonic p tail d found) where
-  -- a tail has at most 121 coefficients
+  -- a tail has no more coefficients than a polynomial of a certificate
   pub monic-small : ZeroFrom p tail 0 tailWords mostCoefficients → HasTail p tail → found ≤ mostCoefficients
   monic-small zero has = go (has .prime) (has .polynomial) (has .some) (has .holds)
     where

@@ -32,9 +32,9 @@ use Rattle.solve_lattice.specs.Insertion.{Inserts}
 use Rattle.solve_lattice.specs.Input.{Equations, inputSystem}
 use Rattle.solve_levels.specs.Begun.{ValidColumn}
 use Rattle.solve_levels.specs.Started.{Started}
-use Rattle.solve_lattice.specs.Room.{blockWords, tailWords, blockDegrees, lanes, mostCoefficients}
+use Rattle.solve_popov.specs.Words.{words-copied}
+use Rattle.solve_lattice.specs.Room.{blockWords, tailWords, blockDegrees, blockDegree, lanes, mostCoefficients, mostDegree}
 use Rattle.solve_certify.specs.Witnessed.{HoldsLast}
-use Rattle.solve_certify.specs.Words.{words-copied}
 use Rattle.solve_certify.specs.Denominator.{sideWords, side-below}
 
 module _ (p : ℕ) (prime : Prime p) (n m : ℕ) where
@@ -70,19 +70,20 @@ pub record HasStuck (p n : ℕ) (L : Level) (h : ℕ) : Type 0 where
   pub slots : Slots (Polynomial (residues p prime))
   pub stuck : HoldsStuck p prime n columns equations slots L h
 
--- slots in memory have at most 16 degrees
+-- slots in memory have at most as many degrees as a block
 pub slots-high : {p : ℕ} (prime : Prime p) {n : ℕ} {ω : ℕ → ℕ} {L : Level} {U : Slots (Polynomial (residues p prime))} → n ≤ lanes
     → ValidLevel p L → HoldsSlots p prime n ω L U → (q : ℕ) → q < n → U .size q ≤ blockDegrees
 slots-high prime {L = L} few-rows valid holds q h =
     let within : slotSize L q ≤ blockWords = valid .slot q (omega arith) .block .within in
     omega (arith, holds .size q h)
 
--- L6: at most 8 slots of degree 15
+-- L6: at most as many slots as lanes, of the degree of a block
 pub last-degrees : {p : ℕ} (prime : Prime p) {n m : ℕ} {X : Equations p prime n m} {U : Slots (Polynomial (residues p prime))}
-    → n ≤ lanes → reduction.LevelKnown (inputSystem p prime n m X) m U → (rank n (U .size) * 15 ≤ 120) × (degrees n (U .size) ≤ 120)
+    → n ≤ lanes → reduction.LevelKnown (inputSystem p prime n m X) m U
+    → (rank n (U .size) * blockDegree ≤ mostDegree) × (degrees n (U .size) ≤ mostDegree)
 last-degrees prime {n = n} {U = U} few-rows last =
     let few : rank n (U .size) ≤ lanes = omega (arith, rank-le n (U .size)) in
-    let small : degrees n (U .size) ≤ rank n (U .size) * 15 = last .degrees-le in
+    let small : degrees n (U .size) ≤ rank n (U .size) * blockDegree = last .degrees-le in
     (omega arith, omega arith)
 
 module _ {p : ℕ} (prime : Prime p) {n m : ℕ} {X : Equations p prime n m} {U : Slots (Polynomial (residues p prime))}

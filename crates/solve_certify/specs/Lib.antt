@@ -2,11 +2,6 @@
 pub mod Witnessed
 -- inside: laws on words
 pub mod Words
--- inside: slots in Popov form, whose second system has short rows
-pub mod Rework
-pub mod Reduced
-pub mod SlotStored
-pub mod Short
 -- inside: the right side inserted
 pub mod Inserted
 -- inside: its two ends

@@ -28,12 +28,13 @@ use Rattle.solve_lattice.specs.Input.{Equations, inputSystem}
 use Rattle.solve_lattice.specs.Output.{ValidOutput}
 use Rattle.solve_second.specs.Product.{Multiplied}
 use Rattle.solve_second.specs.Solved.{HoldsSecond}
-use Rattle.solve_lattice.specs.Room.{outputWords, blockWords, lanes}
+use Rattle.solve_popov.specs.Words.{held-zero-from, words-copied}
+use Rattle.solve_popov.specs.Short.{HasMonicTops, HoldsShort, ShortSolved}
+use Rattle.solve_lattice.specs.Room.{outputWords, blockWords, blockDegree, lanes, mostCoefficients}
 use Rattle.solve_certify.specs.Witnessed.{HoldsUnfinished}
-use Rattle.solve_certify.specs.Words.{stored-below, held-zero-from, held-fewer, words-copied}
+use Rattle.solve_certify.specs.Words.{stored-below, held-fewer}
 use Rattle.solve_certify.specs.Inserted.{HoldsVanished, HasVanished, last-degrees, vanished-some, vanished-tops}
 use Rattle.solve_certify.specs.Inserted.{vanished-room}
-use Rattle.solve_certify.specs.Short.{HasMonicTops, HoldsShort, ShortSolved}
 use Rattle.solve_certify.specs.Denominator.{HasTail, HasDenominator, HoldsDenominator}
 
 pub record SolutionFound (p n m : ℕ) (input : List ℕ) (L L′ : Level) (tail quotients output : List ℕ) : Type 0 where
@@ -163,11 +164,11 @@ module _ {p n m : ℕ} {input : List ℕ} {L L′ : Level} {tail d t : List ℕ}
         (associate (residues p prime) e (vanished-some prime few-rows Q)) (H .reworked) (S .polynomial) (S .Y) (S .monic) (S .dual)
         (H .short)
 
-    -- L8: d and w′ have together at most 122 coefficients, since their product has at most 121
-    together : size (residues p prime) x + size (residues p prime) (S .polynomial) ≤ 122
+    -- L8: d and w′ have together one coefficient more than their product, which is a polynomial of a certificate
+    together : size (residues p prime) x + size (residues p prime) (S .polynomial) ≤ mostCoefficients + 1
     together =
         let w₀ : Polynomial (residues p prime) = polynomials (residues p prime) .mul x (S .polynomial) in
-        let product : size (residues p prime) w₀ ≤ suc (rank n (U .size) * 15) =
+        let product : size (residues p prime) w₀ ≤ suc (rank n (U .size) * blockDegree) =
         made .small (λ j. polynomials (residues p prime) .zero) (λ j h. omega (arith, sized (residues p prime) .size-zero))
         .certifying-denominator in
         omega (
@@ -178,15 +179,15 @@ module _ {p n m : ℕ} {input : List ℕ} {L L′ : Level} {tail d t : List ℕ}
               (vanished-some prime few-rows Q)) (S .dual .nonzero),
         )
 
-    held-w : Holds (residues p prime) (words p prime w 0 (122 - found)) (S .polynomial)
-    held-w = held-fewer p prime w 0 blockWords (122 - found) (S .holds-w) (omega arith)
-        (held-zero-from p prime w 0 blockWords (122 - found) (S .holds-w) (omega (arith, together, most)))
+    held-w : Holds (residues p prime) (words p prime w 0 (mostCoefficients + 1 - found)) (S .polynomial)
+    held-w = held-fewer p prime w 0 blockWords (mostCoefficients + 1 - found) (S .holds-w) (omega arith)
+        (held-zero-from p prime w 0 blockWords (mostCoefficients + 1 - found) (S .holds-w) (omega (arith, together, most)))
       where
         most : found ≤ size (residues p prime) x
         most = ends-most d 0 blockWords found (size (residues p prime) x) (has .ends)
             (held-zero-from p prime d 0 blockWords (size (residues p prime) x) (D .denominator) (omega arith))
 
-  stored-found : {product output : List ℕ} → Prime p → m ≤ lanes → Multiplied p d found w (122 - found) product
+  stored-found : {product output : List ℕ} → Prime p → m ≤ lanes → Multiplied p d found w (mostCoefficients + 1 - found) product
       → ValidOutput p output → SolutionFound p n m input L L′ tail quotients (storedSolution n m d product rows output)
   stored-found {product} {output} prime₀ columns multiplied valid = record {
     below = divided .below;
@@ -220,8 +221,8 @@ module _ {p n m : ℕ} {input : List ℕ} {L L′ : Level} {tail d t : List ℕ}
   }
 
   -- L7 and L8
-  pub solution-found : {product output output′ : List ℕ} → Prime p → m ≤ lanes → Multiplied p d found w (122 - found) product
-      → ValidOutput p output → output′ ≡ storedSolution n m d product rows output
-      → SolutionFound p n m input L L′ tail quotients output′
+  pub solution-found : {product output output′ : List ℕ} → Prime p → m ≤ lanes
+      → Multiplied p d found w (mostCoefficients + 1 - found) product → ValidOutput p output
+      → output′ ≡ storedSolution n m d product rows output → SolutionFound p n m input L L′ tail quotients output′
   solution-found prime₀ columns multiplied valid stores =
       subst (SolutionFound p n m input L L′ tail quotients) (sym stores) (stored-found prime₀ columns multiplied valid)

@@ -1,8 +1,8 @@
 // Where there is a solution: all of its certificate but the numerators.
-use crate::popov::solve_short;
 use residue::modulus::Modulus;
 use solve_lattice::BLOCK;
 use solve_lattice::Block;
+use solve_lattice::COEFFICIENTS;
 use solve_lattice::Input;
 use solve_lattice::Level;
 use solve_lattice::Output;
@@ -12,6 +12,7 @@ use solve_lattice::ROWS;
 use solve_lattice::Stage;
 use solve_lattice::Tail;
 use solve_lattice::divide;
+use solve_popov::solve_short;
 use solve_second::make_monic;
 use solve_second::multiply;
 use solve_second::multiply_block;
@@ -67,7 +68,7 @@ fn store_solution(output: &mut Output, d: &Block, w: &Block, rows: &[u64; ROWS],
 
 // Stores d, w and Z in `output`, and the coefficients of d b in the blocks of `level` in `quotients`, which are 0. `next` and
 // `tail` are what the insertion of the right side into a copy of `level` left, when its block became zero; `next` changes.
-// By L8, d and the second system's w have together at most 122 coefficients.
+// By L8, d and the second system's w have together at most one coefficient more than a polynomial of a certificate.
 pub fn find_solution(
     output: &mut Output,
     quotients: &mut Product,
@@ -97,6 +98,6 @@ pub fn find_solution(
     let size = find_denominator(&mut d, &mut t, tail, input, m, modulus);
     divide(quotients, &mut t, PRODUCT, level, modulus);
     solve_short(&mut w, &mut rows, next, n, &d, size, modulus);
-    multiply(&mut product, &d, size, &w, 122 - size, modulus);
+    multiply(&mut product, &d, size, &w, COEFFICIENTS + 1 - size, modulus);
     store_solution(output, &d, &product, &rows, n, m);
 }

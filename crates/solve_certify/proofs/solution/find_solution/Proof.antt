@@ -81,6 +81,7 @@ find-solution-spec =
     slice-aggregate-divide
     divide-requires
     solve-short-requires
+    (λ c. search needs)
     sub-multiply
     multiply-requires
     store-solution-requires

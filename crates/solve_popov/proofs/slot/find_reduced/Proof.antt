@@ -3,9 +3,9 @@ use Prim.Native.Nat.{_+_, _*_}
 use native.Mathlib.Omega.{arith}
 use borrow.Author.Needs.{needs}
 use Rattle.solve_lattice.specs.Room.{blockWords, slotWords}
-use Rattle.solve_certify.specs.Reduced.{copied-most, reduced-sums, reduced-found}
-use Rattle.solve_certify.proofs.popov.find_reduced.Statement.{statement}
-use Rattle.solve_certify.proofs.popov.find_reduced.Tie as tie
+use Rattle.solve_popov.specs.Reduced.{copied-most, reduced-sums, reduced-found}
+use Rattle.solve_popov.proofs.slot.find_reduced.Statement.{statement}
+use Rattle.solve_popov.proofs.slot.find_reduced.Tie as tie
 
 reduce-words-requires : tie.Need-reduce-words-requires
 reduce-words-requires c κs =

@@ -4,9 +4,9 @@ use native.Mathlib.Omega.{arith}
 use lib.ListN.{length, List·getD-eq-default}
 use borrow.Author.Needs.{needs}
 use Rattle.solve_lattice.specs.Room.{rowsWords}
-use Rattle.solve_certify.specs.Short.{has-some, has-small, popov-has, short-solved}
-use Rattle.solve_certify.proofs.popov.solve_short.Statement.{statement}
-use Rattle.solve_certify.proofs.popov.solve_short.Tie as tie
+use Rattle.solve_popov.specs.Short.{has-some, has-small, popov-has, short-solved}
+use Rattle.solve_popov.proofs.popov.solve_short.Statement.{statement}
+use Rattle.solve_popov.proofs.popov.solve_short.Tie as tie
 
 reduce-slots-requires : tie.Need-reduce-slots-requires
 reduce-slots-requires c κs =

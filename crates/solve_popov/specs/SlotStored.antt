@@ -30,8 +30,8 @@ use Rattle.solve_lattice.specs.Range.{ends-most, words-same, words-zero, words-
 use Rattle.solve_lattice.specs.Reading.{held-same}
 use Rattle.solve_lattice.specs.Remainder.{HoldsReduced}
 use Rattle.solve_descent.specs.Kernel.{ValidKernel}
-use Rattle.solve_certify.specs.Words.{held-zero-from}
-use Rattle.solve_certify.specs.Rework.{ReducedFound, slotStored, HoldsReworked, SlotReworked}
+use Rattle.solve_popov.specs.Words.{held-zero-from}
+use Rattle.solve_popov.specs.Rework.{ReducedFound, slotStored, HoldsReworked, SlotReworked}
 
 -- the words of d are as many as its coefficients
 pub d-size : {p : ℕ} (prime : Prime p) (x : Polynomial (residues p prime)) {d : List ℕ} {count : ℕ} → Ends p d 0 blockWords count

@@ -6,8 +6,8 @@ use borrow.Author.Needs.{needs}
 use lib.ListN.{getD, set}
 use Rattle.vector.specs.Stored.{stored}
 use Rattle.solve_lattice.specs.Room.{blockWords, slotWords, tailSizesFrom}
-use Rattle.solve_certify.proofs.popov.store_slot.Statement.{statement}
-use Rattle.solve_certify.proofs.popov.store_slot.Tie as tie
+use Rattle.solve_popov.proofs.slot.store_slot.Statement.{statement}
+use Rattle.solve_popov.proofs.slot.store_slot.Tie as tie
 
 exchange-requires : tie.Need-exchange-requires
 exchange-requires c κs =

@@ -1,32 +1,27 @@
-// The slots of a level brought into Popov form, so that the rows of its second system are short (section 2, step 5, of
-// docs/mathematics.md).
+// One slot of a level less multiples of the others and of d, and put back: its last word, and with it its pivot, stays.
 use residue::modulus::Modulus;
 use residue::number::larger;
 use solve_descent::reduce_by_kernel;
 use solve_lattice::BLOCK;
 use solve_lattice::Block;
 use solve_lattice::Level;
-use solve_lattice::ROWS;
 use solve_lattice::SIZES;
 use solve_lattice::SLOT;
 use solve_lattice::TAIL;
 use solve_lattice::TAIL_SIZES;
 use solve_lattice::Tail;
 use solve_lattice::reduce_words;
-use solve_second::Side;
-use solve_second::solve_second;
 use vector::copy;
 use vector::exchange;
 ghost use mathlib.Core.Path.{_≡_};
-ghost use Prim.Native.Nat.{ℕ, _<_, _≤_};
-ghost use lib.ListN.{length, getD};
+ghost use Prim.Native.Nat.{_<_, _≤_};
+ghost use lib.ListN.{length};
 ghost use Rattle.residue.specs.Modulus.{ValidModulus};
 ghost use Rattle.vector.specs.Bound.{AtMost, Reducible};
 ghost use Rattle.solve_lattice.specs.Room.{lanes, blockWords, tailWords, mostCoefficients};
-ghost use Rattle.solve_lattice.specs.Memory.{Ends, slotSize, ValidLevel};
+ghost use Rattle.solve_lattice.specs.Memory.{slotSize, ValidLevel};
 ghost use Rattle.solve_descent.specs.Kernel.{ValidKernel};
-ghost use Rattle.solve_certify.specs.Rework.{ReducedFound, slotStored, SlotReworked, SlotsReworked};
-ghost use Rattle.solve_certify.specs.Short.{HasMonicTops, ShortSolved};
+ghost use Rattle.solve_popov.specs.Rework.{ReducedFound, slotStored, SlotReworked};
 
 // Stores slot i of `level`, less multiples of the others that take away all words that they can but the last, in `block` and
 // `tail`, which are 0; the tail less a multiple of d, of `size` coefficients, too, so that fewer than `size` are left.
@@ -76,7 +71,7 @@ fn store_slot(
 }
 
 // Reduces slot i of `level` by the others, and its tail modulo d, of `size` coefficients.
-fn reduce_slot(level: &mut Level, i: usize, d: &Block, size: usize, modulus: Modulus)
+pub fn reduce_slot(level: &mut Level, i: usize, d: &Block, size: usize, modulus: Modulus)
     requires { ⌜ ValidModulus modulus × (i < lanes) × ValidLevel (modulus .p) (now level) × (0 < slotSize (now level) i) ⌝ }
     requires kernel { ⌜ ValidKernel (modulus .p) (now d) size × (0 < size) × (size ≤ mostCoefficients) ⌝ }
     ensures { λ _. ⌜ SlotReworked (modulus .p) (now (level .entry)) i (now (d .entry)) (now (level .exit)) ⌝ }
@@ -85,40 +80,4 @@ fn reduce_slot(level: &mut Level, i: usize, d: &Block, size: usize, modulus: Mod
     let mut tail = [0u64; TAIL];
     find_reduced(&mut block, &mut tail, level, i, d, size, modulus);
     store_slot(level, i, &mut block, &mut tail, size - 1, modulus);
-}
-
-// Brings the slots of `level`, of n rows, into Popov form, with their tails modulo d, of `size` coefficients.
-fn reduce_slots(level: &mut Level, n: usize, d: &Block, size: usize, modulus: Modulus)
-    requires { ⌜ ValidModulus modulus × (n ≤ lanes) × ValidLevel (modulus .p) (now level) ⌝ }
-    requires kernel { ⌜ ValidKernel (modulus .p) (now d) size × (0 < size) × (size ≤ mostCoefficients) ⌝ }
-    ensures { λ _. ⌜ SlotsReworked (modulus .p) n (now (level .entry)) n (now (d .entry)) (now (level .exit)) ⌝ }
-{
-    let mut i = 0;
-    while i < n {
-        let next = i + 1;
-        if level[SIZES + i] != 0 {
-            reduce_slot(level, i, d, size, modulus);
-        }
-        i = next;
-    }
-}
-
-// Solves the second system of `level`, of n rows, whose slots may be changed by one another and by multiples of d, of `size`
-// coefficients, so that no row is too long beside d w: stores w and the rows. Changes `level`.
-pub fn solve_short(
-    w: &mut Block,
-    rows: &mut [u64; ROWS],
-    level: &mut Level,
-    n: usize,
-    d: &Block,
-    size: usize,
-    modulus: Modulus,
-)
-    requires { ⌜ ValidModulus modulus × (n ≤ lanes) × ValidLevel (modulus .p) (now level) ⌝ }
-    requires tops { ⌜ HasMonicTops (modulus .p) n (now level) (now d) ⌝ }
-    requires multiple { ⌜ ((j : ℕ) → getD (now d) j 0 < modulus .p) × Ends (modulus .p) (now d) 0 blockWords size ⌝ }
-    ensures { λ _. ⌜ ShortSolved (modulus .p) n (now (level .entry)) (now (d .entry)) (now (w .exit)) (now (rows .exit)) ⌝ }
-{
-    reduce_slots(level, n, d, size, modulus);
-    solve_second(w, rows, level, n, Side::Tails, modulus);
 }

@@ -2,10 +2,10 @@
 use Prim.Native.Nat.{_-_, _≤_}
 use native.Mathlib.Nat.{pos-of-ne-zero}
 use native.Mathlib.Omega.{arith}
-use Rattle.solve_certify.specs.Rework.{SlotsReworked}
-use Rattle.solve_certify.specs.Short.{slots-none, slots-skip, slots-more, slots-end}
-use Rattle.solve_certify.proofs.popov.reduce_slots.Statement.{statement}
-use Rattle.solve_certify.proofs.popov.reduce_slots.Tie as tie
+use Rattle.solve_popov.specs.Rework.{SlotsReworked}
+use Rattle.solve_popov.specs.Short.{slots-none, slots-skip, slots-more, slots-end}
+use Rattle.solve_popov.proofs.popov.reduce_slots.Statement.{statement}
+use Rattle.solve_popov.proofs.popov.reduce_slots.Tie as tie
 
 abbrev Inv-loop : tie.InvT-loop
 Inv-loop level₀ n d size modulus i₀ level i = SlotsReworked (modulus .p) n level₀ i d level × (i ≤ n)

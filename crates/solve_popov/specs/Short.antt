@@ -22,8 +22,8 @@ use Rattle.solve_lattice.specs.Word.{words}
 use Rattle.solve_lattice.specs.Memory.{Ends, Level, slotSize, ValidLevel}
 use Rattle.solve_lattice.specs.Holding.{HoldsSlots}
 use Rattle.solve_second.specs.Solved.{HasTops, HoldsSecond, SecondSolved}
-use Rattle.solve_certify.specs.Rework.{HoldsReworked, SlotReworked, HoldsPopov, SlotsReworked}
-use Rattle.solve_certify.specs.SlotStored.{d-size}
+use Rattle.solve_popov.specs.Rework.{HoldsReworked, SlotReworked, HoldsPopov, SlotsReworked}
+use Rattle.solve_popov.specs.SlotStored.{d-size}
 
 -- slots that have a second system within the room, and a monic d, which has that room too
 pub record HasMonicTops (p n : ℕ) (L : Level) (d : List ℕ) : Type 0 where
@@ -115,7 +115,7 @@ pub slots-end : {p n : ℕ} {L : Level} {i : ℕ} {d : List ℕ} {L′ : Level} 
     → SlotsReworked p n L n d L′
 slots-end {p} {n} {L} {i} {d} {L′} so-far all = subst (λ i. SlotsReworked p n L i d L′) all so-far
 
--- d has at least one coefficient, and at most 121
+-- d has at least one coefficient, and no more than a polynomial of a certificate
 module _ {p n : ℕ} {L : Level} {d : List ℕ} (has : HasMonicTops p n L d) {count : ℕ} (ends : Ends p d 0 blockWords count) where
   pub has-some : 0 < count
   has-some = omega (

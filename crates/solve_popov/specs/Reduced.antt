@@ -28,8 +28,8 @@ use Rattle.solve_lattice.specs.Range.{words-shorter}
 use Rattle.solve_lattice.specs.Reading.{held-same}
 use Rattle.solve_lattice.specs.Remainder.{HoldsReduced, Reducing}
 use Rattle.solve_descent.specs.Kernel.{TakesKernel, Lessened}
-use Rattle.solve_certify.specs.Words.{words-copied}
-use Rattle.solve_certify.specs.Rework.{ReducedFound}
+use Rattle.solve_popov.specs.Words.{words-copied}
+use Rattle.solve_popov.specs.Rework.{ReducedFound}
 
 -- another tail
 held-tail : {K : Type 0} (F : Field K) {n W : ℕ} {ω : ℕ → ℕ} {H τ τ′ : ℕ → K} {v : ℕ → Polynomial F} {y : Polynomial F}

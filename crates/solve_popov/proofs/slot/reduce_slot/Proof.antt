@@ -4,10 +4,10 @@ use native.Mathlib.Omega.{arith}
 use borrow.Author.Needs.{needs}
 use Rattle.vector.specs.Bound.{zeros-none}
 use Rattle.solve_lattice.specs.Room.{blockWords, tailWords}
-use Rattle.solve_certify.specs.Rework.{SlotReworked}
-use Rattle.solve_certify.specs.SlotStored.{slot-reworked}
-use Rattle.solve_certify.proofs.popov.reduce_slot.Statement.{statement}
-use Rattle.solve_certify.proofs.popov.reduce_slot.Tie as tie
+use Rattle.solve_popov.specs.Rework.{SlotReworked}
+use Rattle.solve_popov.specs.SlotStored.{slot-reworked}
+use Rattle.solve_popov.proofs.slot.reduce_slot.Statement.{statement}
+use Rattle.solve_popov.proofs.slot.reduce_slot.Tie as tie
 
 find-reduced-requires : tie.Need-find-reduced-requires
 find-reduced-requires c κs =
