@@ -8,6 +8,7 @@ use solve_lattice::Block;
 use solve_lattice::INVERSES;
 use solve_lattice::Input;
 use solve_lattice::LANES;
+use solve_lattice::LAST_LANE;
 use solve_lattice::LEVEL;
 use solve_lattice::Level;
 use solve_lattice::Output;
@@ -57,7 +58,7 @@ pub fn ascend(
     if left == 0 {
         return drop_column(output, quotients, level, input, stage);
     }
-    if level[SIZES + (LANES - 1 - (left - 1) % LANES)] == 0 {
+    if level[SIZES + (LAST_LANE - (left - 1) % LANES)] == 0 {
         return fill_column(
             output,
             quotients,
@@ -69,7 +70,7 @@ pub fn ascend(
             stage,
         );
     }
-    insert_column(output, quotients, level, &mut rest, left, input, stage)
+    insert_column(output, quotients, &mut rest, left, level, input, stage)
 }
 
 // Does what `ascend` does where nothing is left of the column: it is in the span of the columns before it, and its numerator is 0.
@@ -111,7 +112,7 @@ fn fill_column(
     ensures level { λ _. ⌜ now (level .exit) ≡ now (level .entry) ⌝ }
 {
     let modulus = stage.modulus;
-    let q = LANES - 1 - (left - 1) % LANES;
+    let q = LAST_LANE - (left - 1) % LANES;
     let inverse = level[INVERSES + q];
     fill_slot(level, q, rest, left, modulus);
     let mut next = stage;
@@ -120,7 +121,7 @@ fn fill_column(
     empty_slot(level, q, inverse);
     if found {
         let column = stage.column;
-        lower_quotients(quotients, output, factors, q, BLOCK * (1 + column), modulus);
+        lower_quotients(output, quotients, factors, q, BLOCK * (1 + column), modulus);
     }
     found
 }
@@ -130,9 +131,9 @@ fn fill_column(
 fn insert_column(
     output: &mut Output,
     quotients: &mut Product,
-    level: &Level,
     rest: &mut Block,
     left: usize,
+    level: &Level,
     input: &Input,
     stage: Stage,
 ) -> bool
@@ -149,8 +150,8 @@ fn insert_column(
     let found = ascend(output, quotients, &mut upper, input, next);
     if found {
         descend(
-            quotients,
             output,
+            quotients,
             level,
             &upper,
             &kernel,

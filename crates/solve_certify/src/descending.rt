@@ -21,8 +21,8 @@ ghost use Rattle.solve_certify.specs.Falling.{Fallen};
 // insertion made, are `quotients`: stores its numerator in `output`, and in `quotients` the coefficients of what is then left in
 // the blocks of `level`. The kernel of the insertion has `size` words.
 pub fn descend(
-    quotients: &mut Product,
     output: &mut Output,
+    quotients: &mut Product,
     level: &Level,
     upper: &Level,
     kernel: &Block,

@@ -4,6 +4,7 @@ use crate::insertion::insert_side;
 use crate::solution::find_solution;
 use solve_lattice::Input;
 use solve_lattice::LANES;
+use solve_lattice::LAST_LANE;
 use solve_lattice::LEVEL;
 use solve_lattice::Level;
 use solve_lattice::Output;
@@ -41,9 +42,9 @@ pub fn find_witness(
     let mut tail = [0u64; TAIL];
     let size = insert_side(&mut next, &mut tail, level, input, columns, modulus);
     if size == 0 {
-        find_solution(output, quotients, level, &mut next, &tail, input, stage);
+        find_solution(output, quotients, &mut next, level, &tail, input, stage);
         return true;
     }
-    find_absence(output, level, rows, LANES - 1 - (size - 1) % LANES, modulus);
+    find_absence(output, level, rows, LAST_LANE - (size - 1) % LANES, modulus);
     false
 }

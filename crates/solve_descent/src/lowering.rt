@@ -19,8 +19,8 @@ ghost use Rattle.solve_descent.specs.Lowering.{Lowers};
 // `place` on. `factors` are the column's in the other slots; its own, 1, is put among them, so that the quotient of slot q becomes
 // 0.
 pub fn lower_quotients(
-    quotients: &mut Product,
     output: &mut Output,
+    quotients: &mut Product,
     factors: &mut Block,
     q: usize,
     place: usize,

@@ -349,7 +349,6 @@ pub +ascend+drop-column+fill-column+insert-column-spec : {M : Type 1} → statem
     (λ c. search needs)
     (λ c. search needs)
     (λ c. search needs)
-    (λ c. search needs)
     (ascend-fill-column-requires t)
     (ascend-returns-3 t)
     (ascend-insert-column-requires t)
@@ -360,7 +359,6 @@ pub +ascend+drop-column+fill-column+insert-column-spec : {M : Type 1} → statem
     (drop-column-leave-out-requires t)
     (drop-column-returns t))
     (λ t. fill-column-lts.spec (fill-column-claims t) (fill-column-at t) fill-column.Post
-    (λ c. search needs)
     (λ c. search needs)
     (λ c. search needs)
     (λ c. search needs)

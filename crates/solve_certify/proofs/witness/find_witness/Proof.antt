@@ -53,6 +53,5 @@ find-witness-spec =
     returns
     (λ c. search needs)
     (λ c. search needs)
-    (λ c. search needs)
     find-absence-requires
     returns-2)
