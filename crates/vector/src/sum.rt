@@ -1,4 +1,5 @@
 // hand + c·slot on eight words.
+use residue::modulus::BOUND_32;
 ghost use mathlib.Core.Path.{_≡_};
 ghost use Prim.Native.Nat.{_+_, _≤_};
 ghost use lib.ListN.{length};
@@ -19,7 +20,7 @@ pub fn sum_at(h: &[u64], d: usize, s: &[u64], a: usize, c: u64, j: usize) -> u64
     requires { ⌜ SumFits (now h) d (now s) a c j ⌝ }
     ensures { λ r. ⌜ r ≡ sumAt (now (h .entry)) d (now (s .entry)) a c j ⌝ }
 {
-    h[d + j] + c % 4294967296 * (s[a + j] % 4294967296)
+    h[d + j] + c % BOUND_32 * (s[a + j] % BOUND_32)
 }
 
 // Returns h[d + j] + c * s[a + j] for j below 4.
