@@ -8,7 +8,7 @@ ghost use Rattle.answers.specs.Answer.{countedOutcome, verdictOutcome};
 ghost use Rattle.answers.specs.Packed.{placeUnit, packed, packedVerdict, packedMost, AnswerMost, VerdictMost};
 
 // One place further, or one more counted, is so much more: numbers of the table are below it.
-const PLACE_UNIT: u64 = 64;
+pub const PLACE_UNIT: u64 = 64;
 
 // Packs place and number of a refusal.
 fn pack(refusal: Refusal) -> u64

@@ -1,4 +1,7 @@
 // The words of a file's bytes, four bytes to a word, lowest first.
+use answers::word::FOURTH_BYTE;
+use answers::word::SECOND_BYTE;
+use answers::word::THIRD_BYTE;
 use residue::number::lesser;
 ghost use mathlib.Core.Path.{_≡_};
 ghost use Prim.Native.Nat.{_+_, _≤_};
@@ -10,7 +13,7 @@ ghost use Rattle.reader.specs.Unpacking.{Unpacked};
 fn word_of(a: u8, b: u8, c: u8, d: u8) -> u32
     ensures { λ r. ⌜ r ≡ wordOf a b c d ⌝ }
 {
-    a as u32 + (b as u32) * 256 + (c as u32) * 65536 + (d as u32) * 16777216
+    a as u32 + (b as u32) * SECOND_BYTE + (c as u32) * THIRD_BYTE + (d as u32) * FOURTH_BYTE
 }
 
 // Reads the word that starts at byte `at`.

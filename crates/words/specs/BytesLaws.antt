@@ -7,11 +7,13 @@ use Prim.Native.Nat.{ℕ, zero, suc, _+_, _*_, _/_, _%_, _≤_, _<_}
 use native.Mathlib.Omega.{arith}
 use lib.ListN.{length, getD}
 use borrow.Author.Tests.{eq-eqb, ne-eqb, eqb-true, lt-ltb, le-ltb, not-false}
+use Rattle.modular.specs.Bits.{bound8}
 use Rattle.words.specs.Limits.{Limits, longestSystem}
 use Rattle.words.specs.Word.{Bytes}
 use Rattle.words.specs.Outcome.Outcome.{accepted, refused}
 use Rattle.words.specs.System.{System, SystemWithin, systemWords, readSystem}
 use Rattle.words.specs.Bytes.{wordOf, wordAt, wordsOf, bytesOf, broken, tooLong, readSystemFile}
+use Rattle.words.specs.Bytes.{secondByte, thirdByte, fourthByte}
 use Rattle.words.specs.OutcomeLaws.{refuse-passed}
 use Rattle.words.specs.LimitsLaws.{LimitsFit}
 use Rattle.words.specs.SystemLaws.{system-read-of-written, system-written-of-read, systemWords-most}
@@ -48,7 +50,7 @@ wordsOf-bytesOf [] = refl
 wordsOf-bytesOf (w ∷ ws) = ap₂ (λ (v : ℕ) (vs : List ℕ). v ∷ vs) (omega arith) (wordsOf-bytesOf ws)
 
 -- the lowest byte, and what is above it
-low : (a x : ℕ) → a < 256 → (a + x * 256) % 256 ≡ a
+low : (a x : ℕ) → a < bound8 → (a + x * bound8) % bound8 ≡ a
 low a x h = omega arith
 
 pub bytesOf-wordsOf : (bytes : List ℕ) → Bytes bytes → length bytes % 4 ≡ 0 → bytesOf (wordsOf bytes) ≡ bytes
@@ -62,12 +64,12 @@ bytesOf-wordsOf (a ∷ b ∷ c ∷ d ∷ bytes) h e =
     let hb = h 1 in
     let hc = h 2 in
     let w : ℕ = wordOf a b c d in
-    let ea : w % 256 ≡ a = omega arith in
-    let qb : w / 256 ≡ b + (c + d * 256) * 256 = omega arith in
-    let eb : w / 256 % 256 ≡ b = ap (λ (q : ℕ). q % 256) qb ∙ low b (c + d * 256) hb in
-    let qc : w / 65536 ≡ c + d * 256 = omega arith in
-    let ec : w / 65536 % 256 ≡ c = ap (λ (q : ℕ). q % 256) qc ∙ low c d hc in
-    let ed : w / 16777216 ≡ d = omega arith in
+    let ea : w % bound8 ≡ a = omega arith in
+    let qb : w / secondByte ≡ b + (c + d * bound8) * bound8 = omega arith in
+    let eb : w / secondByte % bound8 ≡ b = ap (λ (q : ℕ). q % bound8) qb ∙ low b (c + d * bound8) hb in
+    let qc : w / thirdByte ≡ c + d * bound8 = omega arith in
+    let ec : w / thirdByte % bound8 ≡ c = ap (λ (q : ℕ). q % bound8) qc ∙ low c d hc in
+    let ed : w / fourthByte ≡ d = omega arith in
     let ih = bytesOf-wordsOf bytes (λ i. h (suc (suc (suc (suc i))))) (omega arith) in
     cc
 

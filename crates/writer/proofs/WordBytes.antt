@@ -6,7 +6,8 @@ use native.Mathlib.Nat.{le-antisymm, min-le-left, min-le-right}
 use native.Mathlib.Omega.{arith}
 use lib.ListN.{length, getD, take, set, length-append}
 use lib.Seq.{take-suc, length-take-le}
-use Rattle.words.specs.Bytes.{bytesOf}
+use Rattle.modular.specs.Bits.{bound8}
+use Rattle.words.specs.Bytes.{bytesOf, secondByte, thirdByte, fourthByte}
 use Rattle.words.specs.BytesLaws.{length-bytesOf}
 use Rattle.write_frame.specs.Overwriting.{overwritten}
 use Rattle.write_frame.proofs.Overwriting.{set-written, length-overwritten}
@@ -15,7 +16,7 @@ use Rattle.writer.specs.Packing.{PackedBytes}
 pub bytes-append : (vs ws : List ℕ) → bytesOf (vs ++ ws) ≡ bytesOf vs ++ bytesOf ws
 unfolding bytesOf
 bytes-append [] ws = refl
-bytes-append (v ∷ vs) ws = ap (λ l. v % 256 ∷ v / 256 % 256 ∷ v / 65536 % 256 ∷ v / 16777216 ∷ l) (bytes-append vs ws)
+bytes-append (v ∷ vs) ws = ap (λ l. v % bound8 ∷ v / secondByte % bound8 ∷ v / thirdByte % bound8 ∷ v / fourthByte ∷ l) (bytes-append vs ws)
 
 -- four bytes behind a list
 module _ (vs lent now : List ℕ) (at a b c d : ℕ) (is : now ≡ overwritten vs lent) (place : at ≡ length vs)
@@ -73,8 +74,8 @@ module _ (ws lent : List ℕ) (count : ℕ) (few : count ≡ min (length ws) (le
       (omega arith, omega arith)
 
   pub bytes-next : (now : List ℕ) (i : ℕ) → BytesWritten ws lent count now i → i < count → (after : List ℕ)
-      → after ≡ set (set (set (set now (4 * i) (getD ws i 0 % 256)) (4 * i + 1) (getD ws i 0 / 256 % 256))
-      (4 * i + 2) (getD ws i 0 / 65536 % 256)) (4 * i + 3) (getD ws i 0 / 16777216) → BytesWritten ws lent count after (i + 1)
+      → after ≡ set (set (set (set now (4 * i) (getD ws i 0 % bound8)) (4 * i + 1) (getD ws i 0 / secondByte % bound8))
+      (4 * i + 2) (getD ws i 0 / thirdByte % bound8)) (4 * i + 3) (getD ws i 0 / fourthByte) → BytesWritten ws lent count after (i + 1)
   unfolding bytesOf
   bytes-next now i t more after is =
       let h = bytes-room i more in
