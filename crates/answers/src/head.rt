@@ -22,7 +22,10 @@ pub const COUNT_BOUND: u32 = 16;
 pub fn pack_shape(shape: Shape) -> u64
     ensures { λ r. ⌜ r ≡ placeUnit * shapeNumber (shapeOf shape) ⌝ }
 {
-    PLACE_UNIT * (shape.modulus as u64 + shape.rows as u64 * ROW_UNIT as u64 + shape.columns as u64 * COLUMN_UNIT as u64)
+    PLACE_UNIT
+        * (shape.modulus as u64
+            + shape.rows as u64 * ROW_UNIT as u64
+            + shape.columns as u64 * COLUMN_UNIT as u64)
 }
 
 // Returns the number of a form.

@@ -1,5 +1,6 @@
 // The product for other programs, exported to C: from the bytes of files and from values to one number and what is lent. A slice is
 // passed as a pointer and a count, an array as a pointer. The order of the parameters is that of the C header, include/yezsdolak.h.
+use answers::packed::PLACE_UNIT;
 use answers::packed::pack_counted;
 use answers::packed::pack_verdict;
 use answers::version::library_version;
@@ -55,7 +56,7 @@ pub extern "C" fn yezsdolak_check(system: &[u8], certificate: &[u8]) -> u64
 pub extern "C" fn yezsdolak_report(system: &[u8], text: &mut [u8]) -> u64
     ensures { λ r. ⌜ ReportsPacked office (now (system .entry)) (now (text .entry)) (now (text .exit)) r ⌝ }
 {
-    64 * write_report(text, system) as u64
+    PLACE_UNIT * write_report(text, system) as u64
 }
 
 // Writes the file of a system over the first of the lent bytes. Returns the number of its bytes, or the refusal, as one number.

@@ -17,6 +17,7 @@ use Rattle.words.specs.System.{System, Shape, ShapeWithin, shape, oneTo, system
 use Rattle.words.specs.SystemLaws.{systemWords-most}
 use Rattle.words.specs.Bytes.{wordsOf, bytesOf, broken, tooLong, readSystemFile}
 use Rattle.words.specs.BytesLaws.{length-bytesOf, file-read-of-written}
+use Rattle.answers.specs.Packed.{placeUnit}
 use Rattle.write_frame.specs.Trial.{passed, last?, refuseCoefficients, refusePolynomials}
 use Rattle.write_frame.specs.TrialLaws.{nextAfter, polynomials-first}
 use Rattle.write_frame.specs.ValuesLaws.{length-polynomialsIn}
@@ -183,9 +184,9 @@ module _ (limits : Limits) (lent : ℕ) (h : Shape) (sizes coefficients : List �
 
 module _ (h : Shape) (sizes coefficients : List ℕ) {entry exit : List ℕ} {r : ℕ}
     (gives : GivesPacked (writeSystemFile office (length entry) (systemInArrays office h sizes coefficients)) entry exit r)
-    (counts : r % 64 ≡ 0) where
+    (counts : r % placeUnit ≡ 0) where
   abbrev file : List ℕ
-  file = take (r / 64) exit
+  file = take (r / placeUnit) exit
 
   pub file-of-values : readSystemFile office file ≡ accepted (systemInArrays office h sizes coefficients)
   file-of-values = written-read office (length entry) h sizes coefficients office-fits file

@@ -59,6 +59,10 @@ module _ (limits : Limits) where
             head-columns c = step ∙ simp (eq-eqb _ _ one, eq-eqb _ _ none, prime, rows, c, place)
 
             pub head-right : oneTo (limits .columns) (w / columnUnit % countBound) ≡ true
-                → OfHead ws ≡ accepted (record { modulus = w % rowUnit; rows = w / rowUnit % countBound; columns = w / columnUnit % countBound })
+                → OfHead ws ≡ accepted (record {
+                  modulus = w % rowUnit;
+                  rows = w / rowUnit % countBound;
+                  columns = w / columnUnit % countBound;
+                })
             unfolding systemHeadFrom headShape
             head-right c = step ∙ simp (eq-eqb _ _ one, eq-eqb _ _ none, prime, rows, c)

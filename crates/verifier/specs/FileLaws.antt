@@ -16,6 +16,7 @@ use Rattle.words.specs.Bytes.{wordsOf, broken, tooLong}
 use Rattle.words.specs.BytesLaws.{length-wordsOf}
 use Rattle.words.specs.Rows.{checkRows}
 use Rattle.words.specs.RowLaws.{places-below, check-below}
+use Rattle.words.specs.System.{countMost}
 use Rattle.truth.specs.Verdict.{verdict}
 use Rattle.truth.specs.RefusedWords.{words-rows}
 use Rattle.truth.specs.Prefix.{verdict-room}
@@ -30,7 +31,7 @@ passed-short false false most n e h = omega (arith, ltb-false (4 * most) n e)
 
 module _ (limits : Limits) (fit : LimitsFit limits) (system certificate : List ℕ) (b : ℕ)
     (longest-system : longestSystem limits ≤ b) (longest-certificate : longestCertificate limits + 1 ≤ b)
-    (heads : 15 ≤ b) where
+    (heads : countMost ≤ b) where
   -- as many of the certificate's words as decide
   first-words : List ℕ
   first-words = take (min (length (wordsOf certificate)) (longestCertificate limits + 1)) (wordsOf certificate)

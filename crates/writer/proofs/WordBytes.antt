@@ -16,7 +16,8 @@ use Rattle.writer.specs.Packing.{PackedBytes}
 pub bytes-append : (vs ws : List ℕ) → bytesOf (vs ++ ws) ≡ bytesOf vs ++ bytesOf ws
 unfolding bytesOf
 bytes-append [] ws = refl
-bytes-append (v ∷ vs) ws = ap (λ l. v % bound8 ∷ v / secondByte % bound8 ∷ v / thirdByte % bound8 ∷ v / fourthByte ∷ l) (bytes-append vs ws)
+bytes-append (v ∷ vs) ws =
+    ap (λ l. v % bound8 ∷ v / secondByte % bound8 ∷ v / thirdByte % bound8 ∷ v / fourthByte ∷ l) (bytes-append vs ws)
 
 -- four bytes behind a list
 module _ (vs lent now : List ℕ) (at a b c d : ℕ) (is : now ≡ overwritten vs lent) (place : at ≡ length vs)
@@ -75,7 +76,8 @@ module _ (ws lent : List ℕ) (count : ℕ) (few : count ≡ min (length ws) (le
 
   pub bytes-next : (now : List ℕ) (i : ℕ) → BytesWritten ws lent count now i → i < count → (after : List ℕ)
       → after ≡ set (set (set (set now (4 * i) (getD ws i 0 % bound8)) (4 * i + 1) (getD ws i 0 / secondByte % bound8))
-      (4 * i + 2) (getD ws i 0 / thirdByte % bound8)) (4 * i + 3) (getD ws i 0 / fourthByte) → BytesWritten ws lent count after (i + 1)
+      (4 * i + 2) (getD ws i 0 / thirdByte % bound8)) (4 * i + 3) (getD ws i 0 / fourthByte)
+      → BytesWritten ws lent count after (i + 1)
   unfolding bytesOf
   bytes-next now i t more after is =
       let h = bytes-room i more in

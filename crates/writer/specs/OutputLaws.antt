@@ -125,7 +125,8 @@ module _ (h : Shape) (rows : h .rows ≤ office .rows) (columns : h .columns ≤
         let few = entries-few form in (
           record { sized = omega arith; roomy = omega arith; apart = omega arith; short = omega arith; number = omega arith },
           record {
-            few = λ k lt. let e = sized k lt in omega (arith, size-most words (certificateStride * k) (office .certificateCoefficients));
+            few = λ k lt. let e = sized k lt in
+                omega (arith, size-most words (certificateStride * k) (office .certificateCoefficients));
             payloads = λ k lt. numbersFrom-below payloadBound words (certificateStride * k) (getD sizes k 0) below;
           },
           omega arith,

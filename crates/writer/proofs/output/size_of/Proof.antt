@@ -10,7 +10,8 @@ use Rattle.writer.proofs.output.size_of.Statement.{statement}
 use Rattle.writer.proofs.output.size_of.Tie as tie
 
 abbrev Inv-loop : tie.InvT-loop
-Inv-loop output k size₀ size = (size ≤ office .certificateCoefficients) × (sizeFrom output (certificateStride * k) size ≡ sizeIn output k)
+Inv-loop output k size₀ size =
+    (size ≤ office .certificateCoefficients) × (sizeFrom output (certificateStride * k) size ≡ sizeIn output k)
 
 abbrev μ-loop : tie.MeasureT-loop
 μ-loop output k size₀ size = size
