@@ -14,6 +14,9 @@ pub const END: u32 = 4 * PAYLOAD_BOUND;
 
 pub const CERTIFICATE_HEAD: u32 = 5 * PAYLOAD_BOUND;
 
+// Bytes of a word in a file.
+pub const WORD_BYTES: usize = 4;
+
 // A byte is less than this.
 pub const BYTE_BOUND: u32 = 256;
 

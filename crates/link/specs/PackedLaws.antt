@@ -10,7 +10,7 @@ use Rattle.words.specs.Limits.{Limits, longestCertificate}
 use Rattle.words.specs.LimitsLaws.{LimitsFit}
 use Rattle.words.specs.Word.{Bytes}
 use Rattle.words.specs.System.{System, SystemWithin, systemWords}
-use Rattle.words.specs.Bytes.{bytesOf, readSystemFile}
+use Rattle.words.specs.Bytes.{bytesOf, readSystemFile, wordBytes}
 use Rattle.words.specs.TenFirst.{FileRefused}
 use Rattle.words.specs.Outcome.{Outcome}
 use Rattle.words.specs.Outcome.Outcome.{accepted, refused}
@@ -49,7 +49,7 @@ pub solver-refused-iff : {limits : Limits} {file entry exit : List ℕ} {r : ℕ
     → SolvesPacked limits file entry exit r → (number place : ℕ) → 1 ≤ number → number ≤ numberMost
     → (r ≡ placeUnit * place + number)
     ↔ RoomLast (FileRefused limits file) (λ s. (file ≡ bytesOf (systemWords s)) × SystemWithin limits s)
-    (4 * longestCertificate limits) (length entry) number place
+    (wordBytes * longestCertificate limits) (length entry) number place
 solver-refused-iff {limits} {file} {entry} {exit} {r} fit small h number place l m =
     let iff = solve-file-refused-iff limits file entry exit (h .answer) (h .solves) fit small number place in (
       λ e.
@@ -87,8 +87,8 @@ module _ (limits : Limits) (fit : LimitsFit limits) (file file₁ : List ℕ)
 
 -- where there is room it is the number of bytes of the system's certificate, and these stand over the first of the lent ones
 pub packed-certificate : (limits : Limits) {s : System} (h : SystemWithin limits s) (room : Suffices limits (s .rows) (s .columns))
-    {file entry exit : List ℕ} {r : ℕ} → readSystemFile limits file ≡ accepted s → 4 * longestCertificate limits ≤ length entry
-    → SolvesPacked limits file entry exit r
+    {file entry exit : List ℕ} {r : ℕ} → readSystemFile limits file ≡ accepted s
+    → wordBytes * longestCertificate limits ≤ length entry → SolvesPacked limits file entry exit r
     → (r ≡ placeUnit * length (certificateBytes (chosenCertificate limits s h room)))
     × (exit ≡ overwritten (certificateBytes (chosenCertificate limits s h room)) entry)
 packed-certificate limits h room {file} {entry} {exit} is enough x =

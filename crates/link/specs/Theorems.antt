@@ -20,7 +20,7 @@ use Rattle.words.specs.System.{System, Shape, ShapeWithin, SystemWithin, shape,
 use Rattle.words.specs.SystemLaws.{system-accepted-iff, system-read-of-written, systemWords-injective}
 use Rattle.words.specs.Certificate.{Certificate, Form, CertificateWithin, certificateForm, certificateWords, readCertificate}
 use Rattle.words.specs.CertificateLaws.{certificate-accepted-iff, certificateWords-injective}
-use Rattle.words.specs.Bytes.{bytesOf, readSystemFile}
+use Rattle.words.specs.Bytes.{bytesOf, readSystemFile, wordBytes}
 use Rattle.words.specs.Table.{ByTable, systemTable, certificateTable, PolynomialsByTable}
 use Rattle.words.specs.Reading.{used}
 use Rattle.words.specs.Polynomial.{polynomialFrom, polynomialsFrom}
@@ -138,7 +138,7 @@ pub record Demand1 : Type 0 where
   pub solve : {file entry exit : List ℕ} {r : ℕ} → Bytes file → SolvesPacked office file entry exit r → (number place : ℕ)
       → 1 ≤ number → number ≤ numberMost → (r ≡ placeUnit * place + number)
       ↔ RoomLast (FileRefused office file) (λ s. (file ≡ bytesOf (systemWords s)) × SystemWithin office s)
-      (4 * longestCertificate office) (length entry) number place
+      (wordBytes * longestCertificate office) (length entry) number place
   -- of the lookup: the sheet's rows, the card's, and then 12
   pub lookup : (ws cs : List ℕ) (side : Side) (k number place : ℕ)
       → (polynomialLookup office ws cs side k ≡ refused number place) ↔ PairRefused office (NoPolynomial side k) ws cs number place
@@ -155,7 +155,8 @@ pub record Demand1 : Type 0 where
   pub write-system-file : (h : Shape) (sizes values : List ℕ) {entry exit : List ℕ} {r : ℕ}
       → GivesPacked (writeSystemFile office (length entry) (systemInArrays office h sizes values)) entry exit r → (number place : ℕ)
       → 1 ≤ number → number ≤ numberMost
-      → (r ≡ placeUnit * place + number) ↔ SystemFault office (length entry / 4) (systemInArrays office h sizes values) number place
+      → (r ≡ placeUnit * place + number)
+      ↔ SystemFault office (length entry / wordBytes) (systemInArrays office h sizes values) number place
 
 pub demand-1 : Demand1
 demand-1 = record {
@@ -282,7 +283,8 @@ pub record Demand3 : Type 0 where
   pub solved-words : (s : System) → SystemWithin office s → (entry exit : List ℕ) (answer : Outcome ℕ)
       → longestCertificate office ≤ length entry → Solves office (systemWords s) entry exit answer
       → (count : ℕ) × (answer ≡ accepted count) × (verdict office (systemWords s) (take count exit) ≡ accepted tt)
-  pub solved : (s : System) → SystemWithin office s → {entry exit : List ℕ} {r : ℕ} → 4 * longestCertificate office ≤ length entry
+  pub solved : (s : System) → SystemWithin office s → {entry exit : List ℕ} {r : ℕ}
+      → wordBytes * longestCertificate office ≤ length entry
       → SolvesPacked office (bytesOf (systemWords s)) entry exit r
       → (r % placeUnit ≡ 0) × (checkedAfter (bytesOf (systemWords s)) exit r ≡ 0)
   -- which card it is, is a function of the sheet: what the call returns and leaves is the written form of the sheet's own card, the
@@ -293,7 +295,7 @@ pub record Demand3 : Type 0 where
       → longestCertificate office ≤ length entry → Solves office (systemWords s) entry exit answer
       → GivesWords (certificateWords (officeCertificate s h)) entry exit answer
   pub certificate-given : (s : System) (h : SystemWithin office s) → {entry exit : List ℕ} {r : ℕ}
-      → 4 * longestCertificate office ≤ length entry
+      → wordBytes * longestCertificate office ≤ length entry
       → SolvesPacked office (bytesOf (systemWords s)) entry exit r
       → CertificateBytesIn (certificateWords (officeCertificate s h)) entry exit r
   -- so calls on the same sheet give the same number and the same bytes, whatever stood there and whatever file it was read from

@@ -10,7 +10,7 @@ use Rattle.words.specs.LimitsLaws.{office-fits}
 use Rattle.words.specs.Outcome.{Outcome}
 use Rattle.words.specs.Outcome.Outcome.{accepted, refused}
 use Rattle.words.specs.System.{System, SystemWithin, systemWords}
-use Rattle.words.specs.Bytes.{bytesOf}
+use Rattle.words.specs.Bytes.{bytesOf, wordBytes}
 use Rattle.words.specs.BytesLaws.{file-read-of-written}
 use Rattle.words.specs.Certificate.{certificateWords}
 use Rattle.write_frame.specs.Overwriting.{overwritten}
@@ -37,7 +37,7 @@ module _ {file entry exit : List ℕ} {r : ℕ} where
 
 -- for every system within the limits, with as many bytes lent as the longest certificate's file has, it is a count of no more
 module _ (s : System) (within : SystemWithin office s) {entry exit : List ℕ} {r : ℕ}
-    (room : 4 * longestCertificate office ≤ length entry) where
+    (room : wordBytes * longestCertificate office ≤ length entry) where
   pub every-system-checked : SolvesPacked office (bytesOf (systemWords s)) entry exit r
       → (r % placeUnit ≡ 0) × (checkedAfter (bytesOf (systemWords s)) exit r ≡ 0)
   every-system-checked h =
@@ -52,7 +52,7 @@ CertificateBytesIn words entry exit r = (r ≡ placeUnit * length (bytesOf words
 
 -- for every system's file, those of the system's own certificate
 pub every-system-certificate : (s : System) (h : SystemWithin office s) → {entry exit : List ℕ} {r : ℕ}
-    → 4 * longestCertificate office ≤ length entry → SolvesPacked office (bytesOf (systemWords s)) entry exit r
+    → wordBytes * longestCertificate office ≤ length entry → SolvesPacked office (bytesOf (systemWords s)) entry exit r
     → CertificateBytesIn (certificateWords (officeCertificate s h)) entry exit r
 every-system-certificate s h {entry} {exit} {r} room x =
     subst (λ bs. (r ≡ placeUnit * length bs) × (exit ≡ overwritten bs entry)) (bytes-are (officeCertificate s h))

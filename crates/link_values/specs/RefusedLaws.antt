@@ -13,7 +13,7 @@ use Rattle.words.specs.Outcome.Outcome.{accepted, refused}
 use Rattle.words.specs.OutcomeLaws.{refused-accepted, mapped-refused-iff}
 use Rattle.words.specs.System.{System, Shape, shape}
 use Rattle.words.specs.Certificate.{Certificate, certificateForm}
-use Rattle.words.specs.Bytes.{wordsOf, bytesOf, readSystemFile}
+use Rattle.words.specs.Bytes.{wordsOf, bytesOf, readSystemFile, wordBytes}
 use Rattle.words.specs.TenFirst.{TenFirst, FileRefused}
 use Rattle.words.specs.Pair.{PairRefused}
 use Rattle.words.specs.PairLaws.{pair-refused-iff}
@@ -44,9 +44,9 @@ shape-refused-iff limits f =
 
 -- as the writer on so many whole words as are lent
 pub write-file-refused-iff : (limits : Limits) (lent : ℕ) (s : System) (n k : ℕ)
-    → (writeSystemFile limits lent s ≡ refused n k) ↔ SystemFault limits (lent / 4) s n k
+    → (writeSystemFile limits lent s ≡ refused n k) ↔ SystemFault limits (lent / wordBytes) s n k
 write-file-refused-iff limits lent s =
-    mapped-refused-iff bytesOf (writeSystem limits (lent / 4) s) _ (system-refused-iff-fault limits (lent / 4) s)
+    mapped-refused-iff bytesOf (writeSystem limits (lent / wordBytes) s) _ (system-refused-iff-fault limits (lent / wordBytes) s)
 
 -- ---- a system's file and a certificate's
 
@@ -132,7 +132,7 @@ module _ (limits : Limits) where
 
     pub write-gives-iff : (number place : ℕ) → 1 ≤ number → number ≤ numberMost
         → (r ≡ placeUnit * place + number)
-        ↔ SystemFault limits (length entry / 4) (systemInArrays limits h sizes coefficients) number place
+        ↔ SystemFault limits (length entry / wordBytes) (systemInArrays limits h sizes coefficients) number place
     write-gives-iff number place l m =
         let given = given-refused-iff _ written-numbers gives number place l m in
         let iff = write-file-refused-iff limits (length entry) (systemInArrays limits h sizes coefficients) number place in

@@ -5,6 +5,7 @@ ghost use lib.ListN.{length, getD};
 ghost use Rattle.modular.specs.Bits.{bound32, bound64};
 ghost use Rattle.vector.specs.Stored.{stored};
 ghost use Rattle.vector.specs.Multiple.{sumAt, GainsMultiple};
+use crate::sum::ROW_WORDS;
 use crate::sum::add_row;
 use crate::sum::sum_at;
 
@@ -17,9 +18,9 @@ pub fn add_scaled(h: &mut [u64], d: usize, s: &[u64], a: usize, n: usize, c: u64
     ensures polynomials { λ _. ⌜ GainsMultiple (now (h .entry)) (now (h .exit)) d (now (s .entry)) a n c ⌝ }
 {
     let mut j = 0;
-    while 8 <= n - j {
+    while ROW_WORDS <= n - j {
         add_row(h, d + j, s, a + j, c);
-        j += 8;
+        j += ROW_WORDS;
     }
     while j < n {
         h[d + j] = sum_at(h, d, s, a, c, j);

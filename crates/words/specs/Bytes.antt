@@ -9,6 +9,10 @@ use Rattle.words.specs.Limits.{Limits, longestSystem}
 use Rattle.words.specs.Outcome.{Outcome, refuse}
 use Rattle.words.specs.System.{System, readSystem}
 
+-- bytes of a word
+abbrev pub wordBytes : ℕ
+wordBytes = 4
+
 -- one more in the second, the third and the fourth byte of a word is so much more
 abbrev pub secondByte : ℕ
 secondByte = 256
@@ -40,11 +44,11 @@ bytesOf (w ∷ ws) = w % bound8 ∷ w / secondByte % bound8 ∷ w / thirdByte % 
 
 -- 10, first half: bytes not a multiple of four
 abbrev pub broken : List ℕ → Bool
-broken bytes = not (eqb (length bytes % 4) 0)
+broken bytes = not (eqb (length bytes % wordBytes) 0)
 
 -- 10, second half: over 4,904
 abbrev pub tooLong : Limits → List ℕ → Bool
-tooLong limits bytes = ltb (4 * longestSystem limits) (length bytes)
+tooLong limits bytes = ltb (wordBytes * longestSystem limits) (length bytes)
 
 -- a file: "Number 10 comes before all others."
 unfoldable pub readSystemFile : Limits → List ℕ → Outcome System

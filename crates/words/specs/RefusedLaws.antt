@@ -24,7 +24,7 @@ use Rattle.words.specs.System.{zeroUnit, countBound}
 use Rattle.words.specs.System.{readSystem}
 use Rattle.words.specs.Certificate.{formWhen, certificateHeadFrom, certificateDue, certificateWords, readCertificate}
 use Rattle.words.specs.Certificate.Form.{absent}
-use Rattle.words.specs.Bytes.{wordsOf, broken, tooLong, readSystemFile}
+use Rattle.words.specs.Bytes.{wordsOf, broken, tooLong, readSystemFile, wordBytes}
 use Rattle.words.specs.LimitsLaws.{LimitsFit}
 use Rattle.words.specs.SystemLaws.{systemFormat, system-laws, system-expressible}
 use Rattle.words.specs.CertificateLaws.{certificateFormat, certificate-laws, certificate-expressible}
@@ -271,5 +271,5 @@ file-place limits file {n} {k} e = by (file-refused-iff limits file n k .0 e)
     by : FileRefused limits file n k → k ≤ longestSystem limits
     by (ten b en ek) = omega arith
     by (others b h) =
-        let short = ltb-false (4 * longestSystem limits) (length file) (or-right (broken file) (tooLong limits file) b) in
+        let short = ltb-false (wordBytes * longestSystem limits) (length file) (or-right (broken file) (tooLong limits file) b) in
         omega (arith, h .within, length-wordsOf file, short)

@@ -3,17 +3,18 @@ use answers::word::BYTE_BOUND;
 use answers::word::FOURTH_BYTE;
 use answers::word::SECOND_BYTE;
 use answers::word::THIRD_BYTE;
+use answers::word::WORD_BYTES;
 use residue::number::lesser;
 ghost use mathlib.Core.Path.{_≡_};
 ghost use Prim.Native.Nat.{_+_, _/_, _%_, _≤_};
 ghost use lib.ListN.{length, set};
 ghost use Rattle.modular.specs.Bits.{bound8};
-ghost use Rattle.words.specs.Bytes.{secondByte, thirdByte, fourthByte};
+ghost use Rattle.words.specs.Bytes.{secondByte, thirdByte, fourthByte, wordBytes};
 ghost use Rattle.writer.specs.Packing.{PackedBytes};
 
 // Writes the four bytes of a word, from the place `at` on.
 fn write_word(bytes: &mut [u8], at: usize, word: u32)
-    requires { ⌜ at + 4 ≤ length (now bytes) ⌝ }
+    requires { ⌜ at + wordBytes ≤ length (now bytes) ⌝ }
     ensures { λ _. ⌜ now (bytes .exit) ≡ set (set (set (set (now (bytes .entry)) at (word % bound8)) (at + 1)
         (word / secondByte % bound8)) (at + 2) (word / thirdByte % bound8)) (at + 3) (word / fourthByte) ⌝ }
 {
@@ -27,10 +28,10 @@ fn write_word(bytes: &mut [u8], at: usize, word: u32)
 pub fn write_bytes(bytes: &mut [u8], words: &[u32]) -> usize
     ensures { λ r. ⌜ PackedBytes (now (words .entry)) (now (bytes .entry)) (now (bytes .exit)) r ⌝ }
 {
-    let count = lesser(words.len(), bytes.len() / 4);
+    let count = lesser(words.len(), bytes.len() / WORD_BYTES);
     let mut i: usize = 0;
     while i < count {
-        write_word(bytes, 4 * i, words[i]);
+        write_word(bytes, WORD_BYTES * i, words[i]);
         i = i + 1;
     }
     i
