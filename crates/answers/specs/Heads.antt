@@ -6,13 +6,13 @@ use lib.ListN.{getD}
 use Rattle.words.specs.Limits.{Limits}
 use Rattle.words.specs.LimitsLaws.{LimitsFit}
 use Rattle.words.specs.Word.{payload}
-use Rattle.words.specs.System.{System, Shape, ShapeWithin, shape, systemWords}
+use Rattle.words.specs.System.{System, Shape, ShapeWithin, shape, systemWords, rowUnit, columnUnit, countBound, countMost}
 use Rattle.words.specs.Certificate.{Certificate, Form, certificateForm, certificateWords}
 use Rattle.words.specs.Certificate.Form.{solving, absent}
 use Rattle.words.specs.Certificate.Certificate.{solution, absence}
 
 abbrev pub shapeNumber : Shape → ℕ
-shapeNumber h = h .modulus + h .rows * 65536 + h .columns * 1048576
+shapeNumber h = h .modulus + h .rows * rowUnit + h .columns * columnUnit
 
 abbrev pub kindNumber : Form → ℕ
 kindNumber solving = 1
@@ -21,20 +21,21 @@ kindNumber absent = 2
 module _ (limits : Limits) (fit : LimitsFit limits) where
   -- p, n and m can be taken out of the number
   pub shape-apart : (h : Shape) → ShapeWithin limits h
-      → (shapeNumber h % 65536 ≡ h .modulus) × (shapeNumber h / 65536 % 16 ≡ h .rows) × (shapeNumber h / 1048576 % 16 ≡ h .columns)
+      → (shapeNumber h % rowUnit ≡ h .modulus) × (shapeNumber h / rowUnit % countBound ≡ h .rows)
+      × (shapeNumber h / columnUnit % countBound ≡ h .columns)
   shape-apart h within =
-      let rows : h .rows ≤ 15 = omega (arith, within .rows .1, fit .rows) in
-      let columns : h .columns ≤ 15 = omega (arith, within .columns .1, fit .columns) in
+      let rows : h .rows ≤ countMost = omega (arith, within .rows .1, fit .rows) in
+      let columns : h .columns ≤ countMost = omega (arith, within .columns .1, fit .columns) in
       let p = within .modulus in
-      let above : shapeNumber h / 65536 ≡ h .rows + h .columns * 16 = omega arith in
-      (omega arith, ap (λ (q : ℕ). q % 16) above ∙ omega arith, omega arith)
+      let above : shapeNumber h / rowUnit ≡ h .rows + h .columns * countBound = omega arith in
+      (omega arith, ap (λ (q : ℕ). q % countBound) above ∙ omega arith, omega arith)
 
   -- and it is what the head has beside its kind
   pub shape-written : (s : System) → ShapeWithin limits (shape s) → shapeNumber (shape s) ≡ payload (getD (systemWords s) 0 0)
   unfolding systemWords
   shape-written s within =
-      let rows : s .rows ≤ 15 = omega (arith, within .rows .1, fit .rows) in
-      let columns : s .columns ≤ 15 = omega (arith, within .columns .1, fit .columns) in
+      let rows : s .rows ≤ countMost = omega (arith, within .rows .1, fit .rows) in
+      let columns : s .columns ≤ countMost = omega (arith, within .columns .1, fit .columns) in
       let p = within .modulus in
       omega arith
 

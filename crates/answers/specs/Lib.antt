@@ -1,6 +1,5 @@
--- interface: what the answers of the code say; answers, heads and the version as one number; the bound of payloads
+-- interface: what the answers of the code say; answers, heads and the version as one number
 pub mod Answer
 pub mod Packed
 pub mod Heads
 pub mod Version
-pub mod Payload

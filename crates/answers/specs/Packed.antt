@@ -10,6 +10,10 @@ use Rattle.words.specs.Outcome.Outcome.{accepted, refused}
 abbrev pub placeUnit : ℕ
 placeUnit = 64
 
+-- numbers of the table are at most so much
+abbrev pub numberMost : ℕ
+numberMost = 63
+
 -- a count stands where a refusal has its place, with number 0
 abbrev pub packed : Outcome ℕ → ℕ
 packed (accepted count) = placeUnit * count

@@ -8,11 +8,24 @@ ghost use Rattle.answers.specs.Answer.{shapeOf, formOf};
 ghost use Rattle.answers.specs.Heads.{shapeNumber, kindNumber};
 ghost use Rattle.answers.specs.Packed.{placeUnit};
 
+// In the head of a system: one row more, one column more and one more in the bits that are zero are so much more.
+pub const ROW_UNIT: u32 = 65536;
+
+pub const COLUMN_UNIT: u32 = 1048576;
+
+pub const ZERO_UNIT: u32 = 16777216;
+
+// Rows, columns and the zeros have four bits each: they are below this.
+pub const COUNT_BOUND: u32 = 16;
+
 // Packs modulus, rows and columns as a count is packed.
 pub fn pack_shape(shape: Shape) -> u64
     ensures { λ r. ⌜ r ≡ placeUnit * shapeNumber (shapeOf shape) ⌝ }
 {
-    PLACE_UNIT * (shape.modulus as u64 + shape.rows as u64 * 65536 + shape.columns as u64 * 1048576)
+    PLACE_UNIT
+        * (shape.modulus as u64
+            + shape.rows as u64 * ROW_UNIT as u64
+            + shape.columns as u64 * COLUMN_UNIT as u64)
 }
 
 // Returns the number of a form.

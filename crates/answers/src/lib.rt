@@ -1,12 +1,12 @@
 // What calls answer, in the numbers and places of document 01's table, and what all layers share: a test on small numbers, and the
-// bound of payloads.
+// parts of a word.
 pub mod answer;
 pub mod head;
 pub mod number;
 pub mod packed;
-pub mod payload;
 pub mod shape;
 pub mod version;
+pub mod word;
 
 pub use answer::Counted;
 pub use answer::Refusal;

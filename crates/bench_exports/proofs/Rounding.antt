@@ -9,39 +9,40 @@ use native.Mathlib.Omega.{arith}
 use lib.ListN.{length, getD}
 use lib.Dec.{ltb, leb}
 use borrow.Author.Tests.{ltb-true, leb-true}
+use Rattle.modular.specs.Bits.{bound16, most16, bound32, most32, bound64}
 use Rattle.vector.specs.Stored.{stored, length-stored}
 use Rattle.vector.specs.Multiple.{sumAt}
 use Rattle.vector.specs.Bound.{AtMost, sum-at-most, at-most-sum}
-use Rattle.bench_exports.specs.Rounds.{allAtMost, fit, rounds}
+use Rattle.bench_exports.specs.Rounds.{allAtMost, fit, rounds, factorsBound}
 use Rattle.bench_exports.proofs.Tests.{both, at-most-each}
 
 -- what the test found
 pub record Fits (h s factors counts : List ℕ) : Type 0 where
   pub room : length s ≤ length h
   pub all : length factors ≤ length counts
-  pub few : length factors < 2147483648
+  pub few : length factors < factorsBound
   pub count : AtMost (length s) counts
-  pub factor : AtMost 65535 factors
-  pub slot : AtMost 65535 s
-  pub hand : AtMost 4294967295 h
+  pub factor : AtMost most16 factors
+  pub slot : AtMost most16 s
+  pub hand : AtMost most32 h
 
 pub fits : (h s factors counts : List ℕ) → fit h s factors counts ≡ true → Fits h s factors counts
 unfolding fit
 fits h s factors counts e =
     let e₁ = both (leb (length s) (length h)) _ e in
     let e₂ = both (leb (length factors) (length counts)) _ (e₁ .1) in
-    let e₃ = both (ltb (length factors) 2147483648) _ (e₂ .1) in
+    let e₃ = both (ltb (length factors) factorsBound) _ (e₂ .1) in
     let e₄ = both (allAtMost (length s) counts) _ (e₃ .1) in
-    let e₅ = both (allAtMost 65535 factors) _ (e₄ .1) in
-    let e₆ = both (allAtMost 65535 s) _ (e₅ .1) in
+    let e₅ = both (allAtMost most16 factors) _ (e₄ .1) in
+    let e₆ = both (allAtMost most16 s) _ (e₅ .1) in
     record {
       room = leb-true (length s) (length h) (e₁ .0);
       all = leb-true (length factors) (length counts) (e₂ .0);
-      few = ltb-true (length factors) 2147483648 (e₃ .0);
+      few = ltb-true (length factors) factorsBound (e₃ .0);
       count = at-most-each (length s) counts (e₄ .0);
-      factor = at-most-each 65535 factors (e₅ .0);
-      slot = at-most-each 65535 s (e₆ .0);
-      hand = at-most-each 4294967295 h (e₆ .1);
+      factor = at-most-each most16 factors (e₅ .0);
+      slot = at-most-each most16 s (e₆ .0);
+      hand = at-most-each most32 h (e₆ .1);
     }
 
 -- t steps are made
@@ -49,7 +50,7 @@ pub record Rounding (h₀ s factors counts h : List ℕ) (t : ℕ) : Type 0 wher
   pub given : Fits h₀ s factors counts
   pub within : t ≤ length factors
   pub same-length : length h ≡ length h₀
-  pub small : AtMost (4294967295 + t * 4294967296) h
+  pub small : AtMost (most32 + t * bound32) h
   pub words : h ≡ rounds t factors counts s h₀
 
 pub start : {h s factors counts : List ℕ} → Fits h s factors counts → Rounding h s factors counts h 0
@@ -72,22 +73,22 @@ module _ {h₀ s factors counts h : List ℕ} {t : ℕ} (r : Rounding h₀ s fac
   abbrev n : ℕ
   n = getD counts t 0
 
-  product-small : (j : ℕ) → j < n → c * getD s (0 + j) 0 ≤ 4294967296
+  product-small : (j : ℕ) → j < n → c * getD s (0 + j) 0 ≤ bound32
   product-small j lt =
-      let y : getD s (0 + j) 0 ≤ 65536 = omega (arith, r .given .slot (0 + j)) in
-      let f : c ≤ 65536 = omega (arith, r .given .factor t) in
-      mul-le-mul {n₁ = c} {m₁ = getD s (0 + j) 0} {n₂ = 65536} {m₂ = 65536} f y
+      let y : getD s (0 + j) 0 ≤ bound16 = omega (arith, r .given .slot (0 + j)) in
+      let f : c ≤ bound16 = omega (arith, r .given .factor t) in
+      mul-le-mul {n₁ = c} {m₁ = getD s (0 + j) 0} {n₂ = bound16} {m₂ = bound16} f y
 
   module _ (lt : t < length factors) where
-    pub sums-fit : (j : ℕ) → j < n → sumAt h 0 s 0 c j < 18446744073709551616
+    pub sums-fit : (j : ℕ) → j < n → sumAt h 0 s 0 c j < bound64
     sums-fit j lt-n =
-        let sum = sum-at-most (4294967295 + t * 4294967296) 4294967296 h 0 s 0 n c (r .small) product-small j lt-n in
+        let sum = sum-at-most (most32 + t * bound32) bound32 h 0 s 0 n c (r .small) product-small j lt-n in
         omega (arith, sum, r .given .few)
 
     pub turn : (h′ : List ℕ) → h′ ≡ stored (sumAt h 0 s 0 c) h 0 n → Rounding h₀ s factors counts h′ (t + 1)
     unfolding rounds
     turn h′ e =
-        let grown = at-most-sum (4294967295 + t * 4294967296) 4294967296 h 0 s 0 n c (r .small) product-small in
+        let grown = at-most-sum (most32 + t * bound32) bound32 h 0 s 0 n c (r .small) product-small in
         record {
           given = r .given;
           within = omega arith;

@@ -4,6 +4,7 @@ use mathlib.Core.List.{List, [], _∷_}
 use Prim.Native.Nat.{ℕ, zero, suc}
 use lib.ListN.{length, getD}
 use lib.Dec.{ltb, leb}
+use Rattle.modular.specs.Bits.{most16, most32}
 use Rattle.vector.specs.Stored.{stored}
 use Rattle.vector.specs.Multiple.{sumAt}
 
@@ -11,10 +12,14 @@ unfoldable pub allAtMost : ℕ → List ℕ → Bool
 allAtMost limit [] = true
 allAtMost limit (x ∷ l) = leb x limit && allAtMost limit l
 
+-- there are fewer factors than this
+abbrev pub factorsBound : ℕ
+factorsBound = 2147483648
+
 -- fewer than 2^31 products below 2^32, added to words below 2^32, fit 64 bits
 unfoldable pub small : List ℕ → List ℕ → List ℕ → Bool
 unfolding allAtMost
-small h s factors = allAtMost 65535 factors && (allAtMost 65535 s && allAtMost 4294967295 h)
+small h s factors = allAtMost most16 factors && (allAtMost most16 s && allAtMost most32 h)
 
 -- a count for each factor, none of more words than there are
 unfoldable pub fit : List ℕ → List ℕ → List ℕ → List ℕ → Bool
@@ -22,7 +27,7 @@ unfolding small
 fit h s factors counts =
     leb (length s) (length h)
     && (leb (length factors) (length counts)
-    && (ltb (length factors) 2147483648 && (allAtMost (length s) counts && small h s factors)))
+    && (ltb (length factors) factorsBound && (allAtMost (length s) counts && small h s factors)))
 
 -- how many steps are made: all or none
 unfoldable pub allowed : List ℕ → List ℕ → List ℕ → List ℕ → ℕ

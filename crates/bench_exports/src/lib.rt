@@ -2,6 +2,15 @@
 ghost use mathlib.Core.Path.{_≡_};
 ghost use Rattle.bench_exports.specs.Rounds.{allAtMost, small, fit, allowed, rounds};
 
+// The most that a factor, or a word that it is taken times, may be.
+const FACTOR_MOST: u64 = 65535;
+
+// The most that a word may be to which products are added.
+const SUM_MOST: u64 = 4294967295;
+
+// There are fewer factors than this.
+const FACTORS_BOUND: usize = 2147483648;
+
 // Tells whether every word of l is at most `limit`.
 fn all_at_most(l: &[u64], limit: u64) -> bool
     ensures { λ r. ⌜ r ≡ allAtMost limit (now (l .entry)) ⌝ }
@@ -20,13 +29,13 @@ fn all_at_most(l: &[u64], limit: u64) -> bool
 fn words_small(h: &[u64], s: &[u64], factors: &[u64]) -> bool
     ensures { λ r. ⌜ r ≡ small (now (h .entry)) (now (s .entry)) (now (factors .entry)) ⌝ }
 {
-    if !all_at_most(factors, 65535) {
+    if !all_at_most(factors, FACTOR_MOST) {
         return false;
     }
-    if !all_at_most(s, 65535) {
+    if !all_at_most(s, FACTOR_MOST) {
         return false;
     }
-    all_at_most(h, 4294967295)
+    all_at_most(h, SUM_MOST)
 }
 
 // Tells whether all words of the steps are there, and their sums fit.
@@ -39,7 +48,7 @@ fn steps_fit(h: &[u64], s: &[u64], factors: &[u64], counts: &[u64]) -> bool
     if counts.len() < factors.len() {
         return false;
     }
-    if factors.len() >= 2147483648 {
+    if factors.len() >= FACTORS_BOUND {
         return false;
     }
     if !all_at_most(counts, s.len() as u64) {

@@ -13,7 +13,7 @@ use Rattle.words.specs.Limits.{office, longestSystem, longestCertificate}
 use Rattle.words.specs.LimitsLaws.{office-fits}
 use Rattle.words.specs.Outcome.{refuse}
 use Rattle.words.specs.Outcome.Outcome.{refused}
-use Rattle.words.specs.Bytes.{wordsOf, broken, tooLong}
+use Rattle.words.specs.Bytes.{wordsOf, broken, tooLong, wordBytes}
 use Rattle.words.specs.BytesLaws.{length-wordsOf, wordsOf-at}
 use Rattle.truth.specs.Verdict.{verdict}
 use Rattle.truth.specs.Prefix.{verdict-prefix}
@@ -28,31 +28,31 @@ seen-most n = by (decLt n fileSpace)
     by (no h) = rw (le-ltb n fileSpace (omega arith)) (omega arith)
 
 -- the words of a file's start are the first of its words
-words-of-start : (k : ℕ) (bytes : List ℕ) → k ≤ length bytes → wordsOf (take k bytes) ≡ take (k / 4) (wordsOf bytes)
-words-of-start k bytes h = ext-getD 0 (wordsOf (take k bytes)) (take (k / 4) (wordsOf bytes)) (first ∙ sym second) each
+words-of-start : (k : ℕ) (bytes : List ℕ) → k ≤ length bytes → wordsOf (take k bytes) ≡ take (k / wordBytes) (wordsOf bytes)
+words-of-start k bytes h = ext-getD 0 (wordsOf (take k bytes)) (take (k / wordBytes) (wordsOf bytes)) (first ∙ sym second) each
   where
-    first : length (wordsOf (take k bytes)) ≡ k / 4
-    first = length-wordsOf (take k bytes) ∙ ap (λ n. n / 4) (length-take-le k bytes h)
+    first : length (wordsOf (take k bytes)) ≡ k / wordBytes
+    first = length-wordsOf (take k bytes) ∙ ap (λ n. n / wordBytes) (length-take-le k bytes h)
 
-    second : length (take (k / 4) (wordsOf bytes)) ≡ k / 4
-    second = length-take-le (k / 4) (wordsOf bytes) (omega (arith, length-wordsOf bytes))
+    second : length (take (k / wordBytes) (wordsOf bytes)) ≡ k / wordBytes
+    second = length-take-le (k / wordBytes) (wordsOf bytes) (omega (arith, length-wordsOf bytes))
 
     byte : (i : ℕ) → i < k → getD (take k bytes) i 0 ≡ getD bytes i 0
     byte i l = getD-take k bytes i 0 l
 
     each : (i : ℕ) → i < length (wordsOf (take k bytes))
-        → getD (wordsOf (take k bytes)) i 0 ≡ getD (take (k / 4) (wordsOf bytes)) i 0
+        → getD (wordsOf (take k bytes)) i 0 ≡ getD (take (k / wordBytes) (wordsOf bytes)) i 0
     each i l =
         wordsOf-at (take k bytes) i (omega (arith, length-wordsOf (take k bytes)))
         ∙ rw (
-          byte (4 * i) (omega (arith, first)),
-          byte (4 * i + 1) (omega (arith, first)),
-          byte (4 * i + 2) (omega (arith, first)),
-          byte (4 * i + 3) (omega (arith, first)),
+          byte (wordBytes * i) (omega (arith, first)),
+          byte (wordBytes * i + 1) (omega (arith, first)),
+          byte (wordBytes * i + 2) (omega (arith, first)),
+          byte (wordBytes * i + 3) (omega (arith, first)),
         )
         refl
         ∙ sym (wordsOf-at bytes i (omega (arith, first)))
-        ∙ sym (getD-take (k / 4) (wordsOf bytes) i 0 (omega (arith, first)))
+        ∙ sym (getD-take (k / wordBytes) (wordsOf bytes) i 0 (omega (arith, first)))
 
 -- what is looked at of a file
 abbrev pub fileStart : List ℕ → List ℕ
@@ -65,19 +65,20 @@ module _ (file : List ℕ) where
       ap (λ k. take k file) all ∙ take-all (length file) file (omega arith)
 
   module _ (long : fileSpace ≤ length file) where
-    seen-long : bytesSeen (length file) ≡ 4 * (longestCertificate office + 1) + length file % 4
+    seen-long : bytesSeen (length file) ≡ wordBytes * (longestCertificate office + 1) + length file % wordBytes
     seen-long = rw (le-ltb (length file) fileSpace long)
 
-    start-length : length (fileStart file) ≡ 4 * (longestCertificate office + 1) + length file % 4
+    start-length : length (fileStart file) ≡ wordBytes * (longestCertificate office + 1) + length file % wordBytes
     start-length = length-take-le (bytesSeen (length file)) file (omega (arith, seen-long)) ∙ seen-long
 
     start-broken : broken (fileStart file) ≡ broken file
     start-broken =
-        let same : length (fileStart file) % 4 ≡ length file % 4 = omega (arith, start-length) in ap (λ n. not (eqb n 0)) same
+        let same : length (fileStart file) % wordBytes ≡ length file % wordBytes = omega (arith, start-length) in
+        ap (λ n. not (eqb n 0)) same
 
     start-words : wordsOf (fileStart file) ≡ take (longestCertificate office + 1) (wordsOf file)
     start-words =
-        let words : bytesSeen (length file) / 4 ≡ longestCertificate office + 1 = omega (arith, seen-long) in
+        let words : bytesSeen (length file) / wordBytes ≡ longestCertificate office + 1 = omega (arith, seen-long) in
         words-of-start (bytesSeen (length file)) file (omega (arith, seen-long)) ∙ ap (λ k. take k (wordsOf file)) words
 
 module _ (system certificate : List ℕ) where
@@ -115,7 +116,7 @@ module _ (system certificate : List ℕ) where
       by (yes h) = ap (λ s. fileVerdict office s certificate) (start-short system h)
       by (no h) =
           let long : fileSpace ≤ length system = omega arith in
-          let limit = 4 * longestSystem office in
+          let limit = wordBytes * longestSystem office in
           too-long (fileStart system) (lt-ltb limit (length (fileStart system)) (omega (arith, start-length system long)))
           ∙ sym (too-long system (lt-ltb limit (length system) (omega arith)))
 

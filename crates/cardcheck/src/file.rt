@@ -7,6 +7,7 @@ use streams::read_start;
 ghost use mathlib.Core.Path.{_≡_};
 ghost use Rattle.streams.specs.Reading.{ReadWithin};
 ghost use Rattle.cardcheck.specs.Seen.{lengthTold};
+ghost use Rattle.cardcheck.specs.Most.{turnBytes};
 
 // What is known of a file.
 pub enum File {
@@ -41,7 +42,7 @@ fn length_told(answer: i64) -> usize
 
 // Reads up to `TURN` bytes more.
 fn read_more(fd: i32) -> Input
-    ensures { λ r. ⌜ ReadWithin 65536 r ⌝ }
+    ensures { λ r. ⌜ ReadWithin turnBytes r ⌝ }
 {
     let mut space = io::large_buffer();
     read_start(&mut space, fd)

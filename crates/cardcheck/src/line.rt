@@ -1,5 +1,6 @@
 // The verdict on two files, as a line.
 use answers::Verdict;
+use answers::word::WORD_BYTES;
 use limits::Office;
 use report_text::write_refusal;
 use verifier::file::check_files;
@@ -15,7 +16,7 @@ ghost use Rattle.cardcheck.specs.Line.{verdictLine};
 ghost use Rattle.cardcheck.specs.Seen.{fileSpace, bytesSeen};
 
 // Two words more than the longest certificate has: the room for the start of a file.
-pub const SPACE: usize = 4 * (Office::CERTIFICATE_WORDS + 2);
+pub const SPACE: usize = WORD_BYTES * (Office::CERTIFICATE_WORDS + 2);
 
 // Writes a text over the first of the lent bytes. Returns its length.
 fn put(line: &mut [u8], text: &[u8]) -> usize
@@ -49,7 +50,7 @@ fn bytes_seen(length: usize) -> usize
     if length < SPACE {
         length
     } else {
-        SPACE - 4 + length % 4
+        SPACE - WORD_BYTES + length % WORD_BYTES
     }
 }
 

@@ -8,13 +8,14 @@ use lib.ListN.{getD}
 use Rattle.algebra.specs.Coefficients.{add, mul}
 use Rattle.modular.specs.Modulo.{modulo}
 use Rattle.modular.specs.Lists.{mul-comm}
+use Rattle.words.specs.Limits.{office}
 use Rattle.residue.specs.Modulus.{ValidModulus}
 use Rattle.words.specs.System.{entry, sideEntry}
 use Rattle.truth.specs.Solution.{totalModulo, rowOf, columnOf, sideOf}
 use Rattle.truth.specs.Listed.{listed-at, total-ext}
 use Rattle.loader.specs.Slot.{slot, SlotFilled}
 use Rattle.loader.specs.Widths.{systemWidth, certificateWidth}
-use Rattle.check_conditions.specs.Products.{product}
+use Rattle.check_conditions.specs.Products.{product, longestSum}
 use Rattle.check_conditions.specs.Areas.{systemInSlots, vectorIn, ValidDimensions, Loaded}
 use Rattle.check_conditions.specs.declared.dimensions.Dimensions.{Dimensions}
 
@@ -48,7 +49,7 @@ module _ (l : Dimensions) (S C : List ℕ) where
   -- what `sum_of_products` asks
   abbrev Asks : ℕ → ℕ → ℕ → ℕ → Type 0
   Asks first step start count =
-      (ValidModulus (l .modulus) × (count ≤ 8))
+      (ValidModulus (l .modulus) × (count ≤ longestSum))
       × (((k : ℕ) → k < count → SlotFilled p systemWidth S (first + k * step))
       × ((k : ℕ) → k < count → SlotFilled p certificateWidth C (start + k)))
 
@@ -56,8 +57,8 @@ module _ (l : Dimensions) (S C : List ℕ) where
     valid : ValidDimensions l
     valid = loaded .certificate .dimensions
 
-    -- there are at most 72 slots
-    pub places-few : l .rows * l .columns ≤ 64
+    -- there are at most as many slots as the longest system has polynomials
+    pub places-few : l .rows * l .columns ≤ office .rows * office .columns
     places-few = mul-le-mul (valid .rows) (valid .columns)
 
     filled-at : (a k : ℕ) → a ≡ k → k < l .rows * l .columns + l .rows → SlotFilled p systemWidth S a
@@ -72,7 +73,7 @@ module _ (l : Dimensions) (S C : List ℕ) where
         ∙ mul-comm p (valid .modulus .prime) _ _ (loaded .system k hk .canonical) (loaded .certificate .filled i hi .canonical)
 
     module _ (i : ℕ) (hi : i < l .rows) where
-      pub row-few : i * l .columns ≤ 64
+      pub row-few : i * l .columns ≤ office .rows * office .columns
       row-few = omega (arith, places-few, mul-le-mul-right {m = i} {n = l .rows} (l .columns) (omega arith))
 
       pub row-asks : l .columns < count → Asks (i * l .columns) 1 1 (l .columns)

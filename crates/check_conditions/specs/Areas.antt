@@ -1,7 +1,8 @@
 -- The areas that the check works on: the polynomials of a system and of a certificate that were read, a slot for each, and the
--- values that they stand for. The limits are the office's: 8 rows and columns, 16 and 121 coefficients.
+-- values that they stand for. The limits are the office's.
 use mathlib.Core.List.{List}
 use Prim.Native.Nat.{ℕ, _+_, _*_, _≤_, _<_}
+use Rattle.words.specs.Limits.{office}
 use Rattle.residue.specs.Modulus.{ValidModulus}
 use Rattle.words.specs.System.{System}
 use Rattle.truth.specs.Listed.{listed}
@@ -44,8 +45,8 @@ certifyingNumeratorsIn l area = vectorIn (l .rows) (l .columns + 2) area
 
 pub record ValidDimensions (l : Dimensions) : Type 0 where
   pub modulus : ValidModulus (l .modulus)
-  pub rows : l .rows ≤ 8
-  pub columns : l .columns ≤ 8
+  pub rows : l .rows ≤ office .rows
+  pub columns : l .columns ≤ office .columns
 
 -- so many polynomials stand in the certificate's area
 pub record CertificateLoaded (l : Dimensions) (count : ℕ) (C : List ℕ) : Type 0 where

@@ -1,4 +1,5 @@
 // Sums of products of a system's polynomials with a certificate's. They stay unreduced until the last product is added.
+use limits::Office;
 use loader::coefficients_in;
 use loader::width::CERTIFICATE_WIDTH;
 use loader::width::SYSTEM_WIDTH;
@@ -12,10 +13,11 @@ ghost use Rattle.polynomial.specs.Value.{Represents};
 ghost use Rattle.truth.specs.Solution.{totalModulo};
 ghost use Rattle.loader.specs.Slot.{SlotFilled};
 ghost use Rattle.loader.specs.Widths.{systemWidth, certificateWidth};
-ghost use Rattle.check_conditions.specs.Products.{product};
+ghost use Rattle.check_conditions.specs.Products.{product, longestSum};
 
-// The most coefficients of a product: of 16 and of 121.
-const LONGEST: usize = 136;
+// The most coefficients of a product.
+const LONGEST: usize = Office::COEFFICIENTS as usize + Office::CERTIFICATE_COEFFICIENTS as usize
+    - 1;
 
 // Returns f_0 g_0 + f_1 g_1 + .., `count` products. The f stand in every `step`-th slot of `system` from `first` on, the g in the
 // slots of `certificate` from `start` on.
@@ -28,7 +30,7 @@ pub fn sum_of_products(
     count: usize,
     modulus: Modulus,
 ) -> Polynomial
-    requires { ⌜ ValidModulus modulus × (count ≤ 8) ⌝ }
+    requires { ⌜ ValidModulus modulus × (count ≤ longestSum) ⌝ }
     requires system { ⌜ ((k : ℕ) → k < count → SlotFilled (modulus .p) systemWidth (now system) (first + k * step)) ⌝ }
     requires certificate { ⌜ ((k : ℕ) → k < count → SlotFilled (modulus .p) certificateWidth (now certificate) (start + k)) ⌝ }
     ensures { λ r. ⌜ Represents (modulus .p) r

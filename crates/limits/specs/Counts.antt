@@ -1,8 +1,9 @@
 -- The most polynomials of a system, and of a certificate, within the office's limits.
 use Prim.Native.Nat.{ℕ}
+use Rattle.words.specs.Limits.{office, systemCount, solutionCount}
 
 abbrev pub systemPolynomials : ℕ
-systemPolynomials = 72
+systemPolynomials = systemCount (office .rows) (office .columns)
 
 abbrev pub certificatePolynomials : ℕ
-certificatePolynomials = 18
+certificatePolynomials = solutionCount (office .rows) (office .columns)

@@ -1,4 +1,5 @@
 // The limits of document 01, "Bounds", and of the panel: constants of two types, and a value to hand to functions.
+use answers::word::WORD_BYTES;
 ghost use mathlib.Core.Path.{_≡_};
 ghost use Rattle.words.specs.Limits.{office, panel, longestSystem, longestCertificate, wordsFor};
 ghost use Rattle.limits.specs.Value.{limitsOf};
@@ -61,7 +62,7 @@ impl Office {
 
     pub const CERTIFICATE_WORDS: usize = 2198;
 
-    pub const FILE_BYTES: usize = 4 * Office::SYSTEM_WORDS;
+    pub const FILE_BYTES: usize = WORD_BYTES * Office::SYSTEM_WORDS;
 
     // Returns these limits as a value.
     pub fn limits() -> Limits

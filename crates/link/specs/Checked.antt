@@ -14,7 +14,7 @@ use Rattle.truth.specs.DemandLaws.{Says, Agree}
 use Rattle.verifier.specs.File.{fileVerdict}
 use Rattle.verifier.specs.Checked.{CertifiedFiles, files-iff-certified, files-say, files-agree}
 use Rattle.verifier.specs.FilesRefused.{FilesRefused, files-refused-iff}
-use Rattle.answers.specs.Packed.{packedVerdict}
+use Rattle.answers.specs.Packed.{packedVerdict, placeUnit, numberMost}
 use Rattle.link_values.specs.Refusals.{Numbers}
 use Rattle.link.specs.NumberLaws.{check-numbers}
 
@@ -25,8 +25,8 @@ zero-accepted : (v : Outcome (Unit {0})) → Numbers 1 36 v → packedVerdict v 
 zero-accepted (accepted tt) h e = refl
 zero-accepted (refused number place) h e = absurd (omega (arith, h .each number place refl))
 
-number-refused : (v : Outcome (Unit {0})) → Numbers 1 36 v → (number place : ℕ) → 1 ≤ number → number ≤ 63
-    → packedVerdict v ≡ 64 * place + number → v ≡ refused number place
+number-refused : (v : Outcome (Unit {0})) → Numbers 1 36 v → (number place : ℕ) → 1 ≤ number → number ≤ numberMost
+    → packedVerdict v ≡ placeUnit * place + number → v ≡ refused number place
 number-refused (accepted tt) h number place l m e = absurd (omega arith)
 number-refused (refused n k) h number place l m e =
     let b = h .each n k refl in
@@ -37,8 +37,8 @@ module _ (f g : List ℕ) where
   numbered = check-numbers office office-fits f g
 
   -- each number of the table under its condition only, 10 before all others
-  pub checked-refused-iff : (number place : ℕ) → 1 ≤ number → number ≤ 63
-      → (checkGives f g ≡ 64 * place + number) ↔ FilesRefused office f g number place
+  pub checked-refused-iff : (number place : ℕ) → 1 ≤ number → number ≤ numberMost
+      → (checkGives f g ≡ placeUnit * place + number) ↔ FilesRefused office f g number place
   checked-refused-iff number place l m =
       let iff = files-refused-iff office office-fits f g number place in (
         λ e. iff .0 (number-refused (fileVerdict office f g) numbered number place l m e),

@@ -12,7 +12,7 @@ use Rattle.words.specs.Outcome.Outcome.{accepted}
 use Rattle.words.specs.OutcomeLaws.{refuse-passed}
 use Rattle.words.specs.System.{System, SystemWithin, systemWords, readSystem}
 use Rattle.words.specs.SystemLaws.{system-written-of-read}
-use Rattle.words.specs.Bytes.{wordsOf, bytesOf, broken, tooLong, readSystemFile}
+use Rattle.words.specs.Bytes.{wordsOf, bytesOf, broken, tooLong, readSystemFile, wordBytes}
 use Rattle.words.specs.BytesLaws.{wordsOf-bytesOf, file-read-of-written}
 use Rattle.words.specs.Certificate.{Certificate, certificateWords}
 use Rattle.truth.specs.Verdict.{verdict}
@@ -52,20 +52,21 @@ module _ (limits : Limits) (fit : LimitsFit limits) (file entry exit : List ℕ)
   pub solved-file-accepted : (answer : Outcome ℕ) → SolvesFile limits file entry exit answer → (count : ℕ) → answer ≡ accepted count
       → fileVerdict limits file (take count exit) ≡ accepted tt
   solved-file-accepted answer h count a =
-      let given = solved-gives limits certificateBytes (4 * longestCertificate limits) (length entry) (readSystemFile limits file)
+      let given = solved-gives limits certificateBytes (wordBytes * longestCertificate limits) (length entry)
+      (readSystemFile limits file)
       entry exit answer h count a in
       gives-accepted (given .1) (given .2 .given)
 
 -- every system within the limits has a file, and for that file the solver gives a certificate's, which the check accepts
 module _ (limits : Limits) (fit : LimitsFit limits) (s : System) (within : SystemWithin limits s) (entry exit : List ℕ)
-    (room : 4 * longestCertificate limits ≤ length entry) (answer : Outcome ℕ) where
+    (room : wordBytes * longestCertificate limits ≤ length entry) (answer : Outcome ℕ) where
   abbrev file : List ℕ
   file = bytesOf (systemWords s)
 
   to-solve : fileToSolve limits (length entry) file ≡ accepted s
   to-solve =
-      ap (withRoom (4 * longestCertificate limits) (length entry)) (file-read-of-written limits fit s within)
-      ∙ ap (λ t. refuse t 11 0 (accepted s)) (le-ltb (length entry) (4 * longestCertificate limits) room)
+      ap (withRoom (wordBytes * longestCertificate limits) (length entry)) (file-read-of-written limits fit s within)
+      ∙ ap (λ t. refuse t 11 0 (accepted s)) (le-ltb (length entry) (wordBytes * longestCertificate limits) room)
 
   pub every-file-solved : SolvesFile limits (bytesOf (systemWords s)) entry exit answer
       → (count : ℕ) × (answer ≡ accepted count) × (fileVerdict limits (bytesOf (systemWords s)) (take count exit) ≡ accepted tt)

@@ -10,7 +10,7 @@ use Rattle.words.specs.Limits.{Limits, longestCertificate}
 use Rattle.words.specs.LimitsLaws.{LimitsFit}
 use Rattle.words.specs.Word.{Bytes}
 use Rattle.words.specs.System.{System, SystemWithin, systemWords}
-use Rattle.words.specs.Bytes.{bytesOf, readSystemFile}
+use Rattle.words.specs.Bytes.{bytesOf, readSystemFile, wordBytes}
 use Rattle.words.specs.TenFirst.{FileRefused}
 use Rattle.words.specs.Outcome.{Outcome}
 use Rattle.words.specs.Outcome.Outcome.{accepted, refused}
@@ -20,7 +20,7 @@ use Rattle.solver.specs.Solving.{certificateBytes, SolvesFile}
 use Rattle.solver.specs.RefusedLaws.{RoomLast, solve-file-refused-iff}
 use Rattle.solver.specs.OneCertificate.{Call, file-solves-unique, file-solved-same, file-solved-certificate}
 use Rattle.verifier.specs.File.{fileVerdict}
-use Rattle.answers.specs.Packed.{packed, packedVerdict}
+use Rattle.answers.specs.Packed.{packed, packedVerdict, placeUnit, numberMost}
 use Rattle.link_values.specs.Refusals.{Numbers, numbers-wider}
 use Rattle.link_values.specs.Unpacked.{refusedUnless0, unpacked, refused-by, packed-number, packed-place, unpacked-packed}
 use Rattle.link.specs.Packed.{SolvesPacked, ReportsPacked}
@@ -41,14 +41,15 @@ pub solves-unpacked : {limits : Limits} {file entry exit : List ℕ} {r : ℕ} �
 solves-unpacked {limits} {file} {entry} {exit} h = subst (SolvesFile limits file entry exit) (sym (solver-unpacked h)) (h .solves)
 
 -- a number that is no refusal's is a count
-pub unpacked-0 : (r : ℕ) → r % 64 ≡ 0 → unpacked r ≡ accepted (r / 64)
-unpacked-0 r z = ap (λ n. refusedUnless0 n (r / 64) (r / 64)) z
+pub unpacked-0 : (r : ℕ) → r % placeUnit ≡ 0 → unpacked r ≡ accepted (r / placeUnit)
+unpacked-0 r z = ap (λ n. refusedUnless0 n (r / placeUnit) (r / placeUnit)) z
 
 -- it refuses with a number at a place exactly under the condition of that row
 pub solver-refused-iff : {limits : Limits} {file entry exit : List ℕ} {r : ℕ} → LimitsFit limits → Bytes file
-    → SolvesPacked limits file entry exit r → (number place : ℕ) → 1 ≤ number → number ≤ 63
-    → (r ≡ 64 * place + number) ↔ RoomLast (FileRefused limits file) (λ s. (file ≡ bytesOf (systemWords s)) × SystemWithin limits s)
-    (4 * longestCertificate limits) (length entry) number place
+    → SolvesPacked limits file entry exit r → (number place : ℕ) → 1 ≤ number → number ≤ numberMost
+    → (r ≡ placeUnit * place + number)
+    ↔ RoomLast (FileRefused limits file) (λ s. (file ≡ bytesOf (systemWords s)) × SystemWithin limits s)
+    (wordBytes * longestCertificate limits) (length entry) number place
 solver-refused-iff {limits} {file} {entry} {exit} {r} fit small h number place l m =
     let iff = solve-file-refused-iff limits file entry exit (h .answer) (h .solves) fit small number place in (
       λ e.
@@ -74,20 +75,21 @@ module _ (limits : Limits) (fit : LimitsFit limits) (file file₁ : List ℕ)
 
   -- whatever was lent, the same number and the same bytes
   pub packed-same : {entry exit entry₁ exit₁ : List ℕ} {r r₁ : ℕ} → SolvesPacked limits file entry exit r
-      → SolvesPacked limits file₁ entry₁ exit₁ r₁ → r % 64 ≡ 0 → r₁ % 64 ≡ 0
-      → (r ≡ r₁) × (take (r / 64) exit ≡ take (r₁ / 64) exit₁)
+      → SolvesPacked limits file₁ entry₁ exit₁ r₁ → r % placeUnit ≡ 0 → r₁ % placeUnit ≡ 0
+      → (r ≡ r₁) × (take (r / placeUnit) exit ≡ take (r₁ / placeUnit) exit₁)
   packed-same {entry} {exit} {entry₁} {exit₁} {r} {r₁} h h₁ z z₁ =
       let x : Call = record { entry = entry; exit = exit; answer = unpacked r } in
       let y : Call = record { entry = entry₁; exit = exit₁; answer = unpacked r₁ } in
-      let both = file-solved-same limits fit file file₁ same x y (solves-unpacked h) (solves-unpacked h₁) (r / 64) (r₁ / 64)
+      let both = file-solved-same limits fit file file₁ same x y (solves-unpacked h) (solves-unpacked h₁)
+      (r / placeUnit) (r₁ / placeUnit)
       (unpacked-0 r z) (unpacked-0 r₁ z₁) in
       (omega arith, both .1)
 
 -- where there is room it is the number of bytes of the system's certificate, and these stand over the first of the lent ones
 pub packed-certificate : (limits : Limits) {s : System} (h : SystemWithin limits s) (room : Suffices limits (s .rows) (s .columns))
-    {file entry exit : List ℕ} {r : ℕ} → readSystemFile limits file ≡ accepted s → 4 * longestCertificate limits ≤ length entry
-    → SolvesPacked limits file entry exit r
-    → (r ≡ 64 * length (certificateBytes (chosenCertificate limits s h room)))
+    {file entry exit : List ℕ} {r : ℕ} → readSystemFile limits file ≡ accepted s
+    → wordBytes * longestCertificate limits ≤ length entry → SolvesPacked limits file entry exit r
+    → (r ≡ placeUnit * length (certificateBytes (chosenCertificate limits s h room)))
     × (exit ≡ overwritten (certificateBytes (chosenCertificate limits s h room)) entry)
 packed-certificate limits h room {file} {entry} {exit} is enough x =
     let written = file-solved-certificate limits h room entry exit (x .answer) file is enough (x .solves) in
@@ -96,9 +98,9 @@ packed-certificate limits h room {file} {entry} {exit} is enough x =
 -- ---- the check
 
 abbrev pub unpackedVerdict : ℕ → Outcome (Unit {0})
-unpackedVerdict r = refusedUnless0 (r % 64) (r / 64) tt
+unpackedVerdict r = refusedUnless0 (r % placeUnit) (r / placeUnit) tt
 
-unpacked-packedVerdict : (v : Outcome (Unit {0})) → Numbers 1 63 v → unpackedVerdict (packedVerdict v) ≡ v
+unpacked-packedVerdict : (v : Outcome (Unit {0})) → Numbers 1 numberMost v → unpackedVerdict (packedVerdict v) ≡ v
 unpacked-packedVerdict (accepted tt) h = refl
 unpacked-packedVerdict (refused number place) h =
     let between = h .each number place refl in
@@ -122,7 +124,7 @@ check-packs-apart limits limits′ fit fit′ system certificate system′ certi
 -- ---- the report: it refuses nothing, and the count is above 64
 
 pub report-unpacked : {limits : Limits} {file entry exit : List ℕ} {r : ℕ} → ReportsPacked limits file entry exit r
-    → (r % 64 ≡ 0) × ReportsFile limits file entry exit (r / 64)
+    → (r % placeUnit ≡ 0) × ReportsFile limits file entry exit (r / placeUnit)
 report-unpacked {limits} {file} {entry} {exit} {r} h =
-    let count : h .count ≡ r / 64 = omega (arith, h .packs) in
+    let count : h .count ≡ r / placeUnit = omega (arith, h .packs) in
     (omega (arith, h .packs), subst (ReportsFile limits file entry exit) count (h .reports))

@@ -20,7 +20,7 @@ use Rattle.words.specs.System.{System, Shape, ShapeWithin, SystemWithin, shape,
 use Rattle.words.specs.SystemLaws.{system-accepted-iff, system-read-of-written, systemWords-injective}
 use Rattle.words.specs.Certificate.{Certificate, Form, CertificateWithin, certificateForm, certificateWords, readCertificate}
 use Rattle.words.specs.CertificateLaws.{certificate-accepted-iff, certificateWords-injective}
-use Rattle.words.specs.Bytes.{bytesOf, readSystemFile}
+use Rattle.words.specs.Bytes.{bytesOf, readSystemFile, wordBytes}
 use Rattle.words.specs.Table.{ByTable, systemTable, certificateTable, PolynomialsByTable}
 use Rattle.words.specs.Reading.{used}
 use Rattle.words.specs.Polynomial.{polynomialFrom, polynomialsFrom}
@@ -47,7 +47,7 @@ use Rattle.answers.specs.declared.answer.Refusal.{Refusal}
 use Rattle.answers.specs.declared.shape.SystemRead.{SystemRead}
 use Rattle.answers.specs.declared.shape.CertificateRead.{CertificateRead}
 use Rattle.answers.specs.Answer.{systemOutcome, certificateOutcome}
-use Rattle.answers.specs.Packed.{packed}
+use Rattle.answers.specs.Packed.{packed, placeUnit, numberMost}
 use Rattle.writer.specs.Writing.{writeSystem, writeCertificate, Writes}
 use Rattle.writer.specs.Values.{systemInArrays, certificateIn, certificateStride}
 use Rattle.writer.specs.Refused.{SystemFault, CertificateFault}
@@ -84,7 +84,7 @@ pub record Demand1 : Type 0 where
       → answer ≡ refused number place → exit ≡ entry
   pub unchanged-open : {limit : ℕ} {bytes entry exit : List ℕ} {told : Outcome ℕ} → Opened limit bytes entry exit told
       → {number place : ℕ} → told ≡ refused number place → exit ≡ entry
-  pub unchanged : {file entry exit : List ℕ} {r : ℕ} → SolvesPacked office file entry exit r → ¬ (r % 64 ≡ 0) → exit ≡ entry
+  pub unchanged : {file entry exit : List ℕ} {r : ℕ} → SolvesPacked office file entry exit r → ¬ (r % placeUnit ≡ 0) → exit ≡ entry
   pub unchanged-writing : {o : Outcome (List ℕ)} {entry exit : List ℕ} {r : Refusal} → Writes o entry (Refused r) exit
       → exit ≡ entry
   pub unchanged-system : {ws sizes sizes′ values values′ : List ℕ} {answer : SystemRead}
@@ -94,9 +94,10 @@ pub record Demand1 : Type 0 where
       → LoadsCertificate office h cs answer sizes sizes′ values values′ → {number place : ℕ}
       → certificateOutcome answer ≡ refused number place → (sizes′ ≡ sizes) × (values′ ≡ values)
   pub unchanged-lookup : (f g : List ℕ) (side : Side) (k : ℕ) {entry exit : List ℕ} {r : ℕ}
-      → GivesPacked (fileLookup office f g side k) entry exit r → ¬ (r % 64 ≡ 0) → exit ≡ entry
+      → GivesPacked (fileLookup office f g side k) entry exit r → ¬ (r % placeUnit ≡ 0) → exit ≡ entry
   pub unchanged-write-file : (h : Shape) (sizes values : List ℕ) {entry exit : List ℕ} {r : ℕ}
-      → GivesPacked (writeSystemFile office (length entry) (systemInArrays office h sizes values)) entry exit r → ¬ (r % 64 ≡ 0)
+      → GivesPacked (writeSystemFile office (length entry) (systemInArrays office h sizes values)) entry exit r
+      → ¬ (r % placeUnit ≡ 0)
       → exit ≡ entry
   -- rows 1 to 9, of a sheet's words; 21 and 24 to 29, of a card's; 10 before all others, of a file
   pub system : (ws : List ℕ) (number place : ℕ)
@@ -119,32 +120,32 @@ pub record Demand1 : Type 0 where
       → (certificateOutcome answer ≡ refused number place)
       ↔ ShapeFirst office h (ByTable (certificateTable office h) 20 cs) number place
   -- of the number for the shape of a sheet's file
-  pub shape-of-file : (f : List ℕ) (number place : ℕ) → 1 ≤ number → number ≤ 63
-      → (packed (fileShape office f) ≡ 64 * place + number) ↔ FileRefused office f number place
+  pub shape-of-file : (f : List ℕ) (number place : ℕ) → 1 ≤ number → number ≤ numberMost
+      → (packed (fileShape office f) ≡ placeUnit * place + number) ↔ FileRefused office f number place
   -- of the number for a card's kind: 10 before all others, then the sheet's rows and the card's
-  pub kind-of-files : (f g : List ℕ) (number place : ℕ) → 1 ≤ number → number ≤ 63
-      → (packed (fileKind office f g) ≡ 64 * place + number) ↔ FilesRefusedBy office NothingTried f g number place
+  pub kind-of-files : (f g : List ℕ) (number place : ℕ) → 1 ≤ number → number ≤ numberMost
+      → (packed (fileKind office f g) ≡ placeUnit * place + number) ↔ FilesRefusedBy office NothingTried f g number place
   -- of the check: the sheet's rows, the card's, and 31 to 36; of its number on files, 10 before all others
   pub check-words : (ws cs : List ℕ) (number place : ℕ)
       → (verdict office ws cs ≡ refused number place) ↔ PairRefused office Fault ws cs number place
-  pub check : (f g : List ℕ) (number place : ℕ) → 1 ≤ number → number ≤ 63
-      → (checkGives f g ≡ 64 * place + number) ↔ FilesRefused office f g number place
+  pub check : (f g : List ℕ) (number place : ℕ) → 1 ≤ number → number ≤ numberMost
+      → (checkGives f g ≡ placeUnit * place + number) ↔ FilesRefused office f g number place
   -- of the solver: the sheet's rows, and then 11; of its number those of the sheet's file, and then 11
   pub solve-words : (ws entry exit : List ℕ) (answer : Outcome ℕ) → Solves office ws entry exit answer → (number place : ℕ)
       → (answer ≡ refused number place)
       ↔ RoomLast (ByTable (systemTable office) 0 ws) (λ s. (ws ≡ systemWords s) × SystemWithin office s)
       (longestCertificate office) (length entry) number place
   pub solve : {file entry exit : List ℕ} {r : ℕ} → Bytes file → SolvesPacked office file entry exit r → (number place : ℕ)
-      → 1 ≤ number → number ≤ 63 → (r ≡ 64 * place + number)
+      → 1 ≤ number → number ≤ numberMost → (r ≡ placeUnit * place + number)
       ↔ RoomLast (FileRefused office file) (λ s. (file ≡ bytesOf (systemWords s)) × SystemWithin office s)
-      (4 * longestCertificate office) (length entry) number place
+      (wordBytes * longestCertificate office) (length entry) number place
   -- of the lookup: the sheet's rows, the card's, and then 12
   pub lookup : (ws cs : List ℕ) (side : Side) (k number place : ℕ)
       → (polynomialLookup office ws cs side k ≡ refused number place) ↔ PairRefused office (NoPolynomial side k) ws cs number place
   -- of its number on files: 10 before all others
   pub lookup-in-files : (f g : List ℕ) (side : Side) (k : ℕ) {entry exit : List ℕ} {r : ℕ}
-      → GivesPacked (fileLookup office f g side k) entry exit r → (number place : ℕ) → 1 ≤ number → number ≤ 63
-      → (r ≡ 64 * place + number) ↔ FilesRefusedBy office (NoPolynomial side k) f g number place
+      → GivesPacked (fileLookup office f g side k) entry exit r → (number place : ℕ) → 1 ≤ number → number ≤ numberMost
+      → (r ≡ placeUnit * place + number) ↔ FilesRefusedBy office (NoPolynomial side k) f g number place
   -- of the writers: 2, 3, then the first value at fault, then 11
   pub write-system : (lent : ℕ) (s : System) (number place : ℕ)
       → (writeSystem office lent s ≡ refused number place) ↔ SystemFault office lent s number place
@@ -153,8 +154,9 @@ pub record Demand1 : Type 0 where
   -- of the number for a sheet's file: the same, on as many words as there are whole in the lent bytes
   pub write-system-file : (h : Shape) (sizes values : List ℕ) {entry exit : List ℕ} {r : ℕ}
       → GivesPacked (writeSystemFile office (length entry) (systemInArrays office h sizes values)) entry exit r → (number place : ℕ)
-      → 1 ≤ number → number ≤ 63
-      → (r ≡ 64 * place + number) ↔ SystemFault office (length entry / 4) (systemInArrays office h sizes values) number place
+      → 1 ≤ number → number ≤ numberMost
+      → (r ≡ placeUnit * place + number)
+      ↔ SystemFault office (length entry / wordBytes) (systemInArrays office h sizes values) number place
 
 pub demand-1 : Demand1
 demand-1 = record {
@@ -281,9 +283,10 @@ pub record Demand3 : Type 0 where
   pub solved-words : (s : System) → SystemWithin office s → (entry exit : List ℕ) (answer : Outcome ℕ)
       → longestCertificate office ≤ length entry → Solves office (systemWords s) entry exit answer
       → (count : ℕ) × (answer ≡ accepted count) × (verdict office (systemWords s) (take count exit) ≡ accepted tt)
-  pub solved : (s : System) → SystemWithin office s → {entry exit : List ℕ} {r : ℕ} → 4 * longestCertificate office ≤ length entry
+  pub solved : (s : System) → SystemWithin office s → {entry exit : List ℕ} {r : ℕ}
+      → wordBytes * longestCertificate office ≤ length entry
       → SolvesPacked office (bytesOf (systemWords s)) entry exit r
-      → (r % 64 ≡ 0) × (checkedAfter (bytesOf (systemWords s)) exit r ≡ 0)
+      → (r % placeUnit ≡ 0) × (checkedAfter (bytesOf (systemWords s)) exit r ≡ 0)
   -- which card it is, is a function of the sheet: what the call returns and leaves is the written form of the sheet's own card, the
   -- chosen one, whatever proof the function is handed
   pub certificate-chosen : (s : System) (h : SystemWithin office s) → Chosen s (officeCertificate s h)
@@ -292,14 +295,14 @@ pub record Demand3 : Type 0 where
       → longestCertificate office ≤ length entry → Solves office (systemWords s) entry exit answer
       → GivesWords (certificateWords (officeCertificate s h)) entry exit answer
   pub certificate-given : (s : System) (h : SystemWithin office s) → {entry exit : List ℕ} {r : ℕ}
-      → 4 * longestCertificate office ≤ length entry
+      → wordBytes * longestCertificate office ≤ length entry
       → SolvesPacked office (bytesOf (systemWords s)) entry exit r
       → CertificateBytesIn (certificateWords (officeCertificate s h)) entry exit r
   -- so calls on the same sheet give the same number and the same bytes, whatever stood there and whatever file it was read from
   pub one-certificate : {file file₁ entry exit entry₁ exit₁ : List ℕ} {r r₁ : ℕ}
       → readSystemFile office file ≡ readSystemFile office file₁
-      → SolvesPacked office file entry exit r → SolvesPacked office file₁ entry₁ exit₁ r₁ → r % 64 ≡ 0 → r₁ % 64 ≡ 0
-      → (r ≡ r₁) × (take (r / 64) exit ≡ take (r₁ / 64) exit₁)
+      → SolvesPacked office file entry exit r → SolvesPacked office file₁ entry₁ exit₁ r₁ → r % placeUnit ≡ 0 → r₁ % placeUnit ≡ 0
+      → (r ≡ r₁) × (take (r / placeUnit) exit ≡ take (r₁ / placeUnit) exit₁)
   -- and all is the same where the same was lent, refusals too
   pub one-answer : {file file₁ entry exit exit₁ : List ℕ} {r r₁ : ℕ} → readSystemFile office file ≡ readSystemFile office file₁
       → SolvesPacked office file entry exit r → SolvesPacked office file₁ entry exit₁ r₁ → (exit ≡ exit₁) × (r ≡ r₁)

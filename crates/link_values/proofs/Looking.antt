@@ -100,7 +100,7 @@ module _ (ws cs : List ℕ) (side : Side) (k : ℕ) where
     pub coefficients : List ℕ
     pub sought : Sought ≡ accepted coefficients
     pub size : length words ≡ 1 + length coefficients
-    pub few : length coefficients ≤ 121
+    pub few : length coefficients ≤ office .certificateCoefficients
     pub each : (i : ℕ) → i < length coefficients → payload (getD words (1 + i) 0) ≡ getD coefficients i 0
 
   found : {words : List ℕ} (part : Part) → Shows office ws cs side k part → words ≡ part .words → Found words
@@ -157,8 +157,9 @@ module _ (ws cs : List ℕ) (side : Side) (k : ℕ) where
 
   -- ---- what is left
 
-  pub gives-found : {words : List ℕ} → Found words → (lent exit : List ℕ) → 121 ≤ length lent → {n : ℕ} → n ≡ length words - 1
-      → exit ≡ stored (λ j. payload (getD words (1 + j) 0)) lent 0 n → GivesList Sought lent exit (accepted n)
+  pub gives-found : {words : List ℕ} → Found words → (lent exit : List ℕ) → office .certificateCoefficients ≤ length lent
+      → {n : ℕ} → n ≡ length words - 1 → exit ≡ stored (λ j. payload (getD words (1 + j) 0)) lent 0 n
+      → GivesList Sought lent exit (accepted n)
   gives-found F lent exit room {n} count stores =
       let size : n ≡ length (F .coefficients) = omega (arith, F .size) in
       gives-list (F .sought) size

@@ -9,7 +9,7 @@ use Rattle.words.specs.Limits.{office, longestSystem, longestCertificate}
 use Rattle.words.specs.LimitsLaws.{office-fits}
 use Rattle.words.specs.Outcome.{Outcome, refuse}
 use Rattle.words.specs.Outcome.Outcome.{accepted, refused}
-use Rattle.words.specs.Bytes.{wordsOf, broken}
+use Rattle.words.specs.Bytes.{wordsOf, broken, wordBytes}
 use Rattle.reader.specs.Opening.{turnedBack, Opened}
 use Rattle.reader.specs.OpeningLaws.{unlimited, opened-stops, opened-passes, opened-room, opened-first, opened-all}
 use Rattle.link_values.specs.Files.{Pair, readBoth, readFiles}
@@ -28,13 +28,13 @@ module _ (f g : List ℕ) where
   second-file = refuse (turnedBack (length g) g) 10 0 all-words
 
   -- the system's file, then the certificate's, which has no limit, then the words
-  in-turn : refuse (turnedBack (4 * longestSystem office) f) 10 0 second-file ≡ readFiles office f g
+  in-turn : refuse (turnedBack (wordBytes * longestSystem office) f) 10 0 second-file ≡ readFiles office f g
   unfolding readFiles
   in-turn =
-      ap (λ b. refuse (turnedBack (4 * longestSystem office) f) 10 0 (refuse b 10 0 all-words)) (unlimited g)
-      ∙ sym (refuse-or (turnedBack (4 * longestSystem office) f) (broken g) all-words)
+      ap (λ b. refuse (turnedBack (wordBytes * longestSystem office) f) 10 0 (refuse b 10 0 all-words)) (unlimited g)
+      ∙ sym (refuse-or (turnedBack (wordBytes * longestSystem office) f) (broken g) all-words)
 
-  module _ {before after : List ℕ} {told : Outcome ℕ} (first : Opened (4 * longestSystem office) f before after told) where
+  module _ {before after : List ℕ} {told : Outcome ℕ} (first : Opened (wordBytes * longestSystem office) f before after told) where
     pub first-refused : {number place : ℕ} → told ≡ refused number place → readFiles office f g ≡ refused number place
     first-refused e = sym in-turn ∙ opened-stops first e second-file
 

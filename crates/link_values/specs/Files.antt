@@ -8,7 +8,7 @@ use Rattle.words.specs.Outcome.{Outcome, refuse, followedBy, mapped}
 use Rattle.words.specs.Outcome.Outcome.{accepted}
 use Rattle.words.specs.System.{System, shape, readSystem}
 use Rattle.words.specs.Certificate.{Certificate, certificateForm, readCertificate}
-use Rattle.words.specs.Bytes.{wordsOf, bytesOf, readSystemFile}
+use Rattle.words.specs.Bytes.{wordsOf, bytesOf, readSystemFile, wordBytes}
 use Rattle.answers.specs.Heads.{shapeNumber, kindNumber}
 use Rattle.lookup.specs.Lookup.{Side, entriesOn}
 use Rattle.lookup.specs.Lookup.Side.{system, certificate}
@@ -23,7 +23,7 @@ fileShape limits f = mapped shapeNumber (mapped shape (readSystemFile limits f))
 
 -- the bytes of a system where so many bytes are lent: what its writer gives where so many whole words are
 abbrev pub writeSystemFile : Limits → ℕ → System → Outcome (List ℕ)
-writeSystemFile limits lent s = mapped bytesOf (writeSystem limits (lent / 4) s)
+writeSystemFile limits lent s = mapped bytesOf (writeSystem limits (lent / wordBytes) s)
 
 -- ---- a system's file and a certificate's
 

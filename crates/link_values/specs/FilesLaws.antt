@@ -24,7 +24,7 @@ use Rattle.words.specs.PrefixLaws.{certificate-prefix}
 use Rattle.words.specs.Rows.{systemRows, certificateRows, fileRows}
 use Rattle.words.specs.RowLaws.{numbers-between, places-below}
 use Rattle.words.specs.RefusedLaws.{system-rows, certificate-rows, file-rows, file-place}
-use Rattle.words.specs.Bytes.{wordsOf, broken, tooLong, readSystemFile}
+use Rattle.words.specs.Bytes.{wordsOf, broken, tooLong, readSystemFile, wordBytes}
 use Rattle.words.specs.BytesLaws.{length-wordsOf}
 use Rattle.lookup.specs.Lookup.{Side, entriesOn}
 use Rattle.lookup.specs.Lookup.Side.{system, certificate}
@@ -243,7 +243,7 @@ module _ (limits : Limits) (fit : LimitsFit limits) (most : ℕ) (system-words :
   unfolding readBoth
   words-places f g e =
       let whole = not-either (broken f || tooLong limits f) (broken g) e .0 in
-      let short = ltb-false (4 * longestSystem limits) (length f) (not-either (broken f) (tooLong limits f) whole .1) in
+      let short = ltb-false (wordBytes * longestSystem limits) (length f) (not-either (broken f) (tooLong limits f) whole .1) in
       let count = longestCertificate limits + 1 in
       let cs = firstWords count (wordsOf g) in
       refusals-same (sym (both-room limits fit (wordsOf g) count (omega arith) (wordsOf f)))

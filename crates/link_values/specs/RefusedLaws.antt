@@ -13,7 +13,7 @@ use Rattle.words.specs.Outcome.Outcome.{accepted, refused}
 use Rattle.words.specs.OutcomeLaws.{refused-accepted, mapped-refused-iff}
 use Rattle.words.specs.System.{System, Shape, shape}
 use Rattle.words.specs.Certificate.{Certificate, certificateForm}
-use Rattle.words.specs.Bytes.{wordsOf, bytesOf, readSystemFile}
+use Rattle.words.specs.Bytes.{wordsOf, bytesOf, readSystemFile, wordBytes}
 use Rattle.words.specs.TenFirst.{TenFirst, FileRefused}
 use Rattle.words.specs.Pair.{PairRefused}
 use Rattle.words.specs.PairLaws.{pair-refused-iff}
@@ -21,7 +21,7 @@ use Rattle.words.specs.RefusedLaws.{ten-first-iff, file-refused-iff}
 use Rattle.lookup.specs.Lookup.{Side, entriesOn}
 use Rattle.lookup.specs.RefusedLaws.{NoPolynomial, no-polynomial-iff}
 use Rattle.verifier.specs.File.{filesBroken}
-use Rattle.answers.specs.Packed.{packed}
+use Rattle.answers.specs.Packed.{packed, placeUnit, numberMost}
 use Rattle.writer.specs.Writing.{writeSystem}
 use Rattle.writer.specs.Values.{systemInArrays}
 use Rattle.writer.specs.Refused.{SystemFault}
@@ -44,9 +44,9 @@ shape-refused-iff limits f =
 
 -- as the writer on so many whole words as are lent
 pub write-file-refused-iff : (limits : Limits) (lent : ℕ) (s : System) (n k : ℕ)
-    → (writeSystemFile limits lent s ≡ refused n k) ↔ SystemFault limits (lent / 4) s n k
+    → (writeSystemFile limits lent s ≡ refused n k) ↔ SystemFault limits (lent / wordBytes) s n k
 write-file-refused-iff limits lent s =
-    mapped-refused-iff bytesOf (writeSystem limits (lent / 4) s) _ (system-refused-iff-fault limits (lent / 4) s)
+    mapped-refused-iff bytesOf (writeSystem limits (lent / wordBytes) s) _ (system-refused-iff-fault limits (lent / wordBytes) s)
 
 -- ---- a system's file and a certificate's
 
@@ -93,16 +93,16 @@ module _ (limits : Limits) (fit : LimitsFit limits) (f g : List ℕ) where
 -- ---- by the numbers that the calls give
 
 module _ (limits : Limits) where
-  pub shape-gives-iff : (f : List ℕ) (number place : ℕ) → 1 ≤ number → number ≤ 63
-      → (packed (fileShape limits f) ≡ 64 * place + number) ↔ FileRefused limits f number place
+  pub shape-gives-iff : (f : List ℕ) (number place : ℕ) → 1 ≤ number → number ≤ numberMost
+      → (packed (fileShape limits f) ≡ placeUnit * place + number) ↔ FileRefused limits f number place
   shape-gives-iff f number place l m =
       let gives = packed-refused-iff (fileShape limits f) (numbers-wider 1 10 (omega arith) (omega arith) (shape-numbers limits f))
       number place l m in
       let iff = shape-refused-iff limits f number place in
       (λ e. iff .0 (gives .0 e), λ t. gives .1 (iff .1 t))
 
-  pub kind-gives-iff : LimitsFit limits → (f g : List ℕ) (number place : ℕ) → 1 ≤ number → number ≤ 63
-      → (packed (fileKind limits f g) ≡ 64 * place + number) ↔ FilesRefusedBy limits NothingTried f g number place
+  pub kind-gives-iff : LimitsFit limits → (f g : List ℕ) (number place : ℕ) → 1 ≤ number → number ≤ numberMost
+      → (packed (fileKind limits f g) ≡ placeUnit * place + number) ↔ FilesRefusedBy limits NothingTried f g number place
   kind-gives-iff fit f g number place l m =
       let gives = packed-refused-iff (fileKind limits f g)
       (numbers-wider 1 29 (omega arith) (omega arith) (kind-numbers limits f g)) number place l m in
@@ -111,31 +111,32 @@ module _ (limits : Limits) where
 
   module _ (f g : List ℕ) (side : Side) (i : ℕ) {entry exit : List ℕ} {r : ℕ}
       (gives : GivesPacked (fileLookup limits f g side i) entry exit r) where
-    abbrev looked-numbers : Numbers 1 63 (fileLookup limits f g side i)
+    abbrev looked-numbers : Numbers 1 numberMost (fileLookup limits f g side i)
     looked-numbers = numbers-wider 1 29 (omega arith) (omega arith) (lookup-numbers limits f g side i)
 
-    pub lookup-gives-iff : LimitsFit limits → (number place : ℕ) → 1 ≤ number → number ≤ 63
-        → (r ≡ 64 * place + number) ↔ FilesRefusedBy limits (NoPolynomial side i) f g number place
+    pub lookup-gives-iff : LimitsFit limits → (number place : ℕ) → 1 ≤ number → number ≤ numberMost
+        → (r ≡ placeUnit * place + number) ↔ FilesRefusedBy limits (NoPolynomial side i) f g number place
     lookup-gives-iff fit number place l m =
         let given = given-refused-iff (fileLookup limits f g side i) looked-numbers gives number place l m in
         let iff = lookup-file-refused-iff limits fit f g side i number place in
         (λ e. iff .0 (given .0 e), λ t. given .1 (iff .1 t))
 
-    pub unchanged-lookup : ¬ (r % 64 ≡ 0) → exit ≡ entry
+    pub unchanged-lookup : ¬ (r % placeUnit ≡ 0) → exit ≡ entry
     unchanged-lookup some = given-refused (fileLookup limits f g side i) looked-numbers gives some .1
 
   module _ (h : Shape) (sizes coefficients : List ℕ) {entry exit : List ℕ} {r : ℕ}
       (gives : GivesPacked (writeSystemFile limits (length entry) (systemInArrays limits h sizes coefficients)) entry exit r) where
-    abbrev written-numbers : Numbers 1 63 (writeSystemFile limits (length entry) (systemInArrays limits h sizes coefficients))
+    abbrev written-numbers : Numbers 1 numberMost
+        (writeSystemFile limits (length entry) (systemInArrays limits h sizes coefficients))
     written-numbers = numbers-wider 2 11 (omega arith) (omega arith) (write-numbers limits (length entry) h sizes coefficients)
 
-    pub write-gives-iff : (number place : ℕ) → 1 ≤ number → number ≤ 63
-        → (r ≡ 64 * place + number)
-        ↔ SystemFault limits (length entry / 4) (systemInArrays limits h sizes coefficients) number place
+    pub write-gives-iff : (number place : ℕ) → 1 ≤ number → number ≤ numberMost
+        → (r ≡ placeUnit * place + number)
+        ↔ SystemFault limits (length entry / wordBytes) (systemInArrays limits h sizes coefficients) number place
     write-gives-iff number place l m =
         let given = given-refused-iff _ written-numbers gives number place l m in
         let iff = write-file-refused-iff limits (length entry) (systemInArrays limits h sizes coefficients) number place in
         (λ e. iff .0 (given .0 e), λ t. given .1 (iff .1 t))
 
-    pub unchanged-write : ¬ (r % 64 ≡ 0) → exit ≡ entry
+    pub unchanged-write : ¬ (r % placeUnit ≡ 0) → exit ≡ entry
     unchanged-write some = given-refused _ written-numbers gives some .1

@@ -11,7 +11,7 @@ use lib.Dec.{leb}
 use Rattle.modular.specs.Canonical.{Canonical}
 use Rattle.words.specs.Limits.{Limits}
 use Rattle.words.specs.LimitsLaws.{LimitsFit}
-use Rattle.words.specs.Word.{payload, Bytes}
+use Rattle.words.specs.Word.{payload, Bytes, payloadBound}
 use Rattle.words.specs.Outcome.{Outcome, refuse, followedBy, mapped}
 use Rattle.words.specs.Outcome.Outcome.{accepted, refused}
 use Rattle.words.specs.OutcomeLaws.{refuse-passed}
@@ -79,7 +79,7 @@ module _ (limits : Limits) (fit : LimitsFit limits) (f g : List ℕ) (whole : fi
       second : System → Outcome (List ℕ)
       second s = followedBy (readCertificate limits (shape s) cs) (looked s)
 
-      by-row : (p : ℕ) → p ≤ 268435456 → (fs : List (List ℕ)) → Canonical p (getD fs k []) → (b : Bool)
+      by-row : (p : ℕ) → p ≤ payloadBound → (fs : List (List ℕ)) → Canonical p (getD fs k []) → (b : Bool)
           → refuse b 12 0 (accepted (getD fs k [])) ≡ mapped coefficientsShown (refuse b 12 0 (accepted (partOf fs k)))
       by-row p small fs canonical true = refl
       by-row p small fs canonical false = ap accepted (sym (payloads-of p small (getD fs k []) canonical))

@@ -15,8 +15,9 @@ use Rattle.words.specs.Outcome.Outcome.{accepted, refused}
 use Rattle.words.specs.OutcomeLaws.{refused-accepted, mapped-accepted, refuse-passed, passed-refuse}
 use Rattle.words.specs.System.{System, Shape, ShapeWithin, shape, oneTo, systemEntries, systemWords, readSystem}
 use Rattle.words.specs.SystemLaws.{systemWords-most}
-use Rattle.words.specs.Bytes.{wordsOf, bytesOf, broken, tooLong, readSystemFile}
+use Rattle.words.specs.Bytes.{wordsOf, bytesOf, broken, tooLong, readSystemFile, wordBytes}
 use Rattle.words.specs.BytesLaws.{length-bytesOf, file-read-of-written}
+use Rattle.answers.specs.Packed.{placeUnit}
 use Rattle.write_frame.specs.Trial.{passed, last?, refuseCoefficients, refusePolynomials}
 use Rattle.write_frame.specs.TrialLaws.{nextAfter, polynomials-first}
 use Rattle.write_frame.specs.ValuesLaws.{length-polynomialsIn}
@@ -84,16 +85,18 @@ module _ (limits : Limits) (s : System) where
 module _ (limits : Limits) (s : System) (lent : ℕ) where
   pub write-refused : {number place : ℕ} → writeSystem limits (longestSystem limits) s ≡ refused number place
       → writeSystemFile limits lent s ≡ refused number place
-  write-refused e = ap (mapped bytesOf) (values-refused limits s (lent / 4) e)
+  write-refused e = ap (mapped bytesOf) (values-refused limits s (lent / wordBytes) e)
 
   module _ {ws : List ℕ} (e : writeSystem limits (longestSystem limits) s ≡ accepted ws) where
-    pub write-short : lent < 4 * longestSystem limits → writeSystemFile limits lent s ≡ refused 11 0
+    pub write-short : lent < wordBytes * longestSystem limits → writeSystemFile limits lent s ≡ refused 11 0
     write-short few =
-        ap (mapped bytesOf) (values-passed limits s (lent / 4) e) ∙ simp (lt-ltb (lent / 4) (longestSystem limits) (omega arith))
+        ap (mapped bytesOf) (values-passed limits s (lent / wordBytes) e)
+        ∙ simp (lt-ltb (lent / wordBytes) (longestSystem limits) (omega arith))
 
-    pub write-whole : 4 * longestSystem limits ≤ lent → writeSystemFile limits lent s ≡ accepted (bytesOf ws)
+    pub write-whole : wordBytes * longestSystem limits ≤ lent → writeSystemFile limits lent s ≡ accepted (bytesOf ws)
     write-whole room =
-        ap (mapped bytesOf) (values-passed limits s (lent / 4) e) ∙ simp (le-ltb (lent / 4) (longestSystem limits) (omega arith))
+        ap (mapped bytesOf) (values-passed limits s (lent / wordBytes) e)
+        ∙ simp (le-ltb (lent / wordBytes) (longestSystem limits) (omega arith))
 
 -- ---- numbers and places of refusals
 
@@ -156,36 +159,36 @@ module _ (limits : Limits) (lent : ℕ) (h : Shape) (sizes coefficients : List �
 
   pub write-numbers : Numbers 2 11 written
   write-numbers = refusals-mapped bytesOf _
-      (write-refusals limits (lent / 4) h sizes coefficients (omega arith, omega arith) (omega arith, omega arith)
+      (write-refusals limits (lent / wordBytes) h sizes coefficients (omega arith, omega arith) (omega arith, omega arith)
       (omega arith, omega arith)
       (λ number place low high inside. (omega arith, omega arith)))
 
   pub write-places : (most : ℕ) → longestSystem limits ≤ most → Places most written
   write-places most longest = refusals-mapped bytesOf _
-      (write-refusals limits (lent / 4) h sizes coefficients (omega arith) (omega arith) (omega arith)
+      (write-refusals limits (lent / wordBytes) h sizes coefficients (omega arith) (omega arith) (omega arith)
       (λ number place low high inside. omega arith))
 
-  pub write-count : LimitsFit limits → (bytes : List ℕ) → written ≡ accepted bytes → length bytes ≤ 4 * longestSystem limits
+  pub write-count : LimitsFit limits → (bytes : List ℕ) → written ≡ accepted bytes → length bytes ≤ wordBytes * longestSystem limits
   write-count fit bytes e =
-      let ws = mapped-accepted bytesOf (writeSystem limits (lent / 4) _) e in
-      let s = system-accepted limits (lent / 4) h sizes coefficients (ws .0) (ws .1) in
+      let ws = mapped-accepted bytesOf (writeSystem limits (lent / wordBytes) _) e in
+      let s = system-accepted limits (lent / wordBytes) h sizes coefficients (ws .0) (ws .1) in
       omega (arith, systemWords-most limits fit _ (s .0), ap length (s .1), length-bytesOf (ws .0), ap length (ws .2))
 
   -- what is written is read back as the values
   pub written-read : LimitsFit limits → (bytes : List ℕ) → written ≡ accepted bytes
       → readSystemFile limits bytes ≡ accepted (systemInArrays limits h sizes coefficients)
   written-read fit bytes e =
-      let ws = mapped-accepted bytesOf (writeSystem limits (lent / 4) _) e in
-      let s = system-accepted limits (lent / 4) h sizes coefficients (ws .0) (ws .1) in
+      let ws = mapped-accepted bytesOf (writeSystem limits (lent / wordBytes) _) e in
+      let s = system-accepted limits (lent / wordBytes) h sizes coefficients (ws .0) (ws .1) in
       ap (readSystemFile limits) (sym (ap bytesOf (s .1) ∙ ws .2)) ∙ file-read-of-written limits fit _ (s .0)
 
 -- ---- by the number that the call gives: where it counts, its bytes are a file of the values
 
 module _ (h : Shape) (sizes coefficients : List ℕ) {entry exit : List ℕ} {r : ℕ}
     (gives : GivesPacked (writeSystemFile office (length entry) (systemInArrays office h sizes coefficients)) entry exit r)
-    (counts : r % 64 ≡ 0) where
+    (counts : r % placeUnit ≡ 0) where
   abbrev file : List ℕ
-  file = take (r / 64) exit
+  file = take (r / placeUnit) exit
 
   pub file-of-values : readSystemFile office file ≡ accepted (systemInArrays office h sizes coefficients)
   file-of-values = written-read office (length entry) h sizes coefficients office-fits file

@@ -2,6 +2,7 @@
 use answers::Counted;
 use answers::Refusal;
 use answers::packed::pack_counted;
+use answers::word::WORD_BYTES;
 use limits::Office;
 use writer::file::write_bytes;
 use writer::format::SYSTEM_VALUES;
@@ -37,7 +38,7 @@ fn write_to_bytes(
                 return Counted::Refused(Refusal { number: 11, place });
             }
             write_bytes(bytes, &words[..count]);
-            Counted::Count(4 * count)
+            Counted::Count(WORD_BYTES * count)
         }
         Counted::Refused(refusal) => Counted::Refused(refusal),
     }

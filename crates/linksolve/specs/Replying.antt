@@ -7,7 +7,7 @@ use Rattle.streams.specs.declared.Input.{Input}
 use Rattle.streams.specs.declared.Input.the-variants as input
 use Rattle.words.specs.Limits.{office, longestCertificate}
 use Rattle.words.specs.Outcome.Outcome.{accepted}
-use Rattle.words.specs.Bytes.{readSystemFile}
+use Rattle.words.specs.Bytes.{readSystemFile, wordBytes}
 use Rattle.answers.specs.Answer.{refusedBy}
 use Rattle.solver.specs.Solving.{certificateBytes, SolvesOr}
 use Rattle.linksolve.specs.declared.Replied.{Replied}
@@ -15,7 +15,7 @@ use Rattle.linksolve.specs.declared.Replied.the-variants as replied
 
 -- the bytes of the longest certificate's file: with so many lent, 11 is never said
 abbrev pub certificateSpace : ℕ
-certificateSpace = 4 * longestCertificate office
+certificateSpace = wordBytes * longestCertificate office
 
 -- the answer to the bytes read; nothing where they could not be read, which is no refusal
 unfoldable pub Replies : Input → (file entry exit : List ℕ) → Replied → Type 0

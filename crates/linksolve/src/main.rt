@@ -2,6 +2,7 @@
 // nothing else. A refusal is a line on standard error.
 use answers::Counted;
 use answers::Refusal;
+use answers::word::WORD_BYTES;
 use libc::STDERR_FILENO;
 use libc::STDOUT_FILENO;
 use limits::Office;
@@ -19,7 +20,7 @@ ghost use Rattle.streams.specs.SystemSpace.{systemSpace};
 ghost use Rattle.linksolve.specs.Replying.{certificateSpace, Replies};
 
 // The bytes of the longest certificate's file.
-const CERTIFICATE_SPACE: usize = 4 * Office::CERTIFICATE_WORDS;
+const CERTIFICATE_SPACE: usize = WORD_BYTES * Office::CERTIFICATE_WORDS;
 
 // What is to be handed on of a system.
 enum Replied {

@@ -5,6 +5,7 @@ use Prim.Native.Nat.{ℕ, _+_, _≤_}
 use native.Mathlib.Omega.{arith}
 use lib.ListN.{length, getD}
 use Rattle.modular.specs.Canonical.{Canonical}
+use Rattle.modular.specs.Bits.{most16}
 use Rattle.words.specs.Limits.{Limits, systemCount, largestModulus}
 use Rattle.words.specs.LimitsLaws.{LimitsFit}
 use Rattle.words.specs.Polynomial.{VectorWithin}
@@ -18,7 +19,7 @@ use Rattle.words.specs.CertificateLaws.{certificate-laws}
 use Rattle.loader.specs.Slot.{FramedForSlots}
 
 holds-framed : {p limit n : ℕ} (head : ℕ) (ws : List ℕ) (fs : List (List ℕ)) → ws ≡ framedWords head fs → VectorWithin p limit n fs
-    → p ≤ largestModulus → limit ≤ 65535 → FramedForSlots (limit + 1) ws fs
+    → p ≤ largestModulus → limit ≤ most16 → FramedForSlots (limit + 1) ws fs
 holds-framed {p} {limit} head ws fs words within small few = record {
   head = head;
   words = words;

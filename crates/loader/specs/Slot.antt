@@ -6,6 +6,7 @@ use Prim.Native.Nat.{ℕ, _+_, _*_, _≤_, _<_}
 use lib.ListN.{length, getD, take, drop}
 use Rattle.modular.specs.Canonical.{Canonical}
 use Rattle.words.specs.Frame.{framedWords}
+use Rattle.words.specs.Word.{payloadBound}
 
 -- the polynomial in slot k
 unfoldable pub slot : ℕ → List ℕ → ℕ → List ℕ
@@ -16,10 +17,10 @@ pub record FramedForSlots (width : ℕ) (ws : List ℕ) (fs : List (List ℕ)) :
   pub head : ℕ
   pub words : ws ≡ framedWords head fs
   pub modulus : ℕ
-  pub small : modulus ≤ 268435456
+  pub small : modulus ≤ payloadBound
   pub canonical : (k : ℕ) → Canonical modulus (getD fs k [])
   pub sizes : (k : ℕ) → length (getD fs k []) < width
-  pub narrow : width ≤ 268435456
+  pub narrow : width ≤ payloadBound
 
 -- each of these polynomials stands in its slot
 pub record InSlots (width : ℕ) (area : List ℕ) (fs : List (List ℕ)) : Type 0 where

@@ -3,6 +3,7 @@ use mathlib.Core.Path.{_≡_, sym, ap, _∙_}
 use mathlib.Core.List.{List}
 use Prim.Native.Nat.{ℕ, _≤_}
 use native.Mathlib.Omega.{arith}
+use Rattle.modular.specs.Bits.{most16}
 use Rattle.words.specs.Limits.{Limits}
 use Rattle.words.specs.Outcome.{Outcome, mapped}
 use Rattle.words.specs.Outcome.Outcome.{accepted, refused}
@@ -20,7 +21,7 @@ use Rattle.lookup.specs.declared.part.Part.{Part as PartValue}
 use Rattle.lookup.specs.declared.part.Part.the-variants.{Refused}
 use Rattle.answers.specs.declared.answer.Refusal.{Refusal}
 
-holds : {ws : List ℕ} {due : Due} {fs : List (List ℕ)} → due .limit ≤ 65535 → FramedIn ws due fs → HasPolynomials ws fs
+holds : {ws : List ℕ} {due : Due} {fs : List (List ℕ)} → due .limit ≤ most16 → FramedIn ws due fs → HasPolynomials ws fs
 holds few f = record { head = f .head; words = f .words; sizes = λ k. let s = framed-size f k in omega arith }
 
 module _ (limits : Limits) (ss cs : List ℕ) (side : Side) (k : ℕ) where
@@ -63,7 +64,7 @@ module _ (limits : Limits) (ss cs : List ℕ) (side : Side) (k : ℕ) where
       c : Certificate
       c = read-certificate .0
 
-      module _ (few : limits .systemCoefficients ≤ 65535) (few′ : limits .certificateCoefficients ≤ 65535) where
+      module _ (few : limits .systemCoefficients ≤ most16) (few′ : limits .certificateCoefficients ≤ most16) where
         holds-on : (side : Side) → HasPolynomials (on side ss cs) (entriesOn side s c)
         unfolding s c
         holds-on system = holds few (system-framed limits ss s (read-system .1))

@@ -8,6 +8,7 @@ use Rattle.words.specs.Limits.{Limits}
 use Rattle.words.specs.Outcome.{Outcome}
 use Rattle.words.specs.Outcome.Outcome.{accepted, refused}
 use Rattle.words.specs.OutcomeLaws.{mapped-accepted, mapped-refused}
+use Rattle.words.specs.Bytes.{wordBytes}
 use Rattle.lookup.specs.Lookup.{Side, Part, on, polynomialLookup, wordsShown, placeShown, companion, bounds, boundsShown}
 use Rattle.lookup.specs.Lookup.{Address, wordAddress}
 use Rattle.lookup.specs.LookupLaws.{Shows, lookup-shown}
@@ -27,7 +28,7 @@ module _ (told : Outcome Part) where
     refused-place = rw (mapped-refused bounds told (sym found)) refl
 
 -- the address of a part of the words at an address
-pub part-address : {lent at : Address} {bytes : ℕ} (place : ℕ) → at ≡ lent → bytes ≡ at .1 + 4 * place
+pub part-address : {lent at : Address} {bytes : ℕ} (place : ℕ) → at ≡ lent → bytes ≡ at .1 + wordBytes * place
     → (at .0, bytes) ≡ wordAddress lent place
 part-address place same is =
     ap₂ (λ block offset. (block, offset)) (ap (λ a. a .0) same) (omega (arith, ap (λ a. a .1) same, is))

@@ -5,12 +5,13 @@ use mathlib.Core.List.{List, []}
 use Prim.Native.Nat.{ℕ, _<_}
 use lib.ListN.{length, getD}
 use Rattle.words.specs.Frame.{framedWords, entryPlace}
+use Rattle.words.specs.Word.{payloadBound}
 
 -- these polynomials, each of which has its number of coefficients in its start word
 pub record HasPolynomials (ws : List ℕ) (fs : List (List ℕ)) : Type 0 where
   pub head : ℕ
   pub words : ws ≡ framedWords head fs
-  pub sizes : (k : ℕ) → length (getD fs k []) < 268435456
+  pub sizes : (k : ℕ) → length (getD fs k []) < payloadBound
 
 -- some polynomials
 abbrev pub Holding : List ℕ → Type 0

@@ -12,6 +12,7 @@ use Rattle.words.specs.Polynomial.{polynomialWords}
 use Rattle.words.specs.Frame.{entryPlace}
 use Rattle.words.specs.System.{System, shape, systemEntries, readSystem}
 use Rattle.words.specs.Certificate.{Certificate, certificateEntries, readCertificate}
+use Rattle.words.specs.Bytes.{wordBytes}
 
 -- which of the two is asked for
 pub data Side : Type 0 where
@@ -62,7 +63,7 @@ abbrev pub Address : Type 0
 Address = ℕ × ℕ
 
 abbrev pub wordAddress : Address → ℕ → Address
-wordAddress lent k = (lent .0, lent .1 + 4 * k)
+wordAddress lent k = (lent .0, lent .1 + wordBytes * k)
 
 -- "the result is that part of the lent words": of a slice, its words and its address. Equal words elsewhere are not that part.
 pub record Borrows (told : Outcome Part) (lent address : Address) (words : List ℕ) : Type 0 where

@@ -1,7 +1,8 @@
--- interface, what contracts, other crates and PROVED.md cite: Prime, Primality, LargestPrime, Remainder, Modulo, Inverse,
---   Residue, Canonical, Closed, Coefficientwise, Product, Values, Arithmetic, Numbers, Carried, SizeLaws, DivisionLaws,
+-- interface, what contracts, other crates and PROVED.md cite: Bits, Prime, Primality, LargestPrime, Remainder, Modulo,
+--   Inverse, Residue, Canonical, Closed, Coefficientwise, Product, Values, Arithmetic, Numbers, Carried, SizeLaws, DivisionLaws,
 --   MonicLaws, GcdLaws, Lists
 -- inside: Total, Entries, Length, Step, LcmLaws, Examples
+pub mod Bits
 pub mod Prime
 pub mod Primality
 pub mod LargestPrime

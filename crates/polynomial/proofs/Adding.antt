@@ -10,12 +10,13 @@ use Rattle.algebra.specs.Coefficients.{coefficient, add, scale, shift}
 use Rattle.modular.specs.Modulo.{modulo}
 use Rattle.modular.specs.Closed.{canonical-multiple}
 use Rattle.modular.specs.Product.{rows, canonical-rows}
+use Rattle.modular.specs.Bits.{most16, bound64}
 use Rattle.vector.specs.Stored.{stored, length-stored}
 use Rattle.vector.specs.Bound.{AtMost, at-most-sum}
 use Rattle.vector.specs.Reduced.{polynomial, canonical-reduced, coefficient-reduced, word-inside, residue-same}
 use Rattle.vector.specs.Multiple.{sumAt, GainsMultiple}
 use Rattle.polynomial.specs.Value.{polynomialRoom}
-use Rattle.polynomial.specs.Product.{GainsProduct}
+use Rattle.polynomial.specs.Product.{GainsProduct, sumMost}
 use Rattle.polynomial.proofs.Rows.{add-nil, rows-mul, length-polynomial, scale-mod, add-assoc}
 
 pub record Adding (h f : List ℕ) (n : ℕ) (g : List ℕ) (k : ℕ) (h′ : List ℕ) (i : ℕ) : Type 0 where
@@ -37,14 +38,14 @@ module _ (h f : List ℕ) (n : ℕ) (g : List ℕ) (k : ℕ) where
 
   module _ (h′ : List ℕ) (i : ℕ) (so-far : Adding h f n g k h′ i) where
     -- no sum is too large for a word
-    pub adding-fits : n ≤ polynomialRoom → AtMost 4611686018427387904 h → AtMost 65535 f → AtMost 65535 g →
-        (j : ℕ) → j < k → sumAt h′ i g 0 (getD f i 0) j < 18446744073709551616
+    pub adding-fits : n ≤ polynomialRoom → AtMost sumMost h → AtMost most16 f → AtMost most16 g →
+        (j : ℕ) → j < k → sumAt h′ i g 0 (getD f i 0) j < bound64
     adding-fits few hb hf hg j lt =
         let within : i ≤ n = so-far .within in
         omega (
           arith,
-          so-far .bound 4611686018427387904 65535 hb hf hg (i + j),
-          mul-le-mul {n₁ = getD f i 0} {m₁ = getD g (0 + j) 0} {n₂ = 65535} {m₂ = 65535} (hf i) (hg (0 + j)),
+          so-far .bound sumMost most16 hb hf hg (i + j),
+          mul-le-mul {n₁ = getD f i 0} {m₁ = getD g (0 + j) 0} {n₂ = most16} {m₂ = most16} (hf i) (hg (0 + j)),
         )
 
     pub adding-turn : (h″ : List ℕ) → i < n → i + k ≤ length h → h″ ≡ stored (sumAt h′ i g 0 (getD f i 0)) h′ i k →

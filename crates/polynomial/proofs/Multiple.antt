@@ -11,7 +11,8 @@ use Rattle.modular.specs.Modulo.{modulo}
 use Rattle.modular.specs.Canonical.{Canonical}
 use Rattle.modular.specs.Closed.{canonical-negate, canonical-scale}
 use Rattle.modular.specs.Coefficientwise.{coefficient-below, coefficient-negate, coefficient-scale, canonical-same}
-use Rattle.residue.specs.Modulus.{largestPrime}
+use Rattle.modular.specs.LargestPrime.{largestPrime}
+use Rattle.modular.specs.Bits.{bound64}
 use Rattle.residue.specs.Sum.{SmallSum}
 use Rattle.vector.specs.Stored.{stored}
 use Rattle.vector.specs.Bound.{AtMost, at-most-sum}
@@ -78,7 +79,7 @@ module _ (p : ℕ) (positive : 0 < p) where
     sums = stored (sumAt (f .coefficients) 0 (g .coefficients) 0 c) (f .coefficients) 0 (g .size)
 
     pub multiple-fits : p ≤ largestPrime → (j : ℕ) → j < g .size
-        → sumAt (f .coefficients) 0 (g .coefficients) 0 c j < 18446744073709551616
+        → sumAt (f .coefficients) 0 (g .coefficients) 0 c j < bound64
     multiple-fits limit j lt = omega (arith, words-small (0 + j), product-small j, mul-le-mul-right p limit)
 
     pub multiple-small : {h : List ℕ} → h ≡ sums → (i : ℕ) → SmallSum p (getD h i 0)

@@ -8,6 +8,10 @@ use Rattle.modular.specs.Modulo.{modulo}
 use Rattle.vector.specs.Bound.{AtMost}
 use Rattle.vector.specs.Reduced.{polynomial}
 
+-- what a word may be, at most, to which products are added
+abbrev pub sumMost : ℕ
+sumMost = 4611686018427387904
+
 -- h′ is h with the product of n words of f and k words of g added
 pub record GainsProduct (h : List ℕ) (f : List ℕ) (n : ℕ) (g : List ℕ) (k : ℕ) (h′ : List ℕ) : Type 0 where
   pub bound : (b q : ℕ) → AtMost b h → AtMost q f → AtMost q g → AtMost (b + n * (q * q)) h′

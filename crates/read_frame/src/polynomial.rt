@@ -8,8 +8,8 @@ ghost use Prim.Native.Nat.{_≤_, _<_};
 ghost use lib.ListN.{length};
 ghost use Rattle.words.specs.Reading.{used, usedFrom};
 ghost use Rattle.words.specs.Polynomial.{coefficientsFrom, polynomialFrom, polynomialsFrom};
+ghost use Rattle.words.specs.Word.{payloadBound};
 ghost use Rattle.answers.specs.Answer.{countedOutcome};
-ghost use Rattle.answers.specs.Payload.{payloadBound};
 
 // Reads `count` coefficients, which stand from the second word on.
 fn read_coefficients(words: &[u32], p: u16, count: u32) -> Counted

@@ -1,5 +1,5 @@
 // A word: its kind and its payload.
-use answers::payload::PAYLOAD_BOUND;
+use answers::word::PAYLOAD_BOUND;
 ghost use mathlib.Core.Path.{_≡_};
 ghost use Rattle.words.specs.Word.{kind, payload};
 

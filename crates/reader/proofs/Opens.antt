@@ -8,15 +8,15 @@ use Rattle.words.specs.Limits.{Limits, office}
 use Rattle.words.specs.Outcome.{Outcome, mapped}
 use Rattle.words.specs.Outcome.Outcome.{accepted, refused}
 use Rattle.words.specs.System.{Shape, shape, readSystem}
-use Rattle.words.specs.Bytes.{readSystemFile}
+use Rattle.words.specs.Bytes.{readSystemFile, wordBytes}
 use Rattle.reader.specs.Unpacking.{Unpacked}
 use Rattle.reader.specs.Opening.{Opened}
 
 module _ (limit : ℕ) (bytes before : List ℕ) where
-  pub opens-broken : (length bytes % 4 ≡ 0 → ⊥) → Opened limit bytes before before (refused 10 0)
+  pub opens-broken : (length bytes % wordBytes ≡ 0 → ⊥) → Opened limit bytes before before (refused 10 0)
   opens-broken h = record { count = simp (ne-eqb _ _ h); words = refl }
 
-  module _ (whole : length bytes % 4 ≡ 0) where
+  module _ (whole : length bytes % wordBytes ≡ 0) where
     pub opens-long : limit < length bytes → Opened limit bytes before before (refused 10 0)
     opens-long h = record { count = simp (eq-eqb _ _ whole, lt-ltb _ _ h); words = refl }
 

@@ -7,28 +7,28 @@ use native.Mathlib.Numerals.{add-one}
 use native.Mathlib.Omega.{arith}
 use lib.ListN.{length, getD, take, drop, set, length-append, length-drop}
 use lib.Seq.{length-take-le, take-suc, drop-cons, set-at, append-snoc, take-length, take-append-seam}
-use Rattle.words.specs.Bytes.{wordAt, wordsOf}
+use Rattle.words.specs.Bytes.{wordAt, wordsOf, wordBytes}
 use Rattle.words.specs.BytesLaws.{length-wordsOf, wordsOf-at}
 use Rattle.reader.specs.Unpacking.{Unpacked}
 
 -- the loop's invariant: of `count` words, i are unpacked
 pub record Filled (bytes before : List ℕ) (count : ℕ) (after : List ℕ) (i : ℕ) : Type 0 where
-  pub number : count ≡ min (length bytes / 4) (length before)
+  pub number : count ≡ min (length bytes / wordBytes) (length before)
   pub reached : i ≤ count
   pub words : after ≡ take i (wordsOf bytes) ++ drop i before
 
-pub filled-start : (bytes before : List ℕ) (count : ℕ) → count ≡ min (length bytes / 4) (length before)
+pub filled-start : (bytes before : List ℕ) (count : ℕ) → count ≡ min (length bytes / wordBytes) (length before)
     → Filled bytes before count before 0
 filled-start bytes before count e = record { number = e; reached = omega arith; words = refl }
 
 module _ (bytes before : List ℕ) (count : ℕ) (words : List ℕ) (i : ℕ) (h : Filled bytes before count words i) where
   -- there is room for the words, and they are in the bytes
-  pub filled-room : (count ≤ length before) × (4 * count ≤ length bytes)
+  pub filled-room : (count ≤ length before) × (wordBytes * count ≤ length bytes)
   filled-room =
       let e = h .number in (
-        omega (arith, min-le-right (length bytes / 4) (length before)),
+        omega (arith, min-le-right (length bytes / wordBytes) (length before)),
         omega
-            (arith, min-le-left (length bytes / 4) (length before)),
+            (arith, min-le-left (length bytes / wordBytes) (length before)),
       )
 
   known : i ≤ length (wordsOf bytes)
@@ -47,7 +47,7 @@ module _ (bytes before : List ℕ) (count : ℕ) (words : List ℕ) (i : ℕ) (h
         length-drop i before,
       )
 
-  pub filled-next : (w : ℕ) → i < count → w ≡ wordAt bytes (4 * i) → Filled bytes before count (set words i w) (i + 1)
+  pub filled-next : (w : ℕ) → i < count → w ≡ wordAt bytes (wordBytes * i) → Filled bytes before count (set words i w) (i + 1)
   filled-next w more e =
       let r = filled-room in
       let s = wordsOf bytes in
@@ -74,7 +74,7 @@ module _ (bytes before : List ℕ) (count : ℕ) (words : List ℕ) (i : ℕ) (h
 
 -- where there is room for all, the words that were unpacked are those of the bytes
 pub unpacked-all : (bytes before after : List ℕ) (count : ℕ) → Unpacked bytes before after count
-    → length bytes ≤ 4 * length before
+    → length bytes ≤ wordBytes * length before
     → (count ≡ length (take count after)) × (take count after ≡ wordsOf bytes)
 unpacked-all bytes before after count h room =
     let s = wordsOf bytes in

@@ -14,7 +14,7 @@ use Rattle.words.specs.Limits.{Limits, longestSystem}
 use Rattle.words.specs.Outcome.{Outcome, refuse}
 use Rattle.words.specs.Outcome.Outcome.{accepted, refused}
 use Rattle.words.specs.System.{readSystem}
-use Rattle.words.specs.Bytes.{wordsOf, broken, readSystemFile}
+use Rattle.words.specs.Bytes.{wordsOf, broken, readSystemFile, wordBytes}
 use Rattle.words.specs.BytesLaws.{length-wordsOf, or-right}
 use Rattle.reader.specs.Opening.{turnedBack, openedWords, Opened}
 
@@ -77,7 +77,7 @@ module _ {limit : ℕ} {bytes before after : List ℕ} {told : Outcome ℕ} (ope
         ∙ length-take-le n (wordsOf bytes) known)
 
     -- and all of them where there was room for `limit` bytes
-    pub opened-all : limit ≤ 4 * length before → take n after ≡ wordsOf bytes
+    pub opened-all : limit ≤ wordBytes * length before → take n after ≡ wordsOf bytes
     opened-all room =
         let short = ltb-false limit (length bytes) (or-right (broken bytes) (ltb limit (length bytes)) (passed .0)) in
         opened-first
@@ -86,7 +86,7 @@ module _ {limit : ℕ} {bytes before after : List ℕ} {told : Outcome ℕ} (ope
 
 -- a system's file
 module _ (limits : Limits) {bytes before after : List ℕ} {told : Outcome ℕ}
-    (opened : Opened (4 * longestSystem limits) bytes before after told) where
+    (opened : Opened (wordBytes * longestSystem limits) bytes before after told) where
   pub system-file-refused : {number place : ℕ} → told ≡ refused number place → readSystemFile limits bytes ≡ refused number place
   unfolding readSystemFile
   system-file-refused e = opened-stops opened e (readSystem limits (wordsOf bytes))

@@ -4,6 +4,7 @@ use crate::unpacking::unpack;
 use answers::Counted;
 use answers::Refusal;
 use answers::SystemRead;
+use answers::word::WORD_BYTES;
 use limits::Office;
 ghost use mathlib.Core.Path.{_≡_};
 ghost use Rattle.words.specs.Limits.{office};
@@ -19,7 +20,7 @@ pub fn open_file(words: &mut [u32], bytes: &[u8], limit: usize) -> Counted
     ensures { λ r. ⌜ Opened limit (now (bytes .entry)) (now (words .entry)) (now (words .exit)) (countedOutcome r) ⌝ }
 {
     let place: usize = 0;
-    if bytes.len() % 4 != 0 {
+    if bytes.len() % WORD_BYTES != 0 {
         return Counted::Refused(Refusal { number: 10, place });
     }
     if limit < bytes.len() {

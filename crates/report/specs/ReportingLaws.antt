@@ -6,6 +6,7 @@ use Prim.Native.Nat.{ℕ, _≤_, _<_}
 use native.Mathlib.Omega.{arith}
 use lib.ListN.{length, drop, length-append}
 use lib.Dec.{ltb}
+use Rattle.modular.specs.Bits.{bound8}
 use Rattle.words.specs.Limits.{Limits, office, largestModulus}
 use Rattle.words.specs.LimitsLaws.{LimitsFit, office-fits}
 use Rattle.words.specs.Outcome.{Outcome}
@@ -84,7 +85,7 @@ answer-reported s h a answers =
     subst (λ b. ReportWithin office (accepted b)) same (certificate-reported (shape s) (h .shape .modulus) c (R .within))
 
 module _ (file : List ℕ) where
-  number-small : (number place : ℕ) → readSystemFile office file ≡ refused number place → number < 256
+  number-small : (number place : ℕ) → readSystemFile office file ≡ refused number place → number < bound8
   number-small number place e =
       let row = file-rows office file .in-rows number place e in
       omega (arith, numbers-between number place 1 10 (fileRows (wordsOf file)) refl row)

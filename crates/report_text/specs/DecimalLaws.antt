@@ -61,26 +61,26 @@ module _ (P : ℕ → Type 0) (one : (n : ℕ) → n < 10 → P n) (more : (n : 
 -- of the digits behind those whose value is n
 abbrev pub decimalValueFrom : ℕ → List ℕ → ℕ
 decimalValueFrom n [] = n
-decimalValueFrom n (c ∷ text) = decimalValueFrom (n * 10 + (c - 48)) text
+decimalValueFrom n (c ∷ text) = decimalValueFrom (n * 10 + (c - digit 0)) text
 
 abbrev pub decimalValue : List ℕ → ℕ
 decimalValue text = decimalValueFrom 0 text
 
 value-append : (n : ℕ) (s t : List ℕ) → decimalValueFrom n (s ++ t) ≡ decimalValueFrom (decimalValueFrom n s) t
 value-append n [] t = refl
-value-append n (c ∷ s) t = value-append (n * 10 + (c - 48)) s t
+value-append n (c ∷ s) t = value-append (n * 10 + (c - digit 0)) s t
 
 pub value-decimal : (n : ℕ) → decimalValue (decimal n) ≡ n
 value-decimal = by-digits (λ n. decimalValue (decimal n) ≡ n)
     (λ n h. ap decimalValue (decimal-one n h) ∙ omega arith)
     (λ n h ih. ap decimalValue (decimal-more n h) ∙ value-append 0 (decimal (n / 10)) (digit (n % 10) ∷ [])
-    ∙ ap (λ q. q * 10 + (digit (n % 10) - 48)) ih ∙ omega arith)
+    ∙ ap (λ q. q * 10 + (digit (n % 10) - digit 0)) ih ∙ omega arith)
 
 -- ---- the form
 
 -- a byte from `0` to `9`
 abbrev pub Digit : ℕ → Type 0
-Digit c = (48 ≤ c) × (c ≤ 57)
+Digit c = (digit 0 ≤ c) × (c ≤ digit 9)
 
 abbrev pub Digits : List ℕ → Type 0
 Digits [] = Unit {0}
@@ -90,7 +90,7 @@ Digits (c ∷ text) = Digit c × Digits text
 abbrev pub IsDecimal : List ℕ → Type 0
 IsDecimal [] = ⊥
 IsDecimal (c ∷ []) = Digit c
-IsDecimal (c ∷ b ∷ text) = (48 < c) × Digit c × Digits (b ∷ text)
+IsDecimal (c ∷ b ∷ text) = (digit 0 < c) × Digit c × Digits (b ∷ text)
 
 form-append : (text : List ℕ) (c : ℕ) → IsDecimal text → 0 < decimalValue text → Digit c → IsDecimal (text ++ (c ∷ []))
 form-append [] c h v d = absurd h
@@ -111,7 +111,7 @@ decimal-form = by-digits (λ n. IsDecimal (decimal n))
 decimal-append : (n : ℕ) (text : List ℕ) → 0 < n → Digits text → decimal (decimalValueFrom n text) ≡ decimal n ++ text
 decimal-append n [] h d = sym (append-nil (decimal n))
 decimal-append n (c ∷ text) h d =
-    let next : ℕ = n * 10 + (c - 48) in
+    let next : ℕ = n * 10 + (c - digit 0) in
     decimal-append next text (omega arith) (d .1)
     ∙ ap (λ t. t ++ text) (decimal-more next (omega arith)
     ∙ ap₂ (λ q e. decimal q ++ (e ∷ [])) (omega arith) (omega arith))

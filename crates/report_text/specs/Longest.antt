@@ -1,10 +1,11 @@
 -- How long a report can be, so that whoever lends bytes for one knows how many suffice.
-use Prim.Native.Nat.{ℕ, _+_, _*_, _≤_, _<_}
+use Prim.Native.Nat.{ℕ, _+_, _-_, _*_, _≤_, _<_}
 use mathlib.Core.Path.{_≡_, refl}
 use mathlib.Core.List.{List, [], _∷_, map}
 use native.Mathlib.Omega.{arith}
 use lib.ListN.{length, length-append, replicate}
 use Rattle.modular.specs.Canonical.{Canonical}
+use Rattle.modular.specs.Bits.{bound8, bound64}
 use Rattle.words.specs.Limits.{Limits, office, largestModulus}
 use Rattle.words.specs.Polynomial.{Within}
 use Rattle.words.specs.Outcome.{Outcome}
@@ -25,7 +26,7 @@ pub record DenominatorWithin (limits : Limits) (d : List ℕ) : Type 0 where
 unfoldable pub ReportWithin : Limits → Outcome Answer → Type 0
 ReportWithin limits (accepted none) = Unit {0}
 ReportWithin limits (accepted (least d)) = DenominatorWithin limits d
-ReportWithin limits (refused number place) = (number < 256) × (place < 18446744073709551616)
+ReportWithin limits (refused number place) = (number < bound8) × (place < bound64)
 
 -- the labels, the degree and the line ends take 41 bytes; a coefficient takes a space and up to five digits
 abbrev pub longestReport : Limits → ℕ
@@ -48,15 +49,19 @@ denominator-length limits d h =
     let size = h .within .size in
     simp length-append (omega arith)
 
-feedback-length : (d : List ℕ) → length d ≤ 1000 → length (feedbackLine d) ≤ 13
+-- so many coefficients, at most: the degree has three digits
+abbrev mostReported : ℕ
+mostReported = 1000
+
+feedback-length : (d : List ℕ) → length d ≤ mostReported → length (feedbackLine d) ≤ 13
 unfolding feedbackLine
 feedback-length d h =
     let digits = decimal-length 2 (degree d) (omega arith) in
     simp length-append (omega arith)
 
 -- no report within the limits is longer
-pub report-length : (limits : Limits) → limits .certificateCoefficients ≤ 1000 → (o : Outcome Answer) → ReportWithin limits o
-    → length (reportText o) ≤ longestReport limits
+pub report-length : (limits : Limits) → limits .certificateCoefficients ≤ mostReported → (o : Outcome Answer)
+    → ReportWithin limits o → length (reportText o) ≤ longestReport limits
 unfolding ReportWithin reportText
 report-length limits small (accepted none) h = omega arith
 report-length limits small (accepted (least d)) h =
@@ -69,8 +74,9 @@ report-length limits small (refused number place) h =
     let second = decimal-length 19 place (omega arith) in
     simp length-append (omega arith)
 
--- 767 bytes, which some list of 121 coefficients takes
-longest-reached : length (reportText (accepted (least (replicate 121 65520)))) ≡ longestReport office
+-- 767 bytes, which some list of the most coefficients takes
+longest-reached : length (reportText (accepted (least (replicate (office .certificateCoefficients) (largestModulus - 1)))))
+    ≡ longestReport office
 unfolding reportText denominatorLine feedbackLine decimal
 longest-reached = refl
 

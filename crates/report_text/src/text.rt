@@ -5,6 +5,9 @@ ghost use Rattle.report_text.specs.Decimal.{decimal};
 ghost use Rattle.report_text.specs.Text.{spaced, allSpaced};
 ghost use Rattle.report_text.specs.Written.{TextRoom, Appended};
 
+// The most digits of a number.
+const DIGITS: usize = 20;
+
 // Appends the bytes of `text`.
 pub fn append(out: &mut [u8], at: usize, text: &[u8]) -> usize
     requires { ⌜ TextRoom (now text) (now out) at ⌝ }
@@ -23,7 +26,7 @@ fn append_decimal(out: &mut [u8], at: usize, n: u64) -> usize
     requires { ⌜ TextRoom (decimal n) (now out) at ⌝ }
     ensures { λ r. ⌜ Appended (decimal n) (now (out .entry)) at (now (out .exit)) r ⌝ }
 {
-    let mut digits = [0u8; 20];
+    let mut digits = [0u8; DIGITS];
     let count = io::decimal(n, &mut digits);
     append(out, at, &digits[..count])
 }

@@ -5,16 +5,28 @@ use native.Mathlib.Nat.{div-mul-le-self, div-add-mod', mod-lt, mod-eq-of-lt, le-
 use native.Mathlib.Nat.{mul-le-mul, mul-le-mul-left, mul-le-mul-right, mul-lt-mul-of-pos-right, lt-of-mul-lt-mul-right}
 use native.Mathlib.Omega.{arith}
 use lib.Pow.{pow-mono, pow-pos}
+use Rattle.modular.specs.LargestPrime.{largestPrime}
+use Rattle.modular.specs.Bits.{bound32}
 use Rattle.residue.specs.declared.modulus.Modulus.{Modulus}
-use Rattle.residue.specs.Modulus.{largestPrime, ValidModulus}
-use Rattle.residue.specs.Sum.{SmallSum}
+use Rattle.residue.specs.Modulus.{ValidModulus}
+use Rattle.residue.specs.Sum.{sumProducts, SmallSum}
 use Rattle.residue.specs.Barrett.{BarrettStep}
 use Rattle.residue.proofs.Remainder.{sub-mul-mod}
 
+-- the most that shift, s and x / s are
+abbrev mostShift : ℕ
+mostShift = 14
+
+abbrev mostScale : ℕ
+mostScale = 16384
+
+abbrev mostShifted : ℕ
+mostShifted = 2147483648
+
 -- s is at most 2^14, as 2 s is a power of two and at most p
-pub shift-limit : (k p : ℕ) → 2 * 2 ^ k ≤ p → p ≤ largestPrime → k ≤ 14
+pub shift-limit : (k p : ℕ) → 2 * 2 ^ k ≤ p → p ≤ largestPrime → k ≤ mostShift
 shift-limit k p low limit =
-    let above : (15 ≤ k → ⊥) = λ le. omega (arith, pow-mono le) in
+    let above : (1 + mostShift ≤ k → ⊥) = λ le. omega (arith, pow-mono le) in
     omega arith
 
 module _ (M : Modulus) (ok : ValidModulus M) where
@@ -27,21 +39,21 @@ module _ (M : Modulus) (ok : ValidModulus M) where
   abbrev m : ℕ
   m = M .reciprocal
 
-  pub shift-short : M .shift ≤ 14
+  pub shift-short : M .shift ≤ mostShift
   shift-short = shift-limit (M .shift) p (ok .scale-low) (ok .limit)
 
-  scale-short : s ≤ 16384
+  scale-short : s ≤ mostScale
   scale-short = pow-mono shift-short
 
-  reciprocal-low : m * p ≤ 4294967296 * s
-  reciprocal-low = rw (ok .reciprocal) (div-mul-le-self (4294967296 * s) p)
+  reciprocal-low : m * p ≤ bound32 * s
+  reciprocal-low = rw (ok .reciprocal) (div-mul-le-self (bound32 * s) p)
 
-  reciprocal-high : 4294967296 * s ≤ m * p + p
+  reciprocal-high : bound32 * s ≤ m * p + p
   reciprocal-high =
       let large = ok .prime .large in
-      rw (ok .reciprocal) (omega (arith, div-add-mod' (4294967296 * s) p, mod-lt (4294967296 * s) {m = p} (omega arith)))
+      rw (ok .reciprocal) (omega (arith, div-add-mod' (bound32 * s) p, mod-lt (bound32 * s) {m = p} (omega arith)))
 
-  reciprocal-short : m < 4294967296
+  reciprocal-short : m < bound32
   reciprocal-short =
       let large = ok .prime .large in
       let low = ok .scale-low in
@@ -52,25 +64,25 @@ module _ (M : Modulus) (ok : ValidModulus M) where
     y = x / s
 
     abbrev q : ℕ
-    q = y * m / 4294967296
+    q = y * m / bound32
 
-    shifted-short : y ≤ 2147483648
+    shifted-short : y ≤ mostShifted
     shifted-short =
         let high = ok .scale-high in
-        let all : y * s < (131072 * s + 1) * s =
+        let all : y * s < (16 * sumProducts * s + 1) * s =
         omega (arith, div-mul-le-self x s, mul-le-mul (le-of-lt high) (le-of-lt high), pow-pos (M .shift)) in
         omega (arith, lt-of-mul-lt-mul-right s all, scale-short)
 
-    quotient-short : q < 4294967296
+    quotient-short : q < bound32
     quotient-short =
-        omega (arith, div-mul-le-self (y * m) 4294967296, mul-le-mul shifted-short (le-of-lt reciprocal-short))
+        omega (arith, div-mul-le-self (y * m) bound32, mul-le-mul shifted-short (le-of-lt reciprocal-short))
 
     -- the estimate is not too large
     estimate-low : q * p ≤ x
     estimate-low =
         omega (
           arith,
-          mul-le-mul-right p (div-mul-le-self (y * m) 4294967296),
+          mul-le-mul-right p (div-mul-le-self (y * m) bound32),
           mul-le-mul-left y reciprocal-low,
           div-mul-le-self x s,
         )
@@ -80,8 +92,8 @@ module _ (M : Modulus) (ok : ValidModulus M) where
     estimate-near =
         let large = ok .prime .large in
         let low = ok .scale-low in
-        let next : y * m < (q + 1) * 4294967296 =
-        omega (arith, div-add-mod' (y * m) 4294967296, mod-lt (y * m) {m = 4294967296} (omega arith)) in
+        let next : y * m < (q + 1) * bound32 =
+        omega (arith, div-add-mod' (y * m) bound32, mod-lt (y * m) {m = bound32} (omega arith)) in
         omega (
           arith,
           div-add-mod' x s,
@@ -93,15 +105,15 @@ module _ (M : Modulus) (ok : ValidModulus M) where
 
     -- what the code takes off: its remainders by 2^32 change nothing
     abbrev pub multiple : ℕ
-    multiple = y % 4294967296 * (m % 4294967296) / 4294967296 % 4294967296 * (p % 4294967296)
+    multiple = y % bound32 * (m % bound32) / bound32 % bound32 * (p % bound32)
 
     multiple-is : multiple ≡ q * p
     multiple-is =
         let limit = ok .limit in
-        let y-is : y % 4294967296 ≡ y = mod-eq-of-lt (omega (arith, shifted-short)) in
-        let m-is : m % 4294967296 ≡ m = mod-eq-of-lt reciprocal-short in
-        let p-is : p % 4294967296 ≡ p = mod-eq-of-lt (omega arith) in
-        let q-is : q % 4294967296 ≡ q = mod-eq-of-lt quotient-short in
+        let y-is : y % bound32 ≡ y = mod-eq-of-lt (omega (arith, shifted-short)) in
+        let m-is : m % bound32 ≡ m = mod-eq-of-lt reciprocal-short in
+        let p-is : p % bound32 ≡ p = mod-eq-of-lt (omega arith) in
+        let q-is : q % bound32 ≡ q = mod-eq-of-lt quotient-short in
         rw (y-is, m-is, p-is, q-is) refl
 
     pub multiple-low : multiple ≤ x

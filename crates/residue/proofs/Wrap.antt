@@ -6,16 +6,17 @@ use native.Mathlib.Nat.{one-mul, zero-mul, sub-zero, mod-eq-of-lt, mod-eq-sub-mo
 use native.Mathlib.Omega.{arith}
 use lib.Dec.{ltb}
 use borrow.Author.Tests.{ltb-true, ltb-false}
+use Rattle.modular.specs.Bits.{bound32}
 
 -- 1 where x reaches p, and else 0
 abbrev pub carry : ℕ → ℕ → ℕ
-carry p x = (x + (4294967296 - p)) / 4294967296 % 4294967296
+carry p x = (x + (bound32 - p)) / bound32 % bound32
 
 -- p times the carry may be taken off, which leaves the remainder
 abbrev Taken : ℕ → ℕ → ℕ → Type 0
 Taken p x r = (carry r x * r ≤ x) × (x - carry r x * r ≡ x % p)
 
-taken : (p x : ℕ) → p < 4294967296 → x < p + p → Taken p x p
+taken : (p x : ℕ) → p < bound32 → x < p + p → Taken p x p
 taken p x short near = go (ltb x p) refl
   where
     go : (b : Bool) → ltb x p ≡ b → Taken p x p
@@ -28,5 +29,5 @@ taken p x short near = go (ltb x p) refl
         let one : carry p x ≡ 1 = omega arith in
         rw (one, one-mul) (more, sym (mod-eq-sub-mod more ∙ mod-eq-of-lt (omega arith)))
 
-pub wrapped : (p x : ℕ) → p < 4294967296 → x < p + p → Taken p x (p % 4294967296)
+pub wrapped : (p x : ℕ) → p < bound32 → x < p + p → Taken p x (p % bound32)
 wrapped p x short near = rw (mod-eq-of-lt short) (taken p x short near)

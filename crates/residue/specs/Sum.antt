@@ -2,14 +2,19 @@
 use Prim.Native.Nat.{ℕ, _*_, _<_, _≤_}
 use native.Mathlib.Nat.{mul-le-mul, mul-le-mul-right}
 use native.Mathlib.Omega.{arith}
-use Rattle.residue.specs.Modulus.{largestPrime}
+use Rattle.modular.specs.LargestPrime.{largestPrime}
+use Rattle.modular.specs.Bits.{bound64}
 
--- at most what 8192 products of two numbers below p come to
+-- so many products of two numbers below p
+abbrev pub sumProducts : ℕ
+sumProducts = 8192
+
+-- at most what they come to
 abbrev pub SmallSum : ℕ → ℕ → Type 0
-SmallSum p x = x ≤ 8192 * (p * p)
+SmallSum p x = x ≤ sumProducts * (p * p)
 
 -- it fits in a word
-pub sum-fits : (p x : ℕ) → p ≤ largestPrime → SmallSum p x → x < 18446744073709551616
+pub sum-fits : (p x : ℕ) → p ≤ largestPrime → SmallSum p x → x < bound64
 sum-fits p x limit small = omega (arith, mul-le-mul {n₁ = p} {m₁ = p} {n₂ = largestPrime} {m₂ = largestPrime} limit limit)
 
 -- a number of at most p is one

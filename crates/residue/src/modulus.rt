@@ -3,9 +3,13 @@ ghost use mathlib.Core.Path.{_≡_};
 ghost use Prim.Native.Nat.{_+_, _*_, _%_, _<_, _≤_};
 ghost use Rattle.modular.specs.Prime.{Prime};
 ghost use Rattle.modular.specs.Modulo.{modulo};
-ghost use Rattle.residue.specs.Modulus.{largestPrime, ValidModulus};
+ghost use Rattle.modular.specs.LargestPrime.{largestPrime};
+ghost use Rattle.residue.specs.Modulus.{ValidModulus};
 ghost use Rattle.residue.specs.Sum.{SmallSum};
 ghost use Rattle.residue.specs.Barrett.{BarrettStep};
+
+// A number of 32 bits is less than this.
+pub const BOUND_32: u64 = 4294967296;
 
 // A prime p of 16 bits, the shift by which 2 * 2^shift <= p < 4 * 2^shift, and 2^32 * 2^shift / p rounded down, with which a
 // remainder by p takes multiplications and shifts only.
@@ -30,7 +34,7 @@ impl Modulus {
         Modulus {
             p,
             shift,
-            reciprocal: 4294967296 * scale / p,
+            reciprocal: BOUND_32 * scale / p,
         }
     }
 
@@ -95,8 +99,8 @@ impl Modulus {
         requires { ⌜ ValidModulus self × (x < self .p + self .p) ⌝ }
         ensures { λ r. ⌜ r ≡ x % self .p ⌝ }
     {
-        let p = self.p % 4294967296;
-        x - ((x + (4294967296 - p)) >> 32) % 4294967296 * p
+        let p = self.p % BOUND_32;
+        x - ((x + (BOUND_32 - p)) >> 32) % BOUND_32 * p
     }
 
     // Returns x less a multiple of p, which the reciprocal estimates. No factor has more than 32 bits: the remainders by 2^32 only
@@ -105,7 +109,7 @@ impl Modulus {
         requires { ⌜ ValidModulus self × SmallSum (self .p) x ⌝ }
         ensures { λ r. ⌜ BarrettStep (self .p) x r ⌝ }
     {
-        let quotient = ((x >> self.shift) % 4294967296 * (self.reciprocal % 4294967296)) >> 32;
-        x - quotient % 4294967296 * (self.p % 4294967296)
+        let quotient = ((x >> self.shift) % BOUND_32 * (self.reciprocal % BOUND_32)) >> 32;
+        x - quotient % BOUND_32 * (self.p % BOUND_32)
     }
 }

@@ -9,6 +9,8 @@ use Rattle.algebra.specs.Polynomial.{Polynomial, polynomials}
 use Rattle.algebra.specs.Size.{sized}
 use Rattle.modular.specs.Prime.{Prime}
 use Rattle.modular.specs.Residue.{Residue, residues}
+use Rattle.modular.specs.Bits.{bound64}
+use Rattle.modular.specs.LargestPrime.{largestPrime}
 use Rattle.vector.specs.Stored.{stored, length-stored}
 use Rattle.vector.specs.Multiple.{sumAt}
 use Rattle.reduction.specs.Total.{total-le, total-constant}
@@ -88,8 +90,8 @@ module _ {p : ℕ} (prime₀ : Prime p) {M : Memory} (valid : Valid p M) (fits :
   pub taking-inside : shift + size ≤ tailWords
   taking-inside = omega (arith, whole, fits .filled, valid .hand .block .within, slot .tail-within)
 
-  pub taking-sum : p ≤ 65521 → (j : ℕ) → j < blockWords
-      → sumAt (M .tail) shift L (slotWords * q + blockWords) (p - r .factor) j < 18446744073709551616
+  pub taking-sum : p ≤ largestPrime → (j : ℕ) → j < blockWords
+      → sumAt (M .tail) shift L (slotWords * q + blockWords) (p - r .factor) j < bound64
   taking-sum limit j lt =
       let positive : 0 < p = omega (arith, prime₀ .large) in
       sum-fits p _ limit

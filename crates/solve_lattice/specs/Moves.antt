@@ -6,13 +6,13 @@ use Rattle.modular.specs.Residue.{residues}
 use Rattle.algebra.specs.Polynomial.{Polynomial}
 use Rattle.reduction.specs.Slots.{put}
 use Rattle.reduction.specs.Trace.{State}
-use Rattle.solve_lattice.specs.Room.{blockWords, tailWords, lanes, mostCoefficients}
+use Rattle.solve_lattice.specs.Room.{blockWords, tailWords, lanes, blockDegrees, mostCoefficients}
 use Rattle.solve_lattice.specs.Memory.{row, height, ZeroFrom, slotSize, tailSize, Memory, places, Valid}
 use Rattle.solve_lattice.specs.Holding.{HoldsSlots, HoldsState, Leads}
 
 -- a hand of many degrees meets short tails only, so that the step on the tail has room for all words of the slot's degrees
 abbrev pub ShortTails : Memory → Type 0
-ShortTails M = (q : ℕ) → q < lanes → tailSize (M .level) q + height (M .hand .size) ≤ 137
+ShortTails M = (q : ℕ) → q < lanes → tailSize (M .level) q + height (M .hand .size) ≤ mostCoefficients + blockDegrees
 
 -- the slot at the pivot of the hand is filled and no longer than the hand
 pub record Fits (M : Memory) : Type 0 where

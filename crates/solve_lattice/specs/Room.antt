@@ -55,12 +55,15 @@ combinationProducts = 1088
 abbrev pub lastLane : ℕ
 lastLane = 7
 
--- degrees of a block, the greatest of them, and degrees of a long block
+-- degrees of a block, the greatest of them, degrees of a slot and of a long block
 abbrev pub blockDegrees : ℕ
 blockDegrees = 16
 
 abbrev pub blockDegree : ℕ
 blockDegree = 15
+
+abbrev pub slotDegrees : ℕ
+slotDegrees = 32
 
 abbrev pub productDegrees : ℕ
 productDegrees = 136

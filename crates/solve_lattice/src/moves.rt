@@ -20,6 +20,7 @@ use vector::find_leading;
 ghost use mathlib.Core.Path.{_≡_};
 ghost use Prim.Native.Nat.{ℕ, _+_, _<_, _≤_};
 ghost use lib.ListN.{length, getD};
+ghost use Rattle.modular.specs.Bits.{bound32, bound64};
 ghost use Rattle.residue.specs.Modulus.{ValidModulus};
 ghost use Rattle.vector.specs.Multiple.{sumAt};
 ghost use Rattle.vector.specs.Stored.{stored};
@@ -28,9 +29,9 @@ ghost use Rattle.solve_lattice.specs.Moves.{Fits, HasRoom, Stepped, Swap
 
 // Adds c times n words of s from a on to h from d on, by a call only where there are words: many slots have no tail.
 pub fn add_tail(h: &mut [u64], d: usize, s: &[u64], a: usize, n: usize, c: u64)
-    requires { ⌜ (d + n ≤ length (now h)) × (a + n ≤ length (now s)) × (c < 4294967296) ⌝ }
-    requires small { ⌜ ((j : ℕ) → j < n → getD (now s) (a + j) 0 < 4294967296) ⌝ }
-    requires fits { ⌜ ((j : ℕ) → j < n → sumAt (now h) d (now s) a c j < 18446744073709551616) ⌝ }
+    requires { ⌜ (d + n ≤ length (now h)) × (a + n ≤ length (now s)) × (c < bound32) ⌝ }
+    requires small { ⌜ ((j : ℕ) → j < n → getD (now s) (a + j) 0 < bound32) ⌝ }
+    requires fits { ⌜ ((j : ℕ) → j < n → sumAt (now h) d (now s) a c j < bound64) ⌝ }
     ensures { λ _. ⌜ now (h .exit) ≡ stored (sumAt (now (h .entry)) d (now (s .entry)) a c) (now (h .entry)) d n ⌝ }
 {
     if 0 < n {

@@ -31,8 +31,8 @@ module _ {s : System} {ws : List ℕ} {rows columns : ℕ} (H : HasWords s ws ro
   pub few-columns : columns ≤ lanes
   few-columns = subst (λ n. n ≤ lanes) (H .same-columns) (H .within .shape .columns .1)
 
-  -- there are at most 72 polynomials
-  pub few-entries : rows * columns ≤ 64
+  -- there are at most systemPolynomials polynomials
+  pub few-entries : rows * columns ≤ lanes * lanes
   few-entries = mul-le-mul few-rows few-columns
 
   pub words-hold : FramedForSlots systemWidth ws (systemEntries s)

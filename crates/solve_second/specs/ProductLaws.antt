@@ -105,7 +105,7 @@ module _ {p : ℕ} (prime₀ : Prime p) (w : ℕ) (h minus f : List ℕ) (n : �
   }
 
 pub block-multiplied : {p : ℕ} → Prime p → (h minus f : List ℕ) (n : ℕ) (s : List ℕ) (m : ℕ) (t t₁ : List ℕ) → n ≤ blockWords
-    → n ≤ length h → n * lanes + m ≤ 1096 → length t ≡ productWords → AtMost 0 t
+    → n ≤ length h → n * lanes + m ≤ productWords + lanes → length t ≡ productWords → AtMost 0 t
     → minus ≡ stored (λ j. modulo p .neg (getD f j 0 % p)) h 0 n → TakesProduct p lanes t minus 0 1 n s 0 m t₁
     → BlockMultiplied p f n s m t₁
 block-multiplied {p} prime₀ h minus f n s m t t₁ few room fits length-is clear stores T = record {
@@ -117,9 +117,9 @@ block-multiplied {p} prime₀ h minus f n s m t t₁ few room fits length-is cle
 
 -- of one lane, t₁ reduced as far as the product reaches
 module _ {p : ℕ} (prime₀ : Prime p) (h minus f : List ℕ) (n : ℕ) (s : List ℕ) (m : ℕ) (t t₁ t′ : List ℕ) (reach : ℕ)
-    (reach-is : reach ≡ n + m - 1) (room : n ≤ length h) (fits : n + m ≤ 129) (whole : length t ≡ blockWords) (clear : AtMost 0 t)
-    (stores : minus ≡ stored (λ j. modulo p .neg (getD f j 0 % p)) h 0 n) (T : TakesProduct p 1 t minus 0 1 n s 0 m t₁)
-    (reduces : t′ ≡ stored (λ j. getD t₁ j 0 % p) t₁ 0 reach) where
+    (reach-is : reach ≡ n + m - 1) (room : n ≤ length h) (fits : n + m ≤ blockWords + 1) (whole : length t ≡ blockWords)
+    (clear : AtMost 0 t) (stores : minus ≡ stored (λ j. modulo p .neg (getD f j 0 % p)) h 0 n)
+    (T : TakesProduct p 1 t minus 0 1 n s 0 m t₁) (reduces : t′ ≡ stored (λ j. getD t₁ j 0 % p) t₁ 0 reach) where
   inside : reach ≤ length t₁
   inside = omega (arith, T .same-length)
 

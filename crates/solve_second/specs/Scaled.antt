@@ -93,7 +93,7 @@ module _ {p n : ℕ} (small : n ≤ lanes) {L T : Level} {b : List ℕ} (laid : 
       long : size (residues p (has .prime)) x ≡ count
       long = ends-size p (has .prime) (found .ends) nonzero (F .holds)
 
-      filled-room : count * lanes + m ≤ 1096
+      filled-room : count * lanes + m ≤ productWords + lanes
       filled-room = omega (
         arith,
         long,
@@ -107,10 +107,10 @@ module _ {p n : ℕ} (small : n ≤ lanes) {L T : Level} {b : List ℕ} (laid : 
       )
 
     -- w times the right side has at most 136 degrees
-    pub product-room : count * lanes + m ≤ 1096
+    pub product-room : count * lanes + m ≤ productWords + lanes
     product-room = go (ℕ-discrete m 0) (ℕ-discrete count 0)
       where
-        go : Dec (m ≡ 0) → Dec (count ≡ 0) → count * lanes + m ≤ 1096
+        go : Dec (m ≡ 0) → Dec (count ≡ 0) → count * lanes + m ≤ productWords + lanes
         go (yes none) d = omega (arith, found .ends .within)
         go (no some) (yes none) = omega (arith, side-within)
         go (no some) (no many) = filled-room (omega arith) (omega arith)

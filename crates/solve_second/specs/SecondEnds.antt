@@ -22,7 +22,7 @@ use Rattle.solve_lattice.specs.Memory.{Level, ValidLevel}
 use Rattle.solve_lattice.specs.Holding.{HoldsSlots}
 use Rattle.solve_lattice.specs.Range.{words-shorter}
 use Rattle.solve_lattice.specs.Quotients.{HoldsQuotient}
-use Rattle.solve_lattice.specs.Room.{productWords, rowsWords, blockWords, blockDegrees, lanes, mostCoefficients}
+use Rattle.solve_lattice.specs.Room.{productWords, rowsWords, blockWords, blockDegrees, lanes, mostCoefficients, mostDegree}
 use Rattle.solve_second.specs.Greatest.{greatest}
 use Rattle.solve_second.specs.SideInserted.{tops-lower}
 use Rattle.solve_second.specs.SecondDual.{HoldsDual, divided-dual}
@@ -53,7 +53,7 @@ module _ {p n : ℕ} (small : n ≤ lanes) {L : Level} (valid : ValidLevel p L) 
       far e ge = coefficients-beyond (residues p prime) y e (omega arith)
           ∙ sym (words-behind p prime rows (blockWords * k) blockWords e ge)
 
-  module _ (prime : Prime p) (B : ℕ) (U : Slots (Polynomial (residues p prime))) (bound : B ≤ 120)
+  module _ (prime : Prime p) (B : ℕ) (U : Slots (Polynomial (residues p prime))) (bound : B ≤ mostDegree)
       (holds : HoldsSlots p prime n unweighted L U) (tops : Tops (sized (residues p prime)) n B blockDegrees U) where
     F : FoundDenominator p prime n (greatest L n) U w
     F = found .found prime B U holds (tops-lower holds tops)

@@ -37,6 +37,7 @@ use Rattle.solve_lattice.specs.Reading.{holds-filled}
 use Rattle.solve_lattice.specs.Found.{found-ends, found-leading}
 use Rattle.solve_lattice.specs.Insertion.{Starts, Inserts, inserts-inserted}
 use Rattle.solve_lattice.specs.Room.{productWords, blockWords, slotWords, tailWords, blockDegrees, lanes, mostCoefficients}
+use Rattle.solve_lattice.specs.Room.{blockDegree, mostDegree}
 use Rattle.solve_second.specs.Greatest.{greatest, greatest-high}
 use Rattle.solve_second.specs.Laid.{SecondLaid, startingMemory}
 use Rattle.solve_second.specs.Transposed.{transposed-slots, side-held}
@@ -164,16 +165,20 @@ module _ (p : ℕ) (prime : Prime p) {n : ℕ} (small : n ≤ lanes) {L : Level}
     low : (q : ℕ) → q < n → U .size q ≤ blockDegrees
     low q h = omega (arith, holds .size q h, valid .slot q (omega arith) .block .within)
 
-    tops : Tops (sized (residues p prime)) n 241 (greatest L n) U
+    tops : Tops (sized (residues p prime)) n (mostDegree + mostCoefficients) (greatest L n) U
     tops = record {
       filled = holds-filled p prime valid holds;
       tails = λ q h f y. omega (arith, degrees-small, tail-size q h f);
       high = holds-high holds;
     }
       where
-        degrees-small : degrees n (U .size) ≤ 120
+        degrees-small : degrees n (U .size) ≤ mostDegree
         degrees-small =
-            omega (arith, total-le n (λ q. U .size q - 1) (λ q. 15) (λ q h. omega (arith, low q h)), total-constant n 15)
+            omega (
+              arith,
+              total-le n (λ q. U .size q - 1) (λ q. blockDegree) (λ q h. omega (arith, low q h)),
+              total-constant n blockDegree,
+            )
 
         tail-size : (q : ℕ) → q < n → 0 < U .size q → size (residues p prime) (U .at q n) ≤ mostCoefficients
         tail-size q h f = holds-size (residues p prime) (holds .vector q h f .tail) mostCoefficients

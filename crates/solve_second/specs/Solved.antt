@@ -3,7 +3,7 @@ use Prim.Native.Nat.{ℕ, _*_, _<_, _≤_}
 use mathlib.Core.Path.{_≡_}
 use mathlib.Core.List.{List}
 use lib.ListN.{length, getD}
-use Rattle.solve_lattice.specs.Room.{blockWords, blockDegrees}
+use Rattle.solve_lattice.specs.Room.{blockWords, blockDegrees, mostDegree}
 use Rattle.algebra.specs.Polynomial.{Polynomial}
 use Rattle.algebra.specs.Size.{sized}
 use Rattle.algebra.specs.Monic.{Monic}
@@ -21,7 +21,7 @@ use Rattle.solve_lattice.specs.Holding.{HoldsSlots}
 pub record HasTops (p : ℕ) (n : ℕ) (L : Level) : Type 0 where
   pub prime : Prime p
   pub bound : ℕ
-  pub small : bound ≤ 120
+  pub small : bound ≤ mostDegree
   pub slots : Slots (Polynomial (residues p prime))
   pub holds : HoldsSlots p prime n unweighted L slots
   pub tops : Tops (sized (residues p prime)) n bound blockDegrees slots
@@ -40,5 +40,5 @@ pub record SecondSolved (p n : ℕ) (L : Level) (w rows : List ℕ) : Type 0 whe
   pub w-room : length w ≡ blockWords
   pub w-below : (i : ℕ) → getD w i 0 < p
   pub rows-below : (i : ℕ) → getD rows i 0 < p
-  pub solved : (prime : Prime p) (B : ℕ) (U : Slots (Polynomial (residues p prime))) → B ≤ 120
+  pub solved : (prime : Prime p) (B : ℕ) (U : Slots (Polynomial (residues p prime))) → B ≤ mostDegree
       → HoldsSlots p prime n unweighted L U → Tops (sized (residues p prime)) n B blockDegrees U → HoldsSecond p prime n B U w rows

@@ -9,6 +9,7 @@ use lib.Seq.{getD-set-same, getD-set-other}
 use Rattle.vector.specs.Bound.{AtMost}
 use Rattle.solve_lattice.specs.Memory.{height, Level, slotSize, tailSize, slotInverse}
 use Rattle.solve_lattice.specs.Room.{levelWords, inversesFrom, tailSizesFrom, sizesFrom, slotWords, blockDegrees, lanes, lastLane}
+use Rattle.solve_lattice.specs.Room.{slotDegrees}
 use Rattle.solve_second.specs.Greatest.{greatest, greatest-high, greatest-positive}
 use Rattle.solve_second.specs.Words.{when, when-yes, when-no, reversed, lift, blockWord, transposedSize, transposedWord}
 use Rattle.solve_second.specs.Words.{size-beyond, size-empty, size-filled}
@@ -53,13 +54,14 @@ turn-slot x k i hi turn = go (lastLane - x % lanes) (x / slotWords) (omega arith
 turn-lane : (x k i : ℕ) → i < lanes → transposeRank x ≡ lanes * k + i → lastLane - x % lanes ≡ i
 turn-lane x k i hi turn = omega (arith, turn-slot x k i hi turn)
 
-place-turn : (x k i d : ℕ) → i < lanes → d < 32 → x ≡ slotWords * k + (lastLane - i) + lanes * d → transposeRank x ≡ lanes * k + i
+place-turn : (x k i d : ℕ) → i < lanes → d < slotDegrees → x ≡ slotWords * k + (lastLane - i) + lanes * d
+    → transposeRank x ≡ lanes * k + i
 place-turn x k i d hi hd place =
     let slot : x / slotWords ≡ k = omega arith in
     let lane : x % lanes ≡ lastLane - i = omega arith in
     omega arith
 
-past-lane : (x k i l e : ℕ) → i < lanes → l + e < 32 → l + e < x % slotWords / lanes
+past-lane : (x k i l e : ℕ) → i < lanes → l + e < slotDegrees → l + e < x % slotWords / lanes
     → ¬ (x ≡ slotWords * k + (lastLane - i) + lanes * l + lanes * e)
 past-lane x k i l e hi small past same = omega arith
 
@@ -74,13 +76,13 @@ module _ (L : Level) (n : ℕ) where
   pub slots-end : {T : Level} → SlotsSoFar L n T n → n ≤ lanes → SlotsLaid n L T
   slots-end {T} so-far small = record {
     room = so-far .room;
-    words = filling-end (filling-skip (so-far .words) 64 (omega arith) rest) (λ x h. omega arith);
+    words = filling-end (filling-skip (so-far .words) (lanes * lanes) (omega arith) rest) (λ x h. omega arith);
     sizes = λ k h. so-far .sizes k h ∙ size k (decLt k n);
     tails = so-far .tails;
     inverses = so-far .inverses;
   }
     where
-      rest : (x : ℕ) → x < sizesFrom → lanes * n ≤ transposeRank x → transposeRank x < 64 → transposedWord L n x ≡ 0
+      rest : (x : ℕ) → x < sizesFrom → lanes * n ≤ transposeRank x → transposeRank x < lanes * lanes → transposedWord L n x ≡ 0
       rest x h low high = transposed-beyond L n x
           (λ (g : 0 < transposedSize L n (x / slotWords)). omega
           (arith, size-beyond L n (x / slotWords) (λ (l : x / slotWords < n). omega arith)))
@@ -197,7 +199,7 @@ module _ (L : Level) (n : ℕ) where
           high : height (slotSize L (reversed n i)) ≤ greatest L n
           high = greatest-high L n (reversed n i) (omega arith)
 
-          within : (e : ℕ) → e < height (slotSize L (reversed n i)) → lift L n i + e < 32
+          within : (e : ℕ) → e < height (slotSize L (reversed n i)) → lift L n i + e < slotDegrees
           within e lt = omega (arith, high)
 
           beyond : (e : ℕ) → e < height (slotSize L (reversed n i)) → {d : ℕ} → ¬ (d < greatest L n) → lift L n i + e < d

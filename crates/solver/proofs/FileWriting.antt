@@ -7,7 +7,7 @@ use Rattle.words.specs.Limits.{office, longestCertificate}
 use Rattle.words.specs.Outcome.{Outcome}
 use Rattle.words.specs.Outcome.Outcome.{accepted, refused}
 use Rattle.words.specs.OutcomeLaws.{refused-accepted}
-use Rattle.words.specs.Bytes.{bytesOf}
+use Rattle.words.specs.Bytes.{bytesOf, wordBytes}
 use Rattle.words.specs.BytesLaws.{length-bytesOf}
 use Rattle.words.specs.System.{System, readSystem}
 use Rattle.words.specs.Certificate.{certificateWords}
@@ -20,7 +20,7 @@ module _ {s : System} {count : ℕ} {entry exit : List ℕ} (G : Gives office ce
   C = G .given
 
   pub gives-bytes : (lent after : List ℕ) → after ≡ overwritten (bytesOf (take count exit)) lent
-      → Gives office certificateBytes s lent after (4 * count)
+      → Gives office certificateBytes s lent after (wordBytes * count)
   unfolding certificateBytes
   gives-bytes lent after is = record {
     given = record {
@@ -29,7 +29,7 @@ module _ {s : System} {count : ℕ} {entry exit : List ℕ} (G : Gives office ce
       right = C .right;
       answers = C .answers;
       words = is ∙ ap (λ l. overwritten (bytesOf l) lent) (gives-words C);
-      same-count = ap (λ n. 4 * n) (C .same-count) ∙ sym (length-bytesOf (certificateWords (C .certificate)));
+      same-count = ap (λ n. wordBytes * n) (C .same-count) ∙ sym (length-bytesOf (certificateWords (C .certificate)));
     };
     chosen = G .chosen;
   }

@@ -14,7 +14,7 @@ use Rattle.words.specs.Outcome.Outcome.{accepted, refused}
 use Rattle.words.specs.OutcomeLaws.{refused-accepted}
 use Rattle.words.specs.RefusedLaws.{file-place}
 use Rattle.words.specs.System.{System, shape}
-use Rattle.words.specs.Bytes.{readSystemFile}
+use Rattle.words.specs.Bytes.{readSystemFile, wordBytes}
 use Rattle.words.specs.BytesLaws.{length-bytesOf, file-within}
 use Rattle.words.specs.Certificate.{certificateWords}
 use Rattle.words.specs.CertificateLaws.{certificateWords-most}
@@ -35,7 +35,7 @@ room-place most longest lent (accepted s) h number place e = by-room (ltb lent l
 
 module _ (limits : Limits) (fit : LimitsFit limits) (file entry exit : List ℕ) (answer : Outcome ℕ) where
   gives-most : {s : System} {count : ℕ} → readSystemFile limits file ≡ accepted s
-      → GivesRight limits certificateBytes s entry exit count → count ≤ 4 * longestCertificate limits
+      → GivesRight limits certificateBytes s entry exit count → count ≤ wordBytes * longestCertificate limits
   unfolding certificateBytes
   gives-most {s} e G =
       let c = G .certificate in
@@ -44,10 +44,11 @@ module _ (limits : Limits) (fit : LimitsFit limits) (file entry exit : List ℕ)
 
   by-system : (o : Outcome System) → fileToSolve limits (length entry) file ≡ o
       → SolvesOr limits certificateBytes o entry exit answer
-      → AnswerMost (4 * longestCertificate limits) (longestSystem limits) answer
+      → AnswerMost (wordBytes * longestCertificate limits) (longestSystem limits) answer
   unfolding SolvesOr
   by-system (refused number place) e h =
-      let most = room-place (longestSystem limits) (4 * longestCertificate limits) (length entry) (readSystemFile limits file)
+      let most = room-place (longestSystem limits) (wordBytes * longestCertificate limits) (length entry)
+      (readSystemFile limits file)
       (λ _ _ r. file-place limits file r) number place e in
       record {
         counts = λ n a. absurd (refused-accepted (sym (h .0) ∙ a));
@@ -57,16 +58,16 @@ module _ (limits : Limits) (fit : LimitsFit limits) (file entry exit : List ℕ)
             subst (λ k. k ≤ longestSystem limits) same most;
       }
   by-system (accepted s) e h =
-      let read = room-read (4 * longestCertificate limits) (length entry) (readSystemFile limits file) e in
+      let read = room-read (wordBytes * longestCertificate limits) (length entry) (readSystemFile limits file) e in
       let most = gives-most read (h .2 .given) in
       record {
         counts = λ n a.
             let told = sym (h .1) ∙ a in
             let same : h .0 ≡ n = cc in
-            subst (λ k. k ≤ 4 * longestCertificate limits) same most;
+            subst (λ k. k ≤ wordBytes * longestCertificate limits) same most;
         places = λ number n a. absurd (refused-accepted (sym a ∙ h .1));
       }
 
   pub solves-file-most : SolvesFile limits file entry exit answer
-      → AnswerMost (4 * longestCertificate limits) (longestSystem limits) answer
+      → AnswerMost (wordBytes * longestCertificate limits) (longestSystem limits) answer
   solves-file-most = by-system (fileToSolve limits (length entry) file) refl

@@ -11,7 +11,7 @@ use Rattle.words.specs.Outcome.{Outcome}
 use Rattle.words.specs.Outcome.Outcome.{accepted, refused}
 use Rattle.words.specs.System.{System, SystemWithin, readSystem}
 use Rattle.words.specs.SystemLaws.{system-written-of-read}
-use Rattle.words.specs.Bytes.{bytesOf, readSystemFile}
+use Rattle.words.specs.Bytes.{bytesOf, readSystemFile, wordBytes}
 use Rattle.words.specs.BytesLaws.{length-bytesOf, file-within}
 use Rattle.words.specs.Certificate.{Certificate, certificateWords}
 use Rattle.write_frame.specs.Overwriting.{overwritten}
@@ -143,11 +143,11 @@ module _ (limits : Limits) {s : System} (h : SystemWithin limits s) (room : Suff
   solved-certificate ws is = call-certificate limits h room is certificateWords (longestCertificate limits) entry exit answer
 
   pub file-solved-certificate : (file : List ℕ) → readSystemFile limits file ≡ accepted s
-      → 4 * longestCertificate limits ≤ length entry
+      → wordBytes * longestCertificate limits ≤ length entry
       → SolvesFile limits file entry exit answer
       → GivesWords (certificateBytes (chosenCertificate limits s h room)) entry exit answer
-  file-solved-certificate file is = call-certificate limits h room is certificateBytes (4 * longestCertificate limits) entry exit
-      answer
+  file-solved-certificate file is =
+      call-certificate limits h room is certificateBytes (wordBytes * longestCertificate limits) entry exit answer
 
 -- ---- on words
 
@@ -182,30 +182,32 @@ module _ (limits : Limits) (fit : LimitsFit limits) where
         → SolvesFile limits file entry exit answer → SolvesFile limits file₁ entry exit₁ answer₁
         → (exit ≡ exit₁) × (answer ≡ answer₁)
     file-solves-unique =
-        call-unique limits same (λ s e. file-within limits fit s file e) certificateBytes (4 * longestCertificate limits)
+        call-unique limits same (λ s e. file-within limits fit s file e) certificateBytes (wordBytes * longestCertificate limits)
 
     module _ (x y : Call) (h : SolvesFile limits file (x .entry) (x .exit) (x .answer))
         (h₁ : SolvesFile limits file₁ (y .entry) (y .exit) (y .answer)) where
       pub file-solved-same : SameWords x y
       file-solved-same count count₁ a a₁ =
           let c = one-certificate limits same (λ s e. file-within limits fit s file e) x y
-          certificateBytes certificateBytes (4 * longestCertificate limits) (4 * longestCertificate limits) h h₁ a a₁ in
+          certificateBytes certificateBytes (wordBytes * longestCertificate limits) (wordBytes * longestCertificate limits)
+          h h₁ a a₁ in
           written-same (c .1) (c .2)
 
-      pub file-solved-answer : 4 * longestCertificate limits ≤ length (x .entry) → 4 * longestCertificate limits ≤ length (y .entry)
+      pub file-solved-answer : wordBytes * longestCertificate limits ≤ length (x .entry)
+          → wordBytes * longestCertificate limits ≤ length (y .entry)
           → x .answer ≡ y .answer
       file-solved-answer room room₁ = one-answer limits same (λ s e. file-within limits fit s file e)
-          certificateBytes (4 * longestCertificate limits) x y room room₁ h h₁
+          certificateBytes (wordBytes * longestCertificate limits) x y room room₁ h h₁
 
   -- a file gets the bytes of what its words get
   pub file-solved-words : (x y : Call) (ws file : List ℕ) → readSystemFile limits file ≡ readSystem limits ws
       → Solves limits ws (x .entry) (x .exit) (x .answer) → SolvesFile limits file (y .entry) (y .exit) (y .answer)
       → {count count₁ : ℕ} → x .answer ≡ accepted count → y .answer ≡ accepted count₁
-      → (count₁ ≡ 4 * count) × (take count₁ (y .exit) ≡ bytesOf (take count (x .exit)))
+      → (count₁ ≡ wordBytes * count) × (take count₁ (y .exit) ≡ bytesOf (take count (x .exit)))
   unfolding certificateBytes
   file-solved-words x y ws file same h h₁ a a₁ =
       let c = one-certificate limits (sym same) (words-within ws) x y certificateWords certificateBytes
-      (longestCertificate limits) (4 * longestCertificate limits) h h₁ a a₁ in (
-        c .2 .same-count ∙ length-bytesOf (certificateWords (c .0)) ∙ ap (λ n. 4 * n) (sym (c .1 .same-count)),
+      (longestCertificate limits) (wordBytes * longestCertificate limits) h h₁ a a₁ in (
+        c .2 .same-count ∙ length-bytesOf (certificateWords (c .0)) ∙ ap (λ n. wordBytes * n) (sym (c .1 .same-count)),
         c .2 .words ∙ ap bytesOf (sym (c .1 .words)),
       )

@@ -6,7 +6,7 @@ use mathlib.Core.Path.{_≡_, refl, sym, ap, ap₂, _∙_, subst}
 use mathlib.Core.Logic.{⊎-elim}
 use mathlib.Core.List.{List, _∷_, _++_}
 use lib.ListN.{length, getD, take, drop}
-use Rattle.solve_lattice.specs.Room.{blockWords}
+use Rattle.solve_lattice.specs.Room.{blockWords, mostCoefficients}
 use Rattle.modular.specs.Canonical.{Canonical, LastNonzero}
 use Rattle.modular.specs.Coefficientwise.{coefficient-getD}
 use Rattle.vector.specs.Reduced.{reduced-is, word-inside, word-behind}
@@ -46,24 +46,25 @@ module _ (p : ℕ) (output : List ℕ) (below : AllBelow p output) where
   positive = let b = below 0 in omega arith
 
   module _ (k : ℕ) where
-    word-same : (i : ℕ) → getD (take 121 (drop (blockWords * k) output)) i 0 ≡ getD (polynomialOf output k) i 0
+    word-same : (i : ℕ) → getD (take mostCoefficients (drop (blockWords * k) output)) i 0 ≡ getD (polynomialOf output k) i 0
     word-same i =
-        let most = size-most output (blockWords * k) 121 in
+        let most = size-most output (blockWords * k) mostCoefficients in
         ⊎-elim
-        (λ lt. word-inside output (blockWords * k) 121 i (omega arith)
+        (λ lt. word-inside output (blockWords * k) mostCoefficients i (omega arith)
         ∙ sym (getD-numbersFrom output (blockWords * k) (sizeIn output k) i lt))
         (λ ge.
         ⊎-elim
-        (λ lt. word-inside output (blockWords * k) 121 i lt ∙ size-behind output (blockWords * k) 121 i ge lt)
-        (λ past. word-behind output (blockWords * k) 121 i past)
-        (below-or-not i 121)
+        (λ lt. word-inside output (blockWords * k) mostCoefficients i lt
+        ∙ size-behind output (blockWords * k) mostCoefficients i ge lt)
+        (λ past. word-behind output (blockWords * k) mostCoefficients i past)
+        (below-or-not i mostCoefficients)
         ∙ sym (getD-numbersFrom-behind output (blockWords * k) (sizeIn output k) i ge))
         (below-or-not i (sizeIn output k))
 
     pub taken-is : takenPolynomial p output k ≡ polynomialOf output k
     taken-is =
         reduced-is p positive _ (polynomialOf output k)
-        (numbers-canonical p output (blockWords * k) (sizeIn output k) below (size-last output (blockWords * k) 121))
+        (numbers-canonical p output (blockWords * k) (sizeIn output k) below (size-last output (blockWords * k) mostCoefficients))
         (λ i.
         ap (λ (x : ℕ). x % p) (word-same i)
         ∙ mod-eq-of-lt (numbersFrom-below p output (blockWords * k) (sizeIn output k) below i)

@@ -14,7 +14,7 @@ use Rattle.words.specs.Outcome.Outcome.{accepted, refused}
 use Rattle.words.specs.OutcomeLaws.{refused-accepted, behind-refused-iff}
 use Rattle.words.specs.System.{System, SystemWithin, systemWords, readSystem}
 use Rattle.words.specs.SystemLaws.{system-accepted-iff}
-use Rattle.words.specs.Bytes.{wordsOf, bytesOf, readSystemFile}
+use Rattle.words.specs.Bytes.{wordsOf, bytesOf, readSystemFile, wordBytes}
 use Rattle.words.specs.BytesLaws.{file-accepted-iff}
 use Rattle.words.specs.Certificate.{Certificate, certificateWords}
 use Rattle.words.specs.Table.{ByTable, systemTable}
@@ -86,14 +86,14 @@ module _ (limits : Limits) where
   module _ (file entry exit : List ℕ) (answer : Outcome ℕ) (h : SolvesFile limits file entry exit answer) where
     pub solve-file-refused-iff : LimitsFit limits → Bytes file → (number place : ℕ) → (answer ≡ refused number place)
         ↔ RoomLast (FileRefused limits file) (λ s. (file ≡ bytesOf (systemWords s)) × SystemWithin limits s)
-        (4 * longestCertificate limits) (length entry) number place
+        (wordBytes * longestCertificate limits) (length entry) number place
     solve-file-refused-iff fit small number place =
         let answered = answer-refused-iff certificateBytes _ entry exit answer h number place in
-        let room = room-refused-iff _ _ (4 * longestCertificate limits) (length entry) (readSystemFile limits file)
+        let room = room-refused-iff _ _ (wordBytes * longestCertificate limits) (length entry) (readSystemFile limits file)
         (file-refused-iff limits file) (λ s. file-accepted-iff limits fit s file small) number place in
         (λ e. room .0 (answered .0 e), λ r. answered .1 (room .1 r))
 
     -- 10 at 0, 1 to 9, and 11 at 0
     pub solve-file-rows : RefusesBy (solverFileRows (wordsOf file)) answer
     solve-file-rows = answer-rows certificateBytes _ entry exit answer h
-        (room-rows (4 * longestCertificate limits) (length entry) (readSystemFile limits file) (file-rows limits file))
+        (room-rows (wordBytes * longestCertificate limits) (length entry) (readSystemFile limits file) (file-rows limits file))

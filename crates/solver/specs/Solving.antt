@@ -8,7 +8,7 @@ use Rattle.words.specs.Limits.{Limits, longestCertificate}
 use Rattle.words.specs.Outcome.{Outcome, refuse, followedBy}
 use Rattle.words.specs.Outcome.Outcome.{accepted, refused}
 use Rattle.words.specs.System.{System, shape, readSystem}
-use Rattle.words.specs.Bytes.{bytesOf, readSystemFile}
+use Rattle.words.specs.Bytes.{bytesOf, readSystemFile, wordBytes}
 use Rattle.words.specs.Certificate.{Certificate, CertificateWithin, certificateWords}
 use Rattle.truth.specs.Solution.{Answers}
 use Rattle.truth.specs.Right.{Right}
@@ -58,7 +58,7 @@ Solves limits ws entry exit answer =
 
 -- with 10 before all others; 11 where fewer bytes are lent than the longest certificate's file has
 abbrev pub fileToSolve : Limits → ℕ → List ℕ → Outcome System
-fileToSolve limits lent file = withRoom (4 * longestCertificate limits) lent (readSystemFile limits file)
+fileToSolve limits lent file = withRoom (wordBytes * longestCertificate limits) lent (readSystemFile limits file)
 
 unfoldable pub certificateBytes : Certificate → List ℕ
 unfolding bytesOf certificateWords

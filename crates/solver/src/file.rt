@@ -2,6 +2,7 @@
 use crate::solve;
 use answers::Counted;
 use answers::Refusal;
+use answers::word::WORD_BYTES;
 use limits::Office;
 use reader::file::open_file;
 use writer::file::write_bytes;
@@ -9,16 +10,17 @@ ghost use lib.ListN.{length};
 ghost use Prim.Native.Nat.{_*_};
 ghost use Rattle.words.specs.Limits.{office, longestCertificate};
 ghost use Rattle.words.specs.System.{readSystem};
+ghost use Rattle.words.specs.Bytes.{wordBytes};
 ghost use Rattle.answers.specs.Answer.{countedOutcome};
 ghost use Rattle.solver.specs.Solving.{withRoom, certificateBytes, SolvesOr, SolvesFile};
 
 // The bytes of the longest certificate's file.
-const CERTIFICATE_BYTES: usize = 4 * Office::CERTIFICATE_WORDS;
+const CERTIFICATE_BYTES: usize = WORD_BYTES * Office::CERTIFICATE_WORDS;
 
 // Solves the system of some words: writes its certificate over the first of the lent bytes. Returns the number of its bytes.
 fn solve_to_bytes(bytes: &mut [u8], system: &[u32]) -> Counted
     ensures { λ r. ⌜ SolvesOr office certificateBytes
-        (withRoom (4 * longestCertificate office) (length (now (bytes .entry))) (readSystem office (now (system .entry))))
+        (withRoom (wordBytes * longestCertificate office) (length (now (bytes .entry))) (readSystem office (now (system .entry))))
         (now (bytes .entry)) (now (bytes .exit)) (countedOutcome r) ⌝ }
 {
     let mut words = [0u32; Office::CERTIFICATE_WORDS];
@@ -30,7 +32,7 @@ fn solve_to_bytes(bytes: &mut [u8], system: &[u32]) -> Counted
                 return Counted::Refused(Refusal { number: 11, place });
             }
             write_bytes(bytes, &words[..count]);
-            Counted::Count(4 * count)
+            Counted::Count(WORD_BYTES * count)
         }
         Counted::Refused(refusal) => Counted::Refused(refusal),
     }

@@ -12,11 +12,11 @@ use Rattle.words.specs.Limits.{office, longestSystem}
 use Rattle.words.specs.Outcome.{refuse}
 use Rattle.words.specs.Outcome.Outcome.{refused}
 use Rattle.words.specs.System.{readSystem}
-use Rattle.words.specs.Bytes.{wordsOf, broken, tooLong, readSystemFile}
+use Rattle.words.specs.Bytes.{wordsOf, broken, tooLong, readSystemFile, wordBytes}
 
 -- one byte more than the longest has
 abbrev pub systemSpace : ℕ
-systemSpace = 4 * longestSystem office + 1
+systemSpace = wordBytes * longestSystem office + 1
 
 too-long : (file : List ℕ) → tooLong office file ≡ true → readSystemFile office file ≡ refused 10 0
 unfolding readSystemFile
@@ -33,7 +33,7 @@ start-read file = by (decLt (length file) systemSpace)
     by : Dec (length file < systemSpace) → readSystemFile office (take systemSpace file) ≡ readSystemFile office file
     by (yes h) = ap (readSystemFile office) (take-all systemSpace file (omega arith))
     by (no h) =
-        let limit = 4 * longestSystem office in
+        let limit = wordBytes * longestSystem office in
         let all = length-take-le systemSpace file (omega arith) in
         too-long (take systemSpace file) (lt-ltb limit (length (take systemSpace file)) (omega (arith, all)))
         ∙ sym (too-long file (lt-ltb limit (length file) (omega arith)))

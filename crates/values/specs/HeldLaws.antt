@@ -6,6 +6,7 @@ use Prim.Native.Nat.{ℕ, _*_, _≤_}
 use native.Mathlib.Nat.{le-refl, le-trans, le-of-eq, mul-le-mul-left}
 use native.Mathlib.Omega.{arith}
 use lib.ListN.{length, getD, replicate, length-replicate}
+use Rattle.modular.specs.Bits.{bound16, most16}
 use Rattle.words.specs.Limits.{Limits, systemCount, solutionCount}
 use Rattle.words.specs.LimitsLaws.{LimitsFit, systemCount-most}
 use Rattle.words.specs.Word.{AllBelow}
@@ -89,24 +90,24 @@ module _ (limits : Limits) (fit : LimitsFit limits) (fits : limits .certificateC
 
 -- ---- arrays of zeros as long as those that the writers take
 
--- values stand in arrays of so many numbers, each below 65,536
+-- values stand in arrays of so many numbers, each of 16 bits
 pub record InArrays (sizesCount valuesCount : ℕ) (Stand : List ℕ → List ℕ → Type 0) : Type 0 where
   pub sizes : List ℕ
   pub values : List ℕ
   pub sizes-count : length sizes ≡ sizesCount
   pub values-count : length values ≡ valuesCount
-  pub sizes-below : AllBelow 65536 sizes
-  pub values-below : AllBelow 65536 values
+  pub sizes-below : AllBelow bound16 sizes
+  pub values-below : AllBelow bound16 values
   pub stand : Stand sizes values
 
 held-by : {p limit count most stride : ℕ} (fs : List (List ℕ)) → VectorWithin p limit count fs → limit ≤ stride → count ≤ most
-    → p ≤ 65536 → limit ≤ 65535 → {Stand : List ℕ → List ℕ → Type 0}
+    → p ≤ bound16 → limit ≤ most16 → {Stand : List ℕ → List ℕ → Type 0}
     → Stand (sizesOver fs (replicate most 0)) (laidOver stride fs (replicate (stride * most) 0))
     → InArrays most (stride * most) Stand
 held-by {p} {limit} {count} {most} {stride} fs within apart few small narrow stand =
     let each = all-at p limit fs (within .entries) in
-    let zeros : (n : ℕ) → AllBelow 65536 (replicate n 0) = λ n. below-replicate 65536 n (omega arith) in
-    let short : (k : ℕ) → length (getD fs k []) ≤ 65535 = λ k. le-trans (each k .size) narrow in
+    let zeros : (n : ℕ) → AllBelow bound16 (replicate n 0) = λ n. below-replicate bound16 n (omega arith) in
+    let short : (k : ℕ) → length (getD fs k []) ≤ most16 = λ k. le-trans (each k .size) narrow in
     let room : stride * length fs ≤ stride * most = mul-le-mul-left stride (le-trans (le-of-eq (within .count)) few) in
     record {
       sizes = sizesOver fs (replicate most 0);
@@ -115,9 +116,9 @@ held-by {p} {limit} {count} {most} {stride} fs within apart few small narrow sta
           (omega (arith, within .count, length-replicate {A = ℕ} most 0)) ∙ length-replicate most 0;
       values-count = length-laid stride fs (replicate (stride * most) 0) (λ k. le-trans (each k .size) apart)
           (omega (arith, room, length-replicate {A = ℕ} (stride * most) 0)) ∙ length-replicate (stride * most) 0;
-      sizes-below = below-sizes 65536 fs (replicate most 0) (λ k. omega (arith, short k)) (zeros most);
-      values-below = below-laid 65536 stride fs (replicate (stride * most) 0)
-          (λ k. canonical-below p 65536 small (omega arith) (getD fs k []) (each k .canonical)) (zeros (stride * most));
+      sizes-below = below-sizes bound16 fs (replicate most 0) (λ k. omega (arith, short k)) (zeros most);
+      values-below = below-laid bound16 stride fs (replicate (stride * most) 0)
+          (λ k. canonical-below p bound16 small (omega arith) (getD fs k []) (each k .canonical)) (zeros (stride * most));
       stand = stand;
     }
 

@@ -4,11 +4,12 @@ use mathlib.Core.List.{List}
 use Prim.Native.Nat.{ℕ, _≤_, _<_}
 use Rattle.words.specs.Polynomial.{VectorWithin}
 use Rattle.words.specs.Frame.{framedWords}
+use Rattle.words.specs.Word.{payloadBound}
 
 pub record HoldsEntries (limit count : ℕ) (ws : List ℕ) (fs : List (List ℕ)) : Type 0 where
   pub head : ℕ
   pub words : ws ≡ framedWords head fs
   pub modulus : ℕ
-  pub small : modulus ≤ 268435456
+  pub small : modulus ≤ payloadBound
   pub within : VectorWithin modulus limit count fs
-  pub narrow : limit < 268435456
+  pub narrow : limit < payloadBound

@@ -6,12 +6,12 @@ use native.Mathlib.Nat.{add-zero, add-assoc}
 use native.Mathlib.Omega.{arith}
 use lib.ListN.{getD}
 use Rattle.vector.specs.Sum.{sumAt, SumFits, SumsFit, each-fits}
-use Rattle.vector.specs.RowStored.{rowStored}
+use Rattle.vector.specs.RowStored.{rowStored, rowWords}
 use Rattle.vector.specs.Stored.{stored}
 use Rattle.vector.proofs.Storing.{Storing, storing-later, storing-reads, storing-row}
 
 -- a row of eight, and eight words stored
-row-is-stored : (f : ℕ → ℕ) (l : List ℕ) (d : ℕ) → rowStored f l d ≡ stored f l d 8
+row-is-stored : (f : ℕ → ℕ) (l : List ℕ) (d : ℕ) → rowStored f l d ≡ stored f l d rowWords
 unfolding stored
 row-is-stored f l d = simp (add-zero, add-assoc)
 
@@ -48,8 +48,8 @@ module _
           (λ i lt. rw add-assoc (given .1 .0 (j + i) (omega arith)), λ i lt. rw (row-sum i) (given .1 .1 (j + i) (omega arith))),
         )
 
-    pub row-stored : (w′ : List ℕ) → j + 8 ≤ n → w′ ≡ rowStored (sumAt w (d + j) s (a + j) c) w (d + j)
-        → Storing (sumAt h d s a c) h d n w′ (j + 8)
+    pub row-stored : (w′ : List ℕ) → j + rowWords ≤ n → w′ ≡ rowStored (sumAt w (d + j) s (a + j) c) w (d + j)
+        → Storing (sumAt h d s a c) h d n w′ (j + rowWords)
     row-stored w′ within e =
         let sum = sumAt w (d + j) s (a + j) c in
-        storing-row so-far sum 8 w′ within (λ i lt. row-sum i) (e ∙ row-is-stored sum w (d + j))
+        storing-row so-far sum rowWords w′ within (λ i lt. row-sum i) (e ∙ row-is-stored sum w (d + j))

@@ -9,6 +9,7 @@ use lib.Bits.{bitOr, or-add-and, and-le-l, and-le-r}
 use Rattle.vector.specs.Or.{orTo}
 use Rattle.vector.specs.Reduced.{reduced, residue-same}
 use Rattle.vector.specs.Size.{reduced-take-zero}
+use Rattle.vector.specs.RowStored.{rowWords}
 
 or-zero : (x y : ℕ) → bitOr x y ≡ 0 → (x ≡ 0) × (y ≡ 0)
 or-zero x y e = (omega (arith, or-add-and x y, and-le-r x y), omega (arith, or-add-and x y, and-le-l x y))
@@ -26,7 +27,7 @@ module _ (p : ℕ) (l : List ℕ) where
       ∙ reduced-take-or (a + suc n) a n (omega arith) (omega arith) (parts .0)
 
   -- the last eight words are, from a on
-  pub reduced-take-row : (k a : ℕ) → k ≡ a + 8 → k ≤ length l → bitOr (orTo l a 3) (orTo l (a + 4) 3) ≡ 0
+  pub reduced-take-row : (k a : ℕ) → k ≡ a + rowWords → k ≤ length l → bitOr (orTo l a 3) (orTo l (a + 4) 3) ≡ 0
       → reduced p (take k l) ≡ reduced p (take a l)
   reduced-take-row k a next inside e =
       let parts = or-zero (orTo l a 3) (orTo l (a + 4) 3) e in

@@ -5,6 +5,7 @@ use Prim.Native.Nat.{ℕ, _+_, _*_, _≤_, _<_}
 use native.Mathlib.Nat.{add-assoc}
 use native.Mathlib.Omega.{arith}
 use lib.ListN.{length, getD}
+use Rattle.modular.specs.Bits.{bound32, bound64}
 
 -- the word of h at d + j plus c times the word of s at a + j
 abbrev pub sumAt : List ℕ → ℕ → List ℕ → ℕ → ℕ → ℕ → ℕ
@@ -21,15 +22,15 @@ sum-later h d s a c j i =
 -- the sum at j fits
 abbrev pub SumFits : List ℕ → ℕ → List ℕ → ℕ → ℕ → ℕ → Type 0
 SumFits h d s a c j =
-    ((d + j < length h) × (a + j < length s) × (c < 4294967296) × (getD s (a + j) 0 < 4294967296))
-    × (sumAt h d s a c j < 18446744073709551616)
+    ((d + j < length h) × (a + j < length s) × (c < bound32) × (getD s (a + j) 0 < bound32))
+    × (sumAt h d s a c j < bound64)
 
 -- the sums of n words fit
 abbrev pub SumsFit : List ℕ → ℕ → List ℕ → ℕ → ℕ → ℕ → Type 0
 SumsFit h d s a n c =
-    ((d + n ≤ length h) × (a + n ≤ length s) × (c < 4294967296))
-    × (((j : ℕ) → j < n → getD s (a + j) 0 < 4294967296)
-    × ((j : ℕ) → j < n → sumAt h d s a c j < 18446744073709551616))
+    ((d + n ≤ length h) × (a + n ≤ length s) × (c < bound32))
+    × (((j : ℕ) → j < n → getD s (a + j) 0 < bound32)
+    × ((j : ℕ) → j < n → sumAt h d s a c j < bound64))
 
 module _ (h : List ℕ) (d : ℕ) (s : List ℕ) (a n c : ℕ) (given : SumsFit h d s a n c) where
   pub each-fits : (j : ℕ) → j < n → SumFits h d s a c j

@@ -8,6 +8,7 @@ ghost use Rattle.residue.specs.Modulus.{ValidModulus};
 ghost use Rattle.vector.specs.Bound.{Reducible};
 ghost use Rattle.vector.specs.Reduced.{polynomial};
 use crate::or::or_of_row;
+use crate::sum::ROW_WORDS;
 use residue::modulus::Modulus;
 
 // The number of a polynomial's coefficients, and the last of them; both 0 for the zero polynomial.
@@ -26,8 +27,8 @@ pub fn find_leading(h: &[u64], n: usize, modulus: Modulus) -> Leading
 {
     let mut k = n;
     // the last word first: where it is not 0, the row need not be read
-    while 8 <= k && h[k - 1] == 0 && or_of_row(h, k - 8) == 0 {
-        k -= 8;
+    while ROW_WORDS <= k && h[k - 1] == 0 && or_of_row(h, k - ROW_WORDS) == 0 {
+        k -= ROW_WORDS;
     }
     find_leading_near(h, k, modulus)
 }

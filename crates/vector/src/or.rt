@@ -4,6 +4,7 @@ ghost use Prim.Native.Nat.{_+_, _≤_};
 ghost use lib.ListN.{length};
 ghost use lib.Bits.{bitOr};
 ghost use Rattle.vector.specs.Or.{orTo};
+ghost use Rattle.vector.specs.RowStored.{rowWords};
 
 // Returns h[a] | .. | h[a + 3].
 fn or_of_four(h: &[u64], a: usize) -> u64
@@ -15,7 +16,7 @@ fn or_of_four(h: &[u64], a: usize) -> u64
 
 // Returns h[a] | .. | h[a + 7], as four and four.
 pub fn or_of_row(h: &[u64], a: usize) -> u64
-    requires { ⌜ a + 8 ≤ length (now h) ⌝ }
+    requires { ⌜ a + rowWords ≤ length (now h) ⌝ }
     ensures { λ r. ⌜ r ≡ bitOr (orTo (now (h .entry)) a 3) (orTo (now (h .entry)) (a + 4) 3) ⌝ }
 {
     or_of_four(h, a) | or_of_four(h, a + 4)

@@ -1,9 +1,13 @@
 // hand + c·slot on eight words.
+use residue::modulus::BOUND_32;
 ghost use mathlib.Core.Path.{_≡_};
 ghost use Prim.Native.Nat.{_+_, _≤_};
 ghost use lib.ListN.{length};
 ghost use Rattle.vector.specs.Sum.{sumAt, SumFits, SumsFit};
-ghost use Rattle.vector.specs.RowStored.{fourStored, rowStored};
+ghost use Rattle.vector.specs.RowStored.{fourStored, rowStored, rowWords};
+
+// Words of a row.
+pub const ROW_WORDS: usize = 8;
 
 // Four words.
 pub struct Four {
@@ -19,7 +23,7 @@ pub fn sum_at(h: &[u64], d: usize, s: &[u64], a: usize, c: u64, j: usize) -> u64
     requires { ⌜ SumFits (now h) d (now s) a c j ⌝ }
     ensures { λ r. ⌜ r ≡ sumAt (now (h .entry)) d (now (s .entry)) a c j ⌝ }
 {
-    h[d + j] + c % 4294967296 * (s[a + j] % 4294967296)
+    h[d + j] + c % BOUND_32 * (s[a + j] % BOUND_32)
 }
 
 // Returns h[d + j] + c * s[a + j] for j below 4.
@@ -52,7 +56,7 @@ fn store_four(h: &mut [u64], d: usize, v: Four)
 // Adds c * s[a + j] to h[d + j] for j below 8. All words are read before any is written: so the compiler takes vector instructions
 // with no test whether the ranges overlap.
 pub fn add_row(h: &mut [u64], d: usize, s: &[u64], a: usize, c: u64)
-    requires { ⌜ SumsFit (now h) d (now s) a 8 c ⌝ }
+    requires { ⌜ SumsFit (now h) d (now s) a rowWords c ⌝ }
     ensures { λ _. ⌜ now (h .exit) ≡ rowStored (sumAt (now (h .entry)) d (now (s .entry)) a c) (now (h .entry)) d ⌝ }
 {
     let low = sums_at(h, d, s, a, c);

@@ -9,7 +9,7 @@ use Rattle.words.specs.Limits.{office, longestSystem, longestCertificate}
 use Rattle.words.specs.LimitsLaws.{office-fits}
 use Rattle.words.specs.Outcome.{Outcome, refuse}
 use Rattle.words.specs.Outcome.Outcome.{accepted, refused}
-use Rattle.words.specs.Bytes.{wordsOf, broken}
+use Rattle.words.specs.Bytes.{wordsOf, broken, wordBytes}
 use Rattle.truth.specs.Verdict.{verdict}
 use Rattle.truth.specs.Prefix.{verdict-room}
 use Rattle.reader.specs.Opening.{turnedBack, Opened}
@@ -25,14 +25,15 @@ module _ (bs cs : List ℕ) where
   second-verdict = refuse (turnedBack (length cs) cs) 10 0 (verdict office (wordsOf bs) (wordsOf cs))
 
   -- the system's file, then the certificate's, which has no limit, then the words
-  in-turn : refuse (turnedBack (4 * longestSystem office) bs) 10 0 second-verdict ≡ fileVerdict office bs cs
+  in-turn : refuse (turnedBack (wordBytes * longestSystem office) bs) 10 0 second-verdict ≡ fileVerdict office bs cs
   unfolding fileVerdict
   in-turn =
-      ap (λ b. refuse (turnedBack (4 * longestSystem office) bs) 10 0 (refuse b 10 0 (verdict office (wordsOf bs) (wordsOf cs))))
+      ap (λ b. refuse (turnedBack (wordBytes * longestSystem office) bs) 10 0
+      (refuse b 10 0 (verdict office (wordsOf bs) (wordsOf cs))))
       (unlimited cs)
-      ∙ sym (refuse-or (turnedBack (4 * longestSystem office) bs) (broken cs) (verdict office (wordsOf bs) (wordsOf cs)))
+      ∙ sym (refuse-or (turnedBack (wordBytes * longestSystem office) bs) (broken cs) (verdict office (wordsOf bs) (wordsOf cs)))
 
-  module _ {before after : List ℕ} {told : Outcome ℕ} (first : Opened (4 * longestSystem office) bs before after told) where
+  module _ {before after : List ℕ} {told : Outcome ℕ} (first : Opened (wordBytes * longestSystem office) bs before after told) where
     pub first-refused : {number place : ℕ} → told ≡ refused number place → refused number place ≡ fileVerdict office bs cs
     first-refused e = sym (opened-stops first e second-verdict) ∙ in-turn
 

@@ -50,7 +50,7 @@ module _ {h : Shape} {form : Form} {ws cs : List ℕ} (b : BothRead h form ws cs
   read-shape = rw (b .same-shape) (system-part .1 .shape)
 
   -- there are at most systemPolynomials polynomials
-  pub read-places : h .rows * h .columns ≤ 64
+  pub read-places : h .rows * h .columns ≤ office .rows * office .columns
   read-places = mul-le-mul (read-shape .rows .1) (read-shape .columns .1)
 
   -- ---- what `load` asks

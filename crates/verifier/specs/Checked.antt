@@ -18,7 +18,7 @@ use Rattle.words.specs.OutcomeLaws.{refuse-passed}
 use Rattle.words.specs.System.{System, systemWords}
 use Rattle.words.specs.SystemLaws.{systemWords-most, systemWords-injective}
 use Rattle.words.specs.Certificate.{Certificate, certificateWords}
-use Rattle.words.specs.Bytes.{wordsOf, bytesOf, broken, tooLong}
+use Rattle.words.specs.Bytes.{wordsOf, bytesOf, broken, tooLong, wordBytes}
 use Rattle.words.specs.BytesLaws.{wordsOf-bytesOf, bytesOf-wordsOf, length-bytesOf, or-left, or-right}
 use Rattle.words.specs.Pair.{WrittenPair, WrittenFiles}
 use Rattle.truth.specs.Verdict.{verdict}
@@ -37,7 +37,7 @@ CertifiedFiles limits f g = WrittenFiles limits Certified f g
 pub whole-words : (ws : List ℕ) → broken (bytesOf ws) ≡ false
 whole-words ws =
     let n = length-bytesOf ws in
-    let whole : length (bytesOf ws) % 4 ≡ 0 = omega arith in
+    let whole : length (bytesOf ws) % wordBytes ≡ 0 = omega arith in
     simp (eq-eqb _ _ whole)
 
 module _ (limits : Limits) (fit : LimitsFit limits) {Of : System → Certificate → Type 0} (f g : List ℕ) where
@@ -60,7 +60,7 @@ module _ (limits : Limits) (fit : LimitsFit limits) {Of : System → Certificate
       passed =
           let n = length-bytesOf (systemWords (a .system)) in
           let most = systemWords-most limits fit (a .system) (a .system-within) in
-          let short = le-ltb (4 * longestSystem limits) (length (bytesOf (systemWords (a .system)))) (omega arith) in
+          let short = le-ltb (wordBytes * longestSystem limits) (length (bytesOf (systemWords (a .system)))) (omega arith) in
           let system = whole-words (systemWords (a .system)) in
           let certificate = whole-words (certificateWords (a .certificate)) in
           rw (a .system-file, a .certificate-file) (simp (system, short, certificate))

@@ -12,10 +12,11 @@ use Rattle.words.specs.Limits.{Limits, longestSystem, longestCertificate}
 use Rattle.words.specs.LimitsLaws.{LimitsFit}
 use Rattle.words.specs.Outcome.{refuse}
 use Rattle.words.specs.Outcome.Outcome.{refused}
-use Rattle.words.specs.Bytes.{wordsOf, broken, tooLong}
+use Rattle.words.specs.Bytes.{wordsOf, broken, tooLong, wordBytes}
 use Rattle.words.specs.BytesLaws.{length-wordsOf}
 use Rattle.words.specs.Rows.{checkRows}
 use Rattle.words.specs.RowLaws.{places-below, check-below}
+use Rattle.words.specs.System.{countMost}
 use Rattle.truth.specs.Verdict.{verdict}
 use Rattle.truth.specs.RefusedWords.{words-rows}
 use Rattle.truth.specs.Prefix.{verdict-room}
@@ -23,14 +24,14 @@ use Rattle.answers.specs.Packed.{VerdictMost}
 use Rattle.verifier.specs.File.{fileVerdict}
 
 -- files that pass have few words
-passed-short : (b t : Bool) (most n : ℕ) → ltb (4 * most) n ≡ t → b || t ≡ false → n / 4 ≤ most
+passed-short : (b t : Bool) (most n : ℕ) → ltb (wordBytes * most) n ≡ t → b || t ≡ false → n / wordBytes ≤ most
 passed-short true t most n e h = absurd (let z : _≡_ {A = ℕ} 0 1 = cc in omega arith)
 passed-short false true most n e h = absurd (let z : _≡_ {A = ℕ} 0 1 = cc in omega arith)
-passed-short false false most n e h = omega (arith, ltb-false (4 * most) n e)
+passed-short false false most n e h = omega (arith, ltb-false (wordBytes * most) n e)
 
 module _ (limits : Limits) (fit : LimitsFit limits) (system certificate : List ℕ) (b : ℕ)
     (longest-system : longestSystem limits ≤ b) (longest-certificate : longestCertificate limits + 1 ≤ b)
-    (heads : 15 ≤ b) where
+    (heads : countMost ≤ b) where
   -- as many of the certificate's words as decide
   first-words : List ℕ
   first-words = take (min (length (wordsOf certificate)) (longestCertificate limits + 1)) (wordsOf certificate)

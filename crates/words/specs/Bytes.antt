@@ -4,12 +4,27 @@ use mathlib.Core.Bool.{Bool, not, _||_}
 use mathlib.Core.List.{List, [], _∷_}
 use lib.ListN.{length, getD}
 use lib.Dec.{eqb, ltb}
+use Rattle.modular.specs.Bits.{bound8}
 use Rattle.words.specs.Limits.{Limits, longestSystem}
 use Rattle.words.specs.Outcome.{Outcome, refuse}
 use Rattle.words.specs.System.{System, readSystem}
 
+-- bytes of a word
+abbrev pub wordBytes : ℕ
+wordBytes = 4
+
+-- one more in the second, the third and the fourth byte of a word is so much more
+abbrev pub secondByte : ℕ
+secondByte = 256
+
+abbrev pub thirdByte : ℕ
+thirdByte = 65536
+
+abbrev pub fourthByte : ℕ
+fourthByte = 16777216
+
 abbrev pub wordOf : ℕ → ℕ → ℕ → ℕ → ℕ
-wordOf a b c d = a + b * 256 + c * 65536 + d * 16777216
+wordOf a b c d = a + b * secondByte + c * thirdByte + d * fourthByte
 
 -- the word that starts at a byte
 abbrev pub wordAt : List ℕ → ℕ → ℕ
@@ -25,15 +40,15 @@ wordsOf (a ∷ b ∷ c ∷ d ∷ bytes) = wordOf a b c d ∷ wordsOf bytes
 
 unfoldable pub bytesOf : List ℕ → List ℕ
 bytesOf [] = []
-bytesOf (w ∷ ws) = w % 256 ∷ w / 256 % 256 ∷ w / 65536 % 256 ∷ w / 16777216 ∷ bytesOf ws
+bytesOf (w ∷ ws) = w % bound8 ∷ w / secondByte % bound8 ∷ w / thirdByte % bound8 ∷ w / fourthByte ∷ bytesOf ws
 
 -- 10, first half: bytes not a multiple of four
 abbrev pub broken : List ℕ → Bool
-broken bytes = not (eqb (length bytes % 4) 0)
+broken bytes = not (eqb (length bytes % wordBytes) 0)
 
 -- 10, second half: over 4,904
 abbrev pub tooLong : Limits → List ℕ → Bool
-tooLong limits bytes = ltb (4 * longestSystem limits) (length bytes)
+tooLong limits bytes = ltb (wordBytes * longestSystem limits) (length bytes)
 
 -- a file: "Number 10 comes before all others."
 unfoldable pub readSystemFile : Limits → List ℕ → Outcome System

@@ -7,16 +7,18 @@ use Prim.Native.Nat.{ℕ, zero, suc, _+_, _*_, _/_, _%_, _≤_, _<_}
 use native.Mathlib.Omega.{arith}
 use lib.ListN.{length, getD}
 use borrow.Author.Tests.{eq-eqb, ne-eqb, eqb-true, lt-ltb, le-ltb, not-false}
+use Rattle.modular.specs.Bits.{bound8}
 use Rattle.words.specs.Limits.{Limits, longestSystem}
 use Rattle.words.specs.Word.{Bytes}
 use Rattle.words.specs.Outcome.Outcome.{accepted, refused}
 use Rattle.words.specs.System.{System, SystemWithin, systemWords, readSystem}
-use Rattle.words.specs.Bytes.{wordOf, wordAt, wordsOf, bytesOf, broken, tooLong, readSystemFile}
+use Rattle.words.specs.Bytes.{wordOf, wordAt, wordsOf, bytesOf, broken, tooLong, readSystemFile, wordBytes}
+use Rattle.words.specs.Bytes.{secondByte, thirdByte, fourthByte}
 use Rattle.words.specs.OutcomeLaws.{refuse-passed}
 use Rattle.words.specs.LimitsLaws.{LimitsFit}
 use Rattle.words.specs.SystemLaws.{system-read-of-written, system-written-of-read, systemWords-most}
 
-pub length-wordsOf : (bytes : List ℕ) → length (wordsOf bytes) ≡ length bytes / 4
+pub length-wordsOf : (bytes : List ℕ) → length (wordsOf bytes) ≡ length bytes / wordBytes
 unfolding wordsOf
 length-wordsOf [] = refl
 length-wordsOf (a ∷ []) = refl
@@ -25,7 +27,7 @@ length-wordsOf (a ∷ b ∷ c ∷ []) = refl
 length-wordsOf (a ∷ b ∷ c ∷ d ∷ bytes) = let ih = length-wordsOf bytes in omega arith
 
 -- word i starts at byte 4·i
-pub wordsOf-at : (bytes : List ℕ) (i : ℕ) → i < length bytes / 4 → getD (wordsOf bytes) i 0 ≡ wordAt bytes (4 * i)
+pub wordsOf-at : (bytes : List ℕ) (i : ℕ) → i < length bytes / wordBytes → getD (wordsOf bytes) i 0 ≡ wordAt bytes (wordBytes * i)
 unfolding wordsOf
 wordsOf-at [] i h = absurd (omega arith)
 wordsOf-at (a ∷ []) i h = absurd (omega arith)
@@ -33,11 +35,11 @@ wordsOf-at (a ∷ b ∷ []) i h = absurd (omega arith)
 wordsOf-at (a ∷ b ∷ c ∷ []) i h = absurd (omega arith)
 wordsOf-at (a ∷ b ∷ c ∷ d ∷ bytes) zero h = refl
 wordsOf-at (a ∷ b ∷ c ∷ d ∷ bytes) (suc i) h =
-    let step : (k : ℕ) → 4 * suc i + k ≡ suc (suc (suc (suc (4 * i + k)))) = λ k. omega arith in
-    let first : 4 * suc i ≡ suc (suc (suc (suc (4 * i)))) = omega arith in
+    let step : (k : ℕ) → wordBytes * suc i + k ≡ suc (suc (suc (suc (wordBytes * i + k)))) = λ k. omega arith in
+    let first : wordBytes * suc i ≡ suc (suc (suc (suc (wordBytes * i)))) = omega arith in
     wordsOf-at bytes i (omega arith) ∙ sym (rw (step 1, step 2, step 3, first) refl)
 
-pub length-bytesOf : (ws : List ℕ) → length (bytesOf ws) ≡ 4 * length ws
+pub length-bytesOf : (ws : List ℕ) → length (bytesOf ws) ≡ wordBytes * length ws
 unfolding bytesOf
 length-bytesOf [] = refl
 length-bytesOf (w ∷ ws) = let ih = length-bytesOf ws in omega arith
@@ -48,10 +50,10 @@ wordsOf-bytesOf [] = refl
 wordsOf-bytesOf (w ∷ ws) = ap₂ (λ (v : ℕ) (vs : List ℕ). v ∷ vs) (omega arith) (wordsOf-bytesOf ws)
 
 -- the lowest byte, and what is above it
-low : (a x : ℕ) → a < 256 → (a + x * 256) % 256 ≡ a
+low : (a x : ℕ) → a < bound8 → (a + x * bound8) % bound8 ≡ a
 low a x h = omega arith
 
-pub bytesOf-wordsOf : (bytes : List ℕ) → Bytes bytes → length bytes % 4 ≡ 0 → bytesOf (wordsOf bytes) ≡ bytes
+pub bytesOf-wordsOf : (bytes : List ℕ) → Bytes bytes → length bytes % wordBytes ≡ 0 → bytesOf (wordsOf bytes) ≡ bytes
 unfolding wordsOf bytesOf
 bytesOf-wordsOf [] h e = refl
 bytesOf-wordsOf (a ∷ []) h e = absurd (omega arith)
@@ -62,27 +64,29 @@ bytesOf-wordsOf (a ∷ b ∷ c ∷ d ∷ bytes) h e =
     let hb = h 1 in
     let hc = h 2 in
     let w : ℕ = wordOf a b c d in
-    let ea : w % 256 ≡ a = omega arith in
-    let qb : w / 256 ≡ b + (c + d * 256) * 256 = omega arith in
-    let eb : w / 256 % 256 ≡ b = ap (λ (q : ℕ). q % 256) qb ∙ low b (c + d * 256) hb in
-    let qc : w / 65536 ≡ c + d * 256 = omega arith in
-    let ec : w / 65536 % 256 ≡ c = ap (λ (q : ℕ). q % 256) qc ∙ low c d hc in
-    let ed : w / 16777216 ≡ d = omega arith in
+    let ea : w % bound8 ≡ a = omega arith in
+    let qb : w / secondByte ≡ b + (c + d * bound8) * bound8 = omega arith in
+    let eb : w / secondByte % bound8 ≡ b = ap (λ (q : ℕ). q % bound8) qb ∙ low b (c + d * bound8) hb in
+    let qc : w / thirdByte ≡ c + d * bound8 = omega arith in
+    let ec : w / thirdByte % bound8 ≡ c = ap (λ (q : ℕ). q % bound8) qc ∙ low c d hc in
+    let ed : w / fourthByte ≡ d = omega arith in
     let ih = bytesOf-wordsOf bytes (λ i. h (suc (suc (suc (suc i))))) (omega arith) in
     cc
 
 -- ---- files
 
-pub file-broken : (limits : Limits) (bytes : List ℕ) → (length bytes % 4 ≡ 0 → ⊥) → readSystemFile limits bytes ≡ refused 10 0
+pub file-broken : (limits : Limits) (bytes : List ℕ) → (length bytes % wordBytes ≡ 0 → ⊥)
+    → readSystemFile limits bytes ≡ refused 10 0
 unfolding readSystemFile
 file-broken limits bytes h = simp (ne-eqb _ _ h)
 
-pub file-long : (limits : Limits) (bytes : List ℕ) → length bytes % 4 ≡ 0 → 4 * longestSystem limits < length bytes
+pub file-long : (limits : Limits) (bytes : List ℕ) → length bytes % wordBytes ≡ 0 → wordBytes * longestSystem limits < length bytes
     → readSystemFile limits bytes ≡ refused 10 0
 unfolding readSystemFile
 file-long limits bytes h k = simp (eq-eqb _ _ h, lt-ltb _ _ k)
 
-pub file-passed : (limits : Limits) (bytes : List ℕ) → length bytes % 4 ≡ 0 → length bytes ≤ 4 * longestSystem limits
+pub file-passed : (limits : Limits) (bytes : List ℕ) → length bytes % wordBytes ≡ 0
+    → length bytes ≤ wordBytes * longestSystem limits
     → readSystemFile limits bytes ≡ readSystem limits (wordsOf bytes)
 unfolding readSystemFile
 file-passed limits bytes h k = simp (eq-eqb _ _ h, le-ltb _ _ k)

@@ -9,7 +9,7 @@ use native.Mathlib.Omega.{arith}
 use lib.ListN.{length}
 use lib.Dec.{eqb, ltb}
 use borrow.Author.Tests.{eq-eqb, lt-leb, le-ltb, ltb-false}
-use Rattle.words.specs.Word.{kind, payload, word}
+use Rattle.words.specs.Word.{kind, payload, word, payloadBound}
 use Rattle.words.specs.WordLaws.{kind-word, payload-word}
 use Rattle.words.specs.Table.{Expected, HeadTable, tableRow, polynomialsDue, coefficientsDue, numberAt, missingAt, after}
 use Rattle.words.specs.Table.{dueAfter}
@@ -26,18 +26,18 @@ row-none false number below h = (refl, h)
 
 unfoldable pub Room : ℕ → Expected → Type 0
 Room before head = ⊥
-Room before (start p limit left) = (2 ≤ p) × (before + suc left * (1 + limit) + 1 < 268435456)
-Room before (coefficient p limit more left) = (2 ≤ p) × (before + suc more + left * (1 + limit) + 1 < 268435456)
-Room before end = before + 1 < 268435456
+Room before (start p limit left) = (2 ≤ p) × (before + suc left * (1 + limit) + 1 < payloadBound)
+Room before (coefficient p limit more left) = (2 ≤ p) × (before + suc more + left * (1 + limit) + 1 < payloadBound)
+Room before end = before + 1 < payloadBound
 Room before nothing = Unit {0}
 
-pub room-polynomials : (before p limit left : ℕ) → 2 ≤ p → before + left * (1 + limit) + 1 < 268435456
+pub room-polynomials : (before p limit left : ℕ) → 2 ≤ p → before + left * (1 + limit) + 1 < payloadBound
     → Room before (polynomialsDue p limit left)
 unfolding Room polynomialsDue
 room-polynomials before p limit zero two h = omega arith
 room-polynomials before p limit (suc left) two h = (two, h)
 
-room-coefficients : (before p limit more left : ℕ) → 2 ≤ p → before + more + left * (1 + limit) + 1 < 268435456
+room-coefficients : (before p limit more left : ℕ) → 2 ≤ p → before + more + left * (1 + limit) + 1 < payloadBound
     → Room before (coefficientsDue p limit more left)
 unfolding Room coefficientsDue
 room-coefficients before p limit zero left two h = room-polynomials before p limit left two (omega arith)
@@ -90,7 +90,7 @@ module _ (T : HeadTable) (by : ℕ) where
       completed-word before end (word 4 (suc before)) (simp (eq-eqb _ _ k, eq-eqb _ _ x)) (complete-nothing (suc before))
 
   -- zero polynomials
-  complete-polynomials : (before p limit left : ℕ) → before + left * (1 + limit) + 1 < 268435456
+  complete-polynomials : (before p limit left : ℕ) → before + left * (1 + limit) + 1 < payloadBound
       → Completed before (polynomialsDue p limit left)
   unfolding Room polynomialsDue coefficientsDue numberAt after
   complete-polynomials before p limit zero h = complete-end before (omega arith)
@@ -99,7 +99,7 @@ module _ (T : HeadTable) (by : ℕ) where
       (complete-polynomials (suc before) p limit left (omega arith))
 
   -- coefficients 1
-  complete-coefficients : (before p limit more left : ℕ) → 2 ≤ p → before + more + left * (1 + limit) + 1 < 268435456
+  complete-coefficients : (before p limit more left : ℕ) → 2 ≤ p → before + more + left * (1 + limit) + 1 < payloadBound
       → Completed before (coefficientsDue p limit more left)
   unfolding Room coefficientsDue numberAt after
   complete-coefficients before p limit zero left two h = complete-polynomials before p limit left (omega arith)

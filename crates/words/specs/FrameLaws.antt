@@ -8,7 +8,7 @@ use lib.ListN.{length, length-append}
 use lib.Dec.{eqb}
 use borrow.Author.Tests.{eq-eqb, eqb-true, not-false}
 use Rattle.words.specs.Limits.{wordsFor}
-use Rattle.words.specs.Word.{kind, payload, word}
+use Rattle.words.specs.Word.{kind, payload, word, payloadBound}
 use Rattle.words.specs.Reading.{Reading, renumber}
 use Rattle.words.specs.Reading.Reading.{read}
 use Rattle.words.specs.Polynomial.{VectorWithin, polynomialsWords, polynomialsFrom}
@@ -19,7 +19,7 @@ use Rattle.words.specs.PolynomialLaws.{polynomials-written, polynomials-
 
 -- ---- the end
 
-end-written : (total : ℕ) → total < 268435456 → endFrom total (word 4 total ∷ []) ≡ read tt []
+end-written : (total : ℕ) → total < payloadBound → endFrom total (word 4 total ∷ []) ≡ read tt []
 unfolding endFrom
 end-written total h =
     let x : payload (word 4 total) ≡ total - 0 = omega arith in
@@ -44,15 +44,15 @@ end-read total (w ∷ v ∷ ws) u rest e =
 
 -- what is due can be written: numbers fit into payloads, the count of all words into the end word
 pub record Expressible (due : Due) : Type 0 where
-  pub modulus : due .modulus ≤ 268435456
-  pub limit : due .limit < 268435456
-  pub words : wordsFor (due .count) (due .limit) < 268435456
+  pub modulus : due .modulus ≤ payloadBound
+  pub limit : due .limit < payloadBound
+  pub words : wordsFor (due .count) (due .limit) < payloadBound
 
 -- polynomials that are what is due
 abbrev pub Entries : Due → List (List ℕ) → Type 0
 Entries due fs = VectorWithin (due .modulus) (due .limit) (due .count) fs
 
-body-written : (due : Due) (total : ℕ) → Expressible due → total < 268435456 → (fs : List (List ℕ)) → Entries due fs
+body-written : (due : Due) (total : ℕ) → Expressible due → total < payloadBound → (fs : List (List ℕ)) → Entries due fs
     → bodyFrom due total (polynomialsWords fs ++ word 4 total ∷ []) ≡ read fs []
 unfolding bodyFrom
 body-written due total x small fs h =

@@ -2,13 +2,16 @@
 use Prim.Native.Nat.{ℕ, _+_, _≤_, _<_}
 use native.Mathlib.Nat.{mul-le-mul}
 use native.Mathlib.Omega.{arith}
+use Rattle.modular.specs.Bits.{bound16, most16}
 use Rattle.words.specs.Limits.{Limits, office, panel, systemCount, wordsFor}
+use Rattle.words.specs.Word.{payloadBound}
+use Rattle.words.specs.System.{countMost}
 
 pub record LimitsFit (limits : Limits) : Type 0 where
-  pub rows : limits .rows ≤ 15
-  pub columns : limits .columns ≤ 15
-  pub systemCoefficients : limits .systemCoefficients ≤ 65535
-  pub certificateCoefficients : limits .certificateCoefficients ≤ 65535
+  pub rows : limits .rows ≤ countMost
+  pub columns : limits .columns ≤ countMost
+  pub systemCoefficients : limits .systemCoefficients ≤ most16
+  pub certificateCoefficients : limits .certificateCoefficients ≤ most16
 
 pub office-fits : LimitsFit office
 office-fits =
@@ -25,8 +28,9 @@ systemCount-most h k = omega (arith, mul-le-mul h k)
 pub wordsFor-most : {count most : ℕ} (coefficients : ℕ) → count ≤ most → wordsFor count coefficients ≤ wordsFor most coefficients
 wordsFor-most {count} {most} coefficients h = omega (arith, mul-le-mul h (native.Mathlib.Nat.le-refl (1 + coefficients)))
 
--- a system or a certificate of at most 240 polynomials has its count of words in the end word
-pub wordsFor-small : {count coefficients : ℕ} → count ≤ 240 → coefficients ≤ 65535 → wordsFor count coefficients < 268435456
+-- a system or a certificate of no more polynomials than a head can ask for has its count of words in the end word
+pub wordsFor-small : {count coefficients : ℕ} → count ≤ systemCount countMost countMost → coefficients ≤ most16
+    → wordsFor count coefficients < payloadBound
 wordsFor-small {count} {coefficients} h k =
-    let k′ : 1 + coefficients ≤ 65536 = omega arith in
+    let k′ : 1 + coefficients ≤ bound16 = omega arith in
     omega (arith, mul-le-mul h k′)

@@ -7,7 +7,7 @@ use native.Mathlib.Omega.{arith}
 use lib.ListN.{length, getD, take, drop, length-append}
 use lib.Seq.{drop-at, drop-drop}
 use Rattle.modular.specs.Canonical.{Canonical}
-use Rattle.words.specs.Word.{payload, word}
+use Rattle.words.specs.Word.{payload, word, payloadBound}
 use Rattle.words.specs.WordLaws.{payload-word}
 use Rattle.words.specs.Polynomial.{polynomialWords, polynomialsWords}
 use Rattle.words.specs.Frame.{endWord, framedWords, entryPlace}
@@ -63,24 +63,24 @@ entryPlace-next fs k h = omega (arith, length-take-next k fs h, length-polynomia
 -- ---- values
 
 -- the count in a start word, and coefficient i in the word i + 1 behind it
-pub count-at : (f rest : List ℕ) → length f < 268435456 → payload (getD (polynomialWords f ++ rest) 0 0) ≡ length f
+pub count-at : (f rest : List ℕ) → length f < payloadBound → payload (getD (polynomialWords f ++ rest) 0 0) ≡ length f
 unfolding polynomialWords
 count-at f rest h = omega arith
 
-coefficient-in : (p : ℕ) → p ≤ 268435456 → (f rest : List ℕ) → Canonical p f → (i : ℕ) → i < length f
+coefficient-in : (p : ℕ) → p ≤ payloadBound → (f rest : List ℕ) → Canonical p f → (i : ℕ) → i < length f
     → payload (getD (map (word 3) f ++ rest) i 0) ≡ getD f i 0
 unfolding Canonical
 coefficient-in p small [] rest h i l = absurd (omega arith)
 coefficient-in p small (a ∷ f) rest h zero l = let b = h .0 in omega arith
 coefficient-in p small (a ∷ f) rest h (suc i) l = coefficient-in p small f rest (h .2) i (omega arith)
 
-pub coefficient-at : (p : ℕ) → p ≤ 268435456 → (f rest : List ℕ) → Canonical p f → (i : ℕ) → i < length f
+pub coefficient-at : (p : ℕ) → p ≤ payloadBound → (f rest : List ℕ) → Canonical p f → (i : ℕ) → i < length f
     → payload (getD (polynomialWords f ++ rest) (suc i) 0) ≡ getD f i 0
 unfolding polynomialWords
 coefficient-at p small f rest h i l = coefficient-in p small f rest h i l
 
 -- all coefficients
-pub payloads-of : (p : ℕ) → p ≤ 268435456 → (f : List ℕ) → Canonical p f → map payload (map (word 3) f) ≡ f
+pub payloads-of : (p : ℕ) → p ≤ payloadBound → (f : List ℕ) → Canonical p f → map payload (map (word 3) f) ≡ f
 unfolding Canonical
 payloads-of p small [] h = refl
 payloads-of p small (a ∷ f) h =

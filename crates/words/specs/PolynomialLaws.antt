@@ -8,7 +8,7 @@ use lib.ListN.{length, length-append, length-map}
 use lib.Dec.{eqb, leb, ltb}
 use borrow.Author.Tests.{eqb-false, eq-eqb, ne-eqb, lt-leb, le-ltb, leb-false, ltb-false}
 use Rattle.modular.specs.Canonical.{LastNonzero, Canonical}
-use Rattle.words.specs.Word.{kind, payload, word}
+use Rattle.words.specs.Word.{kind, payload, word, payloadBound}
 use Rattle.words.specs.Reading.{Reading}
 use Rattle.words.specs.Reading.Reading.{read}
 use Rattle.words.specs.Polynomial.{Within, AllWithin, VectorWithin, polynomialWords, polynomialsWords, coefficientsFrom}
@@ -24,7 +24,7 @@ unfolding LastNonzero
 ends-passed a [] h = ne-eqb a 0 (λ e. omega arith)
 ends-passed a (b ∷ f) h = simp (ne-eqb (suc (length f)) 0 (λ e. omega arith))
 
-module _ (p : ℕ) (small : p ≤ 268435456) where
+module _ (p : ℕ) (small : p ≤ payloadBound) where
   coefficients-written : (f : List ℕ) → Canonical p f → (rest : List ℕ)
       → coefficientsFrom p (length f) (map (word 3) f ++ rest) ≡ read f rest
   unfolding Canonical coefficientsFrom
@@ -34,7 +34,7 @@ module _ (p : ℕ) (small : p ≤ 268435456) where
       let x = payload-word 3 a (omega arith) in
       simp (eq-eqb _ _ k, x, lt-leb p a (h .0), ends-passed a f (h .1), coefficients-written f (h .2) rest)
 
-  pub polynomial-written : (limit : ℕ) → limit < 268435456 → (f : List ℕ) → Within p limit f → (rest : List ℕ)
+  pub polynomial-written : (limit : ℕ) → limit < payloadBound → (f : List ℕ) → Within p limit f → (rest : List ℕ)
       → polynomialFrom p limit (polynomialWords f ++ rest) ≡ read f rest
   unfolding polynomialFrom polynomialWords
   polynomial-written limit few f h rest =
@@ -43,7 +43,7 @@ module _ (p : ℕ) (small : p ≤ 268435456) where
       let x = payload-word 2 (length f) (omega arith) in
       simp (eq-eqb _ _ k, x, le-ltb limit (length f) s, coefficients-written f (h .canonical) rest)
 
-  pub polynomials-written : (limit : ℕ) → limit < 268435456 → (fs : List (List ℕ)) → AllWithin p limit fs → (rest : List ℕ)
+  pub polynomials-written : (limit : ℕ) → limit < payloadBound → (fs : List (List ℕ)) → AllWithin p limit fs → (rest : List ℕ)
       → polynomialsFrom p limit (length fs) (polynomialsWords fs ++ rest) ≡ read fs rest
   unfolding polynomialsFrom polynomialsWords AllWithin
   polynomials-written limit few [] h rest = refl

@@ -20,10 +20,11 @@ use Rattle.words.specs.OutcomeLaws.{refuse-refused-iff}
 use Rattle.words.specs.BytesLaws.{length-wordsOf, or-right}
 use Rattle.words.specs.Reading.{Reading, turnBack}
 use Rattle.words.specs.System.{Shape, ShapeWithin, headShape, countsWithin, systemWords, systemHeadFrom, systemDue}
+use Rattle.words.specs.System.{zeroUnit, countBound}
 use Rattle.words.specs.System.{readSystem}
 use Rattle.words.specs.Certificate.{formWhen, certificateHeadFrom, certificateDue, certificateWords, readCertificate}
 use Rattle.words.specs.Certificate.Form.{absent}
-use Rattle.words.specs.Bytes.{wordsOf, broken, tooLong, readSystemFile}
+use Rattle.words.specs.Bytes.{wordsOf, broken, tooLong, readSystemFile, wordBytes}
 use Rattle.words.specs.LimitsLaws.{LimitsFit}
 use Rattle.words.specs.SystemLaws.{systemFormat, system-laws, system-expressible}
 use Rattle.words.specs.CertificateLaws.{certificateFormat, certificate-laws, certificate-expressible}
@@ -55,7 +56,7 @@ system-heads limits =
       value = headShape;
       missing = refl;
       word = λ w ws.
-          row-turned (not (eqb (kind w) 1 && eqb (w / 16777216 % 16) 0)) 1 (w ∷ ws) _ _ _
+          row-turned (not (eqb (kind w) 1 && eqb (w / zeroUnit % countBound) 0)) 1 (w ∷ ws) _ _ _
           (row-turned (not (prime? (headShape w .modulus))) 2 (w ∷ ws) _ _ _
           (row-turned (not (countsWithin limits (headShape w))) 3 (w ∷ ws) _ none _ refl));
       says = λ w. refl;
@@ -75,7 +76,7 @@ certificate-heads limits h =
 system-head-numbers : (limits : Limits) (w n : ℕ) → systemHeadNumber limits w ≡ some n → (1 ≤ n) × (n ≤ 3)
 unfolding systemHeadNumber
 system-head-numbers limits w n h =
-    head-row (not (eqb (kind w) 1 && eqb (w / 16777216 % 16) 0)) 1 _ (omega arith)
+    head-row (not (eqb (kind w) 1 && eqb (w / zeroUnit % countBound) 0)) 1 _ (omega arith)
     (head-row (not (prime? (headShape w .modulus))) 2 _ (omega arith)
     (head-row (not (countsWithin limits (headShape w))) 3 none (omega arith) (λ e. absurd (none-some e)))) h
   where
@@ -270,5 +271,5 @@ file-place limits file {n} {k} e = by (file-refused-iff limits file n k .0 e)
     by : FileRefused limits file n k → k ≤ longestSystem limits
     by (ten b en ek) = omega arith
     by (others b h) =
-        let short = ltb-false (4 * longestSystem limits) (length file) (or-right (broken file) (tooLong limits file) b) in
+        let short = ltb-false (wordBytes * longestSystem limits) (length file) (or-right (broken file) (tooLong limits file) b) in
         omega (arith, h .within, length-wordsOf file, short)

@@ -56,9 +56,26 @@ pub record SystemWithin (limits : Limits) (s : System) : Type 0 where
 
 -- ---- written form: "A sheet is head, A row by row, b, end."
 
+-- in a head: one row more, one column more and one more in the bits that are zero are so much more
+abbrev pub rowUnit : ℕ
+rowUnit = 65536
+
+abbrev pub columnUnit : ℕ
+columnUnit = 1048576
+
+abbrev pub zeroUnit : ℕ
+zeroUnit = 16777216
+
+-- n, m and the zeros have four bits each: they are below this, and at most one less
+abbrev pub countBound : ℕ
+countBound = 16
+
+abbrev pub countMost : ℕ
+countMost = 15
+
 -- kind 1: p in bits 0 to 15, n in bits 16 to 19, m in bits 20 to 23, bits 24 to 27 zero
 unfoldable pub headWord : Shape → ℕ
-headWord h = word 1 (h .modulus + h .rows * 65536 + h .columns * 1048576)
+headWord h = word 1 (h .modulus + h .rows * rowUnit + h .columns * columnUnit)
 
 abbrev pub systemEntries : System → List (List ℕ)
 systemEntries s = s .matrix ++ s .side
@@ -70,7 +87,7 @@ systemWords s = framedWords (headWord (shape s)) (systemEntries s)
 -- ---- reading
 
 unfoldable pub headShape : ℕ → Shape
-headShape w = record { modulus = w % 65536; rows = w / 65536 % 16; columns = w / 1048576 % 16 }
+headShape w = record { modulus = w % rowUnit; rows = w / rowUnit % countBound; columns = w / columnUnit % countBound }
 
 abbrev pub oneTo : ℕ → ℕ → Bool
 oneTo most n = leb 1 n && leb n most
@@ -81,7 +98,7 @@ countsWithin limits h = oneTo (limits .rows) (h .rows) && oneTo (limits .columns
 unfoldable pub systemHeadFrom : Limits → List ℕ → Reading Shape
 systemHeadFrom limits [] = fault 4 []  -- "An empty sheet is 4 at 0"
 systemHeadFrom limits (w ∷ ws) =
-    turnBack (not (eqb (kind w) 1 && eqb (w / 16777216 % 16) 0)) 1 (w ∷ ws)  -- 1: kind not 1 or bits 24 to 27 not zero
+    turnBack (not (eqb (kind w) 1 && eqb (w / zeroUnit % countBound) 0)) 1 (w ∷ ws)  -- 1: kind not 1 or bits 24 to 27 not zero
     (turnBack (not (prime? (headShape w .modulus))) 2 (w ∷ ws)  -- 2: p not prime
     (turnBack (not (countsWithin limits (headShape w))) 3 (w ∷ ws)  -- 3: n or m outside 1 to 8
     (read (headShape w) ws)))

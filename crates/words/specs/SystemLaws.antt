@@ -13,6 +13,7 @@ use Rattle.words.specs.Reading.{outcome}
 use Rattle.words.specs.Polynomial.{Within}
 use Rattle.words.specs.Frame.{Framed}
 use Rattle.words.specs.System.{System, Shape, shape, entry, sideEntry, ShapeWithin, SystemWithin, headWord, systemEntries}
+use Rattle.words.specs.System.{countMost}
 use Rattle.words.specs.System.{systemWords, systemHeadFrom, systemDue, systemOf, systemFrom, readSystem}
 use Rattle.words.specs.LimitsLaws.{LimitsFit, systemCount-most, wordsFor-most, wordsFor-small}
 use Rattle.words.specs.VectorLaws.{all-at, vector-append, vector-take, vector-drop}
@@ -83,8 +84,8 @@ module _ (limits : Limits) where
         let r = w .rows .1 in
         let c = w .columns .1 in
         let m = w .modulus in
-        let r′ : h .rows ≤ 15 = le-trans r (fit .rows) in
-        let c′ : h .columns ≤ 15 = le-trans c (fit .columns) in
+        let r′ : h .rows ≤ countMost = le-trans r (fit .rows) in
+        let c′ : h .columns ≤ countMost = le-trans c (fit .columns) in
         record {
           modulus = omega arith;
           limit = omega arith;

@@ -4,8 +4,9 @@ use Prim.Native.Nat.{ℕ, zero, suc, _+_, _≤_, _<_}
 use native.Mathlib.Omega.{arith}
 use lib.ListN.{length}
 use Rattle.modular.specs.Canonical.{Canonical}
+use Rattle.modular.specs.Bits.{bound32}
 use Rattle.words.specs.Limits.{Limits}
-use Rattle.words.specs.Word.{word, AllBelow, Words}
+use Rattle.words.specs.Word.{word, AllBelow, Words, payloadBound}
 use Rattle.words.specs.Polynomial.{Within, AllWithin, polynomialWords, polynomialsWords}
 use Rattle.words.specs.Frame.{Due, endWord, framedWords}
 use Rattle.words.specs.System.{System, shape, SystemWithin, headWord, systemEntries, systemWords}
@@ -34,7 +35,7 @@ below-append bound (a ∷ xs) ys h k (suc i) = below-append bound xs ys (λ j. h
 
 -- ---- written forms
 
-module _ (p : ℕ) (small : p ≤ 268435456) (limit : ℕ) (few : limit < 268435456) where
+module _ (p : ℕ) (small : p ≤ payloadBound) (limit : ℕ) (few : limit < payloadBound) where
   coefficient-words : (f : List ℕ) → Canonical p f → Words (map (word 3) f)
   unfolding Canonical
   coefficient-words [] h = below-nil _ (omega arith)
@@ -52,7 +53,7 @@ module _ (p : ℕ) (small : p ≤ 268435456) (limit : ℕ) (few : limit < 268435
   polynomials-words (f ∷ fs) h =
       below-append _ (polynomialWords f) (polynomialsWords fs) (polynomial-words f (h .0)) (polynomials-words fs (h .1))
 
-framed-words : (head : ℕ) (due : Due) (fs : List (List ℕ)) → head < 4294967296 → Expressible due → Entries due fs
+framed-words : (head : ℕ) (due : Due) (fs : List (List ℕ)) → head < bound32 → Expressible due → Entries due fs
     → Words (framedWords head fs)
 unfolding framedWords
 framed-words head due fs h x k =
@@ -64,7 +65,7 @@ framed-words head due fs h x k =
     (polynomials-words (due .modulus) (x .modulus) (due .limit) (x .limit) fs (k .entries))
     (below-cons _ (endWord (1 + length ws)) [] (omega (arith, length-framedWords head fs)) (below-nil _ (omega arith))))
 
-headWord-word : (limits : Limits) → LimitsFit limits → (h : Shape) → ShapeWithin limits h → headWord h < 4294967296
+headWord-word : (limits : Limits) → LimitsFit limits → (h : Shape) → ShapeWithin limits h → headWord h < bound32
 unfolding headWord
 headWord-word limits fit h w =
     let p = w .modulus in
@@ -72,7 +73,7 @@ headWord-word limits fit h w =
     let c = w .columns in
     omega arith
 
-formWord-word : (form : Form) → formWord form < 4294967296
+formWord-word : (form : Form) → formWord form < bound32
 unfolding formWord
 formWord-word solving = omega arith
 formWord-word absent = omega arith

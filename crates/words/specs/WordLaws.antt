@@ -5,12 +5,12 @@ use Prim.Native.Nat.{ℕ, _<_}
 use native.Mathlib.Omega.{arith}
 use lib.Dec.{eqb}
 use borrow.Author.Tests.{eqb-true, not-false}
-use Rattle.words.specs.Word.{kind, payload, word}
+use Rattle.words.specs.Word.{kind, payload, word, payloadBound}
 
-pub kind-word : (k x : ℕ) → x < 268435456 → kind (word k x) ≡ k
+pub kind-word : (k x : ℕ) → x < payloadBound → kind (word k x) ≡ k
 kind-word k x h = omega arith
 
-pub payload-word : (k x : ℕ) → x < 268435456 → payload (word k x) ≡ x
+pub payload-word : (k x : ℕ) → x < payloadBound → payload (word k x) ≡ x
 payload-word k x h = omega arith
 
 -- a word that passed the test for its kind

@@ -5,7 +5,7 @@ use Prim.Native.Nat.{ℕ, _+_, _-_, _*_, _≤_, _<_}
 use native.Mathlib.Nat.{mul-le-mul-right, le-of-eq}
 use native.Mathlib.Omega.{arith}
 use lib.ListN.{length, getD, take, drop, set, length-append, length-take, length-drop, length-set}
-use Rattle.words.specs.Word.{AllBelow}
+use Rattle.words.specs.Word.{AllBelow, payloadBound}
 use Rattle.words.specs.Polynomial.{polynomialWords, polynomialsWords}
 use Rattle.words.specs.PolynomialLaws.{length-polynomialWords}
 use Rattle.words.specs.Frame.{endWord, framedWords}
@@ -106,18 +106,18 @@ module _ (stride : ℕ) (sizes coefficients : List ℕ) where
 
   -- what writing polynomial k asks, of the parts that code lends
   pub part-ready : (limit k : ℕ) (now : List ℕ) (at : ℕ) → stride * k + getD sizes k 0 ≤ length coefficients
-      → getD sizes k 0 ≤ limit → limit < 268435456
-      → at + (1 + limit) ≤ length now → AllBelow 268435456 (polynomialIn stride sizes coefficients k)
+      → getD sizes k 0 ≤ limit → limit < payloadBound
+      → at + (1 + limit) ≤ length now → AllBelow payloadBound (polynomialIn stride sizes coefficients k)
       → (1 + length (partOf stride sizes coefficients k) ≤ length (take (length now - at) (drop at now)))
-      × (length (partOf stride sizes coefficients k) < 268435456)
-      × AllBelow 268435456 (partOf stride sizes coefficients k)
+      × (length (partOf stride sizes coefficients k) < payloadBound)
+      × AllBelow payloadBound (partOf stride sizes coefficients k)
   part-ready limit k now at r few short left below =
       let e = partOf-polynomial stride sizes coefficients k r in
       let n = ap length e ∙ length-polynomialIn stride sizes coefficients k in (
         simp (length-take (length now - at) (drop at now), length-drop) (omega arith),
         omega arith,
         subst
-            (λ (f : List ℕ). AllBelow 268435456 f) (sym e) below,
+            (λ (f : List ℕ). AllBelow payloadBound f) (sym e) below,
       )
 
 -- ---- a head, polynomials that a callee wrote behind it, an end
@@ -143,12 +143,12 @@ module _ (head : ℕ) (fs : List (List ℕ)) (lent part : List ℕ) (n : ℕ) wh
     pub length-ended : (v : ℕ) → length (set whole (1 + n) v) ≡ length lent
     length-ended v = length-set whole (1 + n) v ∙ length-whole
 
-    pub framed-written : Wrote (framedWords head fs) lent (set whole (1 + n) (1073741824 + (1 + n + 1))) (1 + n + 1)
+    pub framed-written : Wrote (framedWords head fs) lent (set whole (1 + n) (4 * payloadBound + (1 + n + 1))) (1 + n + 1)
     unfolding framedWords
     framed-written =
         let c = w .count in
         let ws = polynomialsWords fs in
-        let e : 1073741824 + (1 + n + 1) ≡ endWord (1 + length ws) = omega arith in
+        let e : 4 * payloadBound + (1 + n + 1) ≡ endWord (1 + length ws) = omega arith in
         record {
           count = omega (arith, length-framedWords head fs);
           words =

@@ -5,6 +5,7 @@ use Prim.Native.Nat.{ℕ, _+_, _-_, _*_, _≤_, _<_}
 use native.Mathlib.Nat.{mul-le-mul-left, mul-le-mul-right}
 use native.Mathlib.Omega.{arith}
 use lib.ListN.{length, getD, take, drop}
+use Rattle.words.specs.Word.{payloadBound}
 use Rattle.write_frame.specs.declared.format.Format.{Format}
 use Rattle.write_frame.specs.Framing.{Covers}
 use Rattle.write_frame.specs.Values.{polynomialIn}
@@ -14,7 +15,7 @@ use Rattle.write_frame.specs.ValuesLaws.{polynomialIn-part}
 pub record Turn (stride limit : ℕ) (sizes coefficients : List ℕ) (place k : ℕ) : Type 0 where
   pub sized : k < length sizes
   pub roomy : stride * k + limit ≤ length coefficients
-  pub short : place + 1 + limit < 268435456
+  pub short : place + 1 + limit < payloadBound
 
 pub turn : {format : Format} {sizes coefficients : List ℕ} {place k : ℕ} → Covers format sizes coefficients
     → place ≤ 1 + k * (1 + format .limit)

@@ -4,8 +4,7 @@ use mathlib.Core.Path.{_≡_}
 use mathlib.Core.List.{List}
 use lib.ListN.{length, getD}
 use Rattle.words.specs.Limits.{wordsFor}
-use Rattle.words.specs.Word.{AllBelow}
-use Rattle.answers.specs.Payload.{payloadBound}
+use Rattle.words.specs.Word.{AllBelow, payloadBound}
 use Rattle.write_frame.specs.Overwriting.{overwritten}
 use Rattle.write_frame.specs.declared.format.Format.{Format}
 use Rattle.write_frame.specs.Values.{polynomialIn, polynomialsIn}

@@ -1,15 +1,17 @@
 // Writing a head, polynomials and an end over the first of the lent words. The values are tried before, or known to keep the
 // limits.
 use crate::format::Format;
+use answers::word::COEFFICIENT;
+use answers::word::END;
+use answers::word::START;
 ghost use mathlib.Core.Path.{_≡_};
 ghost use mathlib.Core.List.{map};
 ghost use Prim.Native.Nat.{_+_, _*_, _≤_, _<_};
 ghost use lib.ListN.{length};
 ghost use Rattle.words.specs.Limits.{wordsFor};
-ghost use Rattle.words.specs.Word.{word, AllBelow};
+ghost use Rattle.words.specs.Word.{word, AllBelow, payloadBound};
 ghost use Rattle.words.specs.Polynomial.{polynomialWords, polynomialsWords};
 ghost use Rattle.words.specs.Frame.{framedWords};
-ghost use Rattle.answers.specs.Payload.{payloadBound};
 ghost use Rattle.write_frame.specs.Overwriting.{overwritten};
 ghost use Rattle.write_frame.specs.Framing.{Covers, Writable, Wrote, entriesIn};
 
@@ -20,7 +22,7 @@ fn write_coefficients(words: &mut [u32], f: &[u64])
 {
     let mut i: usize = 0;
     while i < f.len() {
-        words[i] = 0x30000000 + f[i] as u32;
+        words[i] = COEFFICIENT + f[i] as u32;
         i = i + 1;
     }
 }
@@ -30,7 +32,7 @@ fn write_polynomial(words: &mut [u32], f: &[u64])
     requires { ⌜ (1 + length (now f) ≤ length (now words)) × (length (now f) < payloadBound) × AllBelow payloadBound (now f) ⌝ }
     ensures { λ _. ⌜ now (words .exit) ≡ overwritten (polynomialWords (now (f .entry))) (now (words .entry)) ⌝ }
 {
-    words[0] = 0x20000000 + f.len() as u32;
+    words[0] = START + f.len() as u32;
     write_coefficients(&mut words[1..], f);
 }
 
@@ -77,6 +79,6 @@ pub fn write_framed(
 {
     words[0] = format.head;
     let end = 1 + write_polynomials(&mut words[1..], sizes, coefficients, format);
-    words[end] = 0x40000000 + (end + 1) as u32;
+    words[end] = END + (end + 1) as u32;
     end + 1
 }

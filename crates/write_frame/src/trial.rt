@@ -5,13 +5,14 @@ use answers::Verdict;
 ghost use mathlib.Core.Path.{_≡_};
 ghost use Prim.Native.Nat.{_+_, _≤_, _<_};
 ghost use lib.ListN.{length};
+ghost use Rattle.modular.specs.Bits.{bound32};
 ghost use Rattle.answers.specs.Answer.{verdictOutcome};
 ghost use Rattle.write_frame.specs.Framing.{Covers, entriesIn};
 ghost use Rattle.write_frame.specs.Trial.{passed, refuseCoefficients, refusePolynomials};
 
 // Tries the coefficients of f, the first of whose words would stand at `place`: 7 and 8, or greater by `by`.
 fn try_coefficients(f: &[u64], by: u8, place: usize, modulus: u64) -> Verdict
-    requires { ⌜ (by ≤ 20) × (place + length (now f) < 4294967296) ⌝ }
+    requires { ⌜ (by ≤ 20) × (place + length (now f) < bound32) ⌝ }
     ensures { λ r. ⌜ verdictOutcome r ≡ refuseCoefficients modulus by place (now (f .entry)) passed ⌝ }
 {
     let mut i: usize = 0;

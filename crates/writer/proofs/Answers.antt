@@ -12,6 +12,7 @@ use Rattle.words.specs.Limits.{Limits}
 use Rattle.words.specs.Frame.{framedWords}
 use Rattle.words.specs.System.{Shape}
 use Rattle.words.specs.VectorLaws.{all-at}
+use Rattle.words.specs.Word.{payloadBound}
 use Rattle.answers.specs.declared.answer.Refusal.{Refusal}
 use Rattle.answers.specs.declared.answer.Counted.{Counted}
 use Rattle.answers.specs.declared.answer.Counted.the-variants.{Count, Refused}
@@ -65,13 +66,13 @@ module _ (longest lent : ℕ) (ws entry : List ℕ) where
 
 -- ---- polynomials in which nothing was refused can be written
 
-writable : (format : Format) (sizes coefficients : List ℕ) (p : ℕ) → p ≤ 268435456
+writable : (format : Format) (sizes coefficients : List ℕ) (p : ℕ) → p ≤ payloadBound
     → AllWithin p (format .limit) (entriesIn format sizes coefficients)
     → Writable format sizes coefficients
 writable format sizes coefficients p small all = record {
   few = λ k h. omega (arith, within k h .size, length-polynomialIn (format .stride) sizes coefficients k);
   payloads =
-      λ k h. canonical-below p 268435456 small (omega arith) (polynomialIn (format .stride) sizes coefficients k)
+      λ k h. canonical-below p payloadBound small (omega arith) (polynomialIn (format .stride) sizes coefficients k)
       (within k h .canonical);
 }
   where
@@ -93,7 +94,7 @@ module _ (format : Format) (p : ℕ) (sizes coefficients : List ℕ) where
   abbrev pub trial : Outcome (Unit {0})
   trial = refusePolynomials p (format .limit) (format .by) 1 entries passed
 
-  pub values-writable : passed ≡ trial → p ≤ 268435456 → Writable format sizes coefficients
+  pub values-writable : passed ≡ trial → p ≤ payloadBound → Writable format sizes coefficients
   values-writable e small =
       writable format sizes coefficients p small (polynomials-passed p (format .limit) (format .by) passed 1 entries (sym e) .0)
 

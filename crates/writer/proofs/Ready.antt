@@ -10,6 +10,7 @@ use Rattle.words.specs.LimitsLaws.{LimitsFit, systemCount-most, wordsFor-most}
 use Rattle.words.specs.System.{Shape, ShapeWithin}
 use Rattle.words.specs.SystemLaws.{system-expressible}
 use Rattle.words.specs.CertificateLaws.{entryCount-most, certificate-expressible}
+use Rattle.words.specs.Word.{payloadBound}
 use Rattle.answers.specs.Answer.{formOf}
 use Rattle.write_frame.specs.declared.format.Format.{Format}
 use Rattle.write_frame.specs.Framing.{Covers}
@@ -21,12 +22,12 @@ use Rattle.writer.specs.Formats.{systemFrame, certificateFrame, formatOf
 -- what writing values asks
 abbrev pub Ready : Format → ℕ → List ℕ → List ℕ → Type 0
 Ready format p sizes coefficients =
-    Covers format sizes coefficients × (p ≤ 268435456) × (wordsFor (format .count) (format .limit) ≤ format .longest)
+    Covers format sizes coefficients × (p ≤ payloadBound) × (wordsFor (format .count) (format .limit) ≤ format .longest)
 
 -- so many polynomials at most
 covers : (format : Format) (most : ℕ) (sizes coefficients : List ℕ) → format .count ≤ most → most ≤ length sizes
     → format .stride * most ≤ length coefficients → format .limit ≤ format .stride
-    → wordsFor (format .count) (format .limit) < 268435456 → format .by ≤ 20 → Covers format sizes coefficients
+    → wordsFor (format .count) (format .limit) < payloadBound → format .by ≤ 20 → Covers format sizes coefficients
 covers format most sizes coefficients few s c apart short number = record {
   sized = le-trans few s;
   roomy = le-trans (mul-le-mul-left (format .stride) few) c;

@@ -6,7 +6,8 @@ use native.Mathlib.Nat.{le-antisymm, min-le-left, min-le-right}
 use native.Mathlib.Omega.{arith}
 use lib.ListN.{length, getD, take, set, length-append}
 use lib.Seq.{take-suc, length-take-le}
-use Rattle.words.specs.Bytes.{bytesOf}
+use Rattle.modular.specs.Bits.{bound8}
+use Rattle.words.specs.Bytes.{bytesOf, secondByte, thirdByte, fourthByte, wordBytes}
 use Rattle.words.specs.BytesLaws.{length-bytesOf}
 use Rattle.write_frame.specs.Overwriting.{overwritten}
 use Rattle.write_frame.proofs.Overwriting.{set-written, length-overwritten}
@@ -15,11 +16,12 @@ use Rattle.writer.specs.Packing.{PackedBytes}
 pub bytes-append : (vs ws : List ℕ) → bytesOf (vs ++ ws) ≡ bytesOf vs ++ bytesOf ws
 unfolding bytesOf
 bytes-append [] ws = refl
-bytes-append (v ∷ vs) ws = ap (λ l. v % 256 ∷ v / 256 % 256 ∷ v / 65536 % 256 ∷ v / 16777216 ∷ l) (bytes-append vs ws)
+bytes-append (v ∷ vs) ws =
+    ap (λ l. v % bound8 ∷ v / secondByte % bound8 ∷ v / thirdByte % bound8 ∷ v / fourthByte ∷ l) (bytes-append vs ws)
 
 -- four bytes behind a list
 module _ (vs lent now : List ℕ) (at a b c d : ℕ) (is : now ≡ overwritten vs lent) (place : at ≡ length vs)
-    (room : length vs + 4 ≤ length lent) where
+    (room : length vs + wordBytes ≤ length lent) where
   pub four-written : set (set (set (set now at a) (at + 1) b) (at + 2) c) (at + 3) d ≡ overwritten (vs ++ a ∷ b ∷ c ∷ d ∷ []) lent
   four-written =
       set-written v₃ lent _ (at + 3) d
@@ -64,24 +66,26 @@ pub bytes-start : (ws lent : List ℕ) (count : ℕ) → BytesWritten ws lent co
 unfolding bytesOf
 bytes-start ws lent count = record { within = omega arith; size = refl; bytes = refl }
 
-module _ (ws lent : List ℕ) (count : ℕ) (few : count ≡ min (length ws) (length lent / 4)) where
+module _ (ws lent : List ℕ) (count : ℕ) (few : count ≡ min (length ws) (length lent / wordBytes)) where
   -- there is room for word i
-  pub bytes-room : (i : ℕ) → i < count → (i < length ws) × (4 * i + 4 ≤ length lent)
+  pub bytes-room : (i : ℕ) → i < count → (i < length ws) × (wordBytes * i + wordBytes ≤ length lent)
   bytes-room i more =
-      let words = min-le-left (length ws) (length lent / 4) in
-      let room = min-le-right (length ws) (length lent / 4) in
+      let words = min-le-left (length ws) (length lent / wordBytes) in
+      let room = min-le-right (length ws) (length lent / wordBytes) in
       (omega arith, omega arith)
 
   pub bytes-next : (now : List ℕ) (i : ℕ) → BytesWritten ws lent count now i → i < count → (after : List ℕ)
-      → after ≡ set (set (set (set now (4 * i) (getD ws i 0 % 256)) (4 * i + 1) (getD ws i 0 / 256 % 256))
-      (4 * i + 2) (getD ws i 0 / 65536 % 256)) (4 * i + 3) (getD ws i 0 / 16777216) → BytesWritten ws lent count after (i + 1)
+      → after ≡ set (set (set (set now (wordBytes * i) (getD ws i 0 % bound8)) (wordBytes * i + 1)
+      (getD ws i 0 / secondByte % bound8)) (wordBytes * i + 2) (getD ws i 0 / thirdByte % bound8))
+      (wordBytes * i + 3) (getD ws i 0 / fourthByte)
+      → BytesWritten ws lent count after (i + 1)
   unfolding bytesOf
   bytes-next now i t more after is =
       let h = bytes-room i more in
       let n = length-bytesOf (take i ws) in
       let m = length-take-le i ws (omega (arith, h .0)) in
       let e : suc i ≡ i + 1 = omega arith in
-      let written = is ∙ four-written (bytesOf (take i ws)) lent now (4 * i) _ _ _ _ (t .bytes) (omega (arith, n, m))
+      let written = is ∙ four-written (bytesOf (take i ws)) lent now (wordBytes * i) _ _ _ _ (t .bytes) (omega (arith, n, m))
       (omega (arith, n, m, h .1))
       ∙ ap (λ l. overwritten l lent) (sym (bytes-append (take i ws) (getD ws i 0 ∷ []))
       ∙ ap bytesOf (sym (take-suc ws i 0 (h .0)) ∙ ap (λ k. take k ws) e)) in

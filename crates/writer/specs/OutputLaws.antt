@@ -9,13 +9,12 @@ use mathlib.Core.List.{List, _∷_}
 use lib.ListN.{length, getD, set}
 use lib.Seq.{getD-set-same, getD-set-other}
 use Rattle.limits.specs.Counts.{certificatePolynomials}
-use Rattle.words.specs.Word.{AllBelow}
+use Rattle.words.specs.Word.{AllBelow, payloadBound}
 use Rattle.words.specs.Limits.{office, wordsFor, longestCertificate}
 use Rattle.words.specs.System.{Shape}
 use Rattle.words.specs.Frame.{framedWords}
 use Rattle.words.specs.Certificate.{Form, formWord, entryCount}
 use Rattle.words.specs.Certificate.Form.{solving, absent}
-use Rattle.answers.specs.Payload.{payloadBound}
 use Rattle.write_frame.specs.declared.format.Format.{Format}
 use Rattle.write_frame.specs.Values.{numbersFrom, polynomialIn, polynomialsIn}
 use Rattle.write_frame.specs.ValuesLaws.{numbersFrom-below}
@@ -126,7 +125,8 @@ module _ (h : Shape) (rows : h .rows ≤ office .rows) (columns : h .columns ≤
         let few = entries-few form in (
           record { sized = omega arith; roomy = omega arith; apart = omega arith; short = omega arith; number = omega arith },
           record {
-            few = λ k lt. let e = sized k lt in omega (arith, size-most words (certificateStride * k) 121);
+            few = λ k lt. let e = sized k lt in
+                omega (arith, size-most words (certificateStride * k) (office .certificateCoefficients));
             payloads = λ k lt. numbersFrom-below payloadBound words (certificateStride * k) (getD sizes k 0) below;
           },
           omega arith,

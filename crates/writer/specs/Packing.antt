@@ -3,9 +3,9 @@ use Prim.Native.Nat.{ℕ, _/_, min}
 use mathlib.Core.Path.{_≡_}
 use mathlib.Core.List.{List}
 use lib.ListN.{length, take}
-use Rattle.words.specs.Bytes.{bytesOf}
+use Rattle.words.specs.Bytes.{bytesOf, wordBytes}
 use Rattle.write_frame.specs.Overwriting.{overwritten}
 
 pub record PackedBytes (ws before after : List ℕ) (count : ℕ) : Type 0 where
-  pub number : count ≡ min (length ws) (length before / 4)
+  pub number : count ≡ min (length ws) (length before / wordBytes)
   pub bytes : after ≡ overwritten (bytesOf (take count ws)) before

@@ -6,14 +6,14 @@ use native.Mathlib.Nat.{min-eq-left}
 use native.Mathlib.Omega.{arith}
 use lib.ListN.{length, take}
 use lib.Seq.{take-length}
-use Rattle.words.specs.Bytes.{bytesOf}
+use Rattle.words.specs.Bytes.{bytesOf, wordBytes}
 use Rattle.write_frame.specs.Overwriting.{overwritten}
 use Rattle.writer.specs.Packing.{PackedBytes}
 
 module _ {ws before after : List ℕ} {count : ℕ} (packed : PackedBytes ws before after count)
-    (room : 4 * length ws ≤ length before) where
+    (room : wordBytes * length ws ≤ length before) where
   pub packed-count : count ≡ length ws
-  packed-count = packed .number ∙ min-eq-left {m = length before / 4} (omega arith)
+  packed-count = packed .number ∙ min-eq-left {m = length before / wordBytes} (omega arith)
 
   pub packed-all : after ≡ overwritten (bytesOf ws) before
   packed-all =

@@ -1,5 +1,9 @@
 // The formats of systems and of certificates.
 use answers::Form;
+use answers::head::COLUMN_UNIT;
+use answers::head::ROW_UNIT;
+use answers::word::CERTIFICATE_HEAD;
+use answers::word::SYSTEM_HEAD;
 use limits::Office;
 use write_frame::format::Format;
 ghost use mathlib.Core.Path.{_≡_};
@@ -15,6 +19,11 @@ pub enum Kind {
     System,
     Certificate(Form),
 }
+
+// The head of a certificate of each form.
+const SOLUTION_HEAD: u32 = CERTIFICATE_HEAD + 1;
+
+const ABSENCE_HEAD: u32 = CERTIFICATE_HEAD + 2;
 
 // Refusals 26 to 28 are 6 to 8, on the certificate.
 const BY: u8 = 20;
@@ -35,7 +44,7 @@ pub fn certificate_format(form: Form, rows: u32, columns: u32) -> Format
 {
     match form {
         Form::Solution => Format {
-            head: 0x50000001,
+            head: SOLUTION_HEAD,
             count: (1 + columns + 1 + rows) as usize,
             limit: Office::CERTIFICATE_COEFFICIENTS as usize,
             stride: STRIDE,
@@ -43,7 +52,7 @@ pub fn certificate_format(form: Form, rows: u32, columns: u32) -> Format
             longest: Office::CERTIFICATE_WORDS,
         },
         Form::Absence => Format {
-            head: 0x50000002,
+            head: ABSENCE_HEAD,
             count: rows as usize,
             limit: Office::CERTIFICATE_COEFFICIENTS as usize,
             stride: STRIDE,
@@ -60,7 +69,7 @@ pub fn format_for(kind: Kind, rows: u32, columns: u32, modulus: u32) -> Format
 {
     match kind {
         Kind::System => Format {
-            head: 0x10000000 + (modulus + rows * 0x10000 + columns * 0x100000),
+            head: SYSTEM_HEAD + (modulus + rows * ROW_UNIT + columns * COLUMN_UNIT),
             count: (rows * columns + rows) as usize,
             limit: Office::COEFFICIENTS as usize,
             stride: Office::COEFFICIENTS as usize,

@@ -12,11 +12,10 @@ ghost use Prim.Native.Nat.{_≤_, _<_};
 ghost use lib.ListN.{length};
 ghost use Rattle.limits.specs.Counts.{certificatePolynomials};
 ghost use Rattle.words.specs.Limits.{office, longestCertificate};
-ghost use Rattle.words.specs.Word.{AllBelow};
+ghost use Rattle.words.specs.Word.{AllBelow, payloadBound};
 ghost use Rattle.words.specs.Frame.{framedWords};
 ghost use Rattle.words.specs.Certificate.{formWord, entryCount};
 ghost use Rattle.answers.specs.Answer.{shapeOf, formOf};
-ghost use Rattle.answers.specs.Payload.{payloadBound};
 ghost use Rattle.write_frame.specs.Framing.{Wrote};
 ghost use Rattle.writer.specs.Output.{sizeIn, SizesTaken, polynomialsOf};
 

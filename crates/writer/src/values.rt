@@ -11,7 +11,7 @@ use write_frame::trial::try_polynomials;
 ghost use Prim.Native.Nat.{_*_, _≤_};
 ghost use lib.ListN.{length};
 ghost use Rattle.words.specs.Limits.{office, wordsFor};
-ghost use Rattle.answers.specs.Payload.{payloadBound};
+ghost use Rattle.words.specs.Word.{payloadBound};
 ghost use Rattle.write_frame.specs.Framing.{Covers};
 ghost use Rattle.writer.specs.Values.{shapeWith};
 ghost use Rattle.writer.specs.Formats.{writeFramed, formatOf, mostOf, strideOf};

@@ -3,19 +3,20 @@ use Prim.Native.Nat.{_+_, _≤_}
 use native.Mathlib.Nat.{mul-le-mul}
 use native.Mathlib.Omega.{arith}
 use borrow.Author.Needs.{needs}
+use Rattle.modular.specs.Bits.{bound16, most16}
 use Rattle.limits.proofs.words_for.Statement.{statement}
 use Rattle.limits.proofs.words_for.Tie as tie
 
 mul-result : tie.Need-mul-result
 mul-result c =
-    let a : c .args .count ≤ 65535 = omega arith in
-    let b : 1 + c .args .coefficients ≤ 65536 = omega arith in
+    let a : c .args .count ≤ most16 = omega arith in
+    let b : 1 + c .args .coefficients ≤ bound16 = omega arith in
     omega (arith, mul-le-mul a b)
 
 add-result-2 : tie.Need-add-result-2
 add-result-2 c =
-    let a : c .args .count ≤ 65535 = omega arith in
-    let b : 1 + c .args .coefficients ≤ 65536 = omega arith in
+    let a : c .args .count ≤ most16 = omega arith in
+    let b : 1 + c .args .coefficients ≤ bound16 = omega arith in
     omega (arith, mul-le-mul a b)
 
 pub words-for-spec : {M : Type 1} → statement M

@@ -1,8 +1,11 @@
 -- What is loaded stands in its slots, and what is laid out from them is the system.
 use mathlib.Core.Path.{_≡_}
+use Prim.Native.Nat.{_*_}
 use native.Mathlib.Omega.{arith}
 use lib.ListN.{length}
 use borrow.Author.Needs.{needs}
+use Rattle.limits.specs.Counts.{systemPolynomials}
+use Rattle.loader.specs.Widths.{systemWidth}
 use Rattle.solve_layout.specs.Laying.{few-rows, few-columns, few-entries, words-hold, words-count, loaded-fits, system-laid}
 use Rattle.solve_layout.proofs.lay_system.Statement.{statement}
 use Rattle.solve_layout.proofs.lay_system.Tie as tie
@@ -23,7 +26,7 @@ lay-area-requires c κs =
     let S = c .before .before .before .before .before .before in
     let H = S .pre .0 .1 in
     let A = c .before .before .before .load .last .0 in
-    let room : length A ≡ 1224 = search needs in (
+    let room : length A ≡ systemPolynomials * systemWidth = search needs in (
       (few-rows H, few-columns H, S .pre .1 .0),
       loaded-fits H A room (c .before .before .before .load .ensures _ (words-hold H) (words-count H)),
     )
@@ -33,7 +36,7 @@ returns c s H =
     let L = c .before .before .before .before in
     let S = L .before .before .before in
     let A = L .load .last .0 in
-    let room : length A ≡ 1224 = search needs in
+    let room : length A ≡ systemPolynomials * systemWidth = search needs in
     system-laid H A room (L .load .ensures _ (words-hold H) (words-count H)) (S .args .input .now) _ (S .pre .1 .0) (S .pre .1 .1)
     (c .lay-area .ensures)
 

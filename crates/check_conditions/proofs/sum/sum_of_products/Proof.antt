@@ -5,7 +5,7 @@ use native.Mathlib.Omega.{arith}
 use lib.ListN.{length}
 use borrow.Author.Needs.{needs}
 use Rattle.residue.specs.Modulus.{ValidModulus}
-use Rattle.polynomial.specs.Value.{represents-is}
+use Rattle.polynomial.specs.Value.{represents-is, polynomialRoom}
 use Rattle.loader.specs.SlotLaws.{taken-canonical, taken-size, canonical-word}
 use Rattle.check_conditions.specs.Products.{product}
 use Rattle.check_conditions.proofs.Summing.{Summing, summing-start, summing-fits, summing-small, summing-turn, summing-end}
@@ -62,7 +62,7 @@ add-rows-requires c κs =
     let g = S .pre .1 .1 (L .k) taken in
     let is-f = c .before .before .coefficients-in .ensures in
     let is-g = c .before .coefficients-in2 .ensures in
-    let long : length (L .h) ≡ 256 = L .inv .long in (
+    let long : length (L .h) ≡ polynomialRoom = L .inv .long in (
       (omega arith, omega arith, omega (arith, taken-size is-f f, taken-size is-g g), omega (arith, taken-size is-f f)),
       (
         summing-fits _ positive _ _ _ _ (L .inv) (S .pre .0 .1) (m .limit),

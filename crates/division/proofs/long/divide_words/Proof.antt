@@ -7,8 +7,9 @@ use native.Mathlib.Omega.{arith}
 use lib.ListN.{length, getD, take}
 use borrow.Author.Needs.{needs}
 use Rattle.modular.specs.Canonical.{Canonical}
+use Rattle.modular.specs.LargestPrime.{largestPrime}
 use Rattle.residue.specs.declared.modulus.Modulus.{Modulus}
-use Rattle.residue.specs.Modulus.{largestPrime, ValidModulus}
+use Rattle.residue.specs.Modulus.{ValidModulus}
 use Rattle.residue.specs.Below.{mul-below, inverse-below}
 use Rattle.division.specs.Long.{Divisor}
 use Rattle.division.proofs.Dividing.{Task, Dividing, dividing-start, dividing-turn, dividing-end, word-small, factor-is}

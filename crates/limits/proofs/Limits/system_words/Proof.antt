@@ -3,19 +3,20 @@ use Prim.Native.Nat.{_≤_}
 use native.Mathlib.Nat.{mul-le-mul}
 use native.Mathlib.Omega.{arith}
 use borrow.Author.Needs.{needs}
+use Rattle.modular.specs.Bits.{most8}
 use Rattle.limits.proofs.Limits.system_words.Statement.{statement}
 use Rattle.limits.proofs.Limits.system_words.Tie as tie
 
 mul-words-for : tie.Need-mul-words-for
 mul-words-for c =
-    let n : c .before .before .args .self .rows ≤ 255 = omega arith in
-    let m : c .before .before .args .self .columns ≤ 255 = omega arith in
+    let n : c .before .before .args .self .rows ≤ most8 = omega arith in
+    let m : c .before .before .args .self .columns ≤ most8 = omega arith in
     omega (arith, mul-le-mul n m)
 
 add-words-for : tie.Need-add-words-for
 add-words-for c =
-    let n : c .before .before .args .self .rows ≤ 255 = omega arith in
-    let m : c .before .before .args .self .columns ≤ 255 = omega arith in
+    let n : c .before .before .args .self .rows ≤ most8 = omega arith in
+    let m : c .before .before .args .self .columns ≤ most8 = omega arith in
     omega (arith, mul-le-mul n m)
 
 pub system-words-spec : {M : Type 1} → statement M

@@ -1,11 +1,11 @@
 -- What is told of the words that are left is told of the files.
 use mathlib.Core.Path.{_≡_, sym, ap, _∙_, subst}
 use mathlib.Core.List.{List}
-use Prim.Native.Nat.{ℕ}
+use Prim.Native.Nat.{ℕ, _+_}
 use native.Mathlib.Omega.{arith}
 use lib.ListN.{length}
 use lib.Seq.{length-take-le}
-use Rattle.words.specs.Limits.{office}
+use Rattle.words.specs.Limits.{office, longestSystem, longestCertificate}
 use Rattle.answers.specs.Answer.{refusedBy}
 use Rattle.answers.specs.Packed.{packed, packedMost, AnswerMost}
 use Rattle.link_values.specs.Files.{kindOf, fileKind}
@@ -38,7 +38,7 @@ module _ (c : tie.After-opened2) where
 array-share-prefix-system-words : tie.Need-array-share-prefix-system-words
 array-share-prefix-system-words c =
     let o = c .before in
-    let room : length (call o .open-both .last .0) ≡ 1226 = search needs in
+    let room : length (call o .open-both .last .0) ≡ longestSystem office = search needs in
     omega (arith, opens o .system-room)
 
 slice-aggregate-kind-of-words : tie.Need-slice-aggregate-kind-of-words
@@ -47,7 +47,7 @@ slice-aggregate-kind-of-words c = sym (length-take-le _ _ (opens (c .before .bef
 array-share-prefix-certificate-words : tie.Need-array-share-prefix-certificate-words
 array-share-prefix-certificate-words c =
     let o = c .before .before in
-    let room : length (call o .open-both .last .1 .0) ≡ 2199 = search needs in
+    let room : length (call o .open-both .last .1 .0) ≡ longestCertificate office + 1 = search needs in
     omega (arith, opens o .certificate-room)
 
 slice-aggregate-kind-of-words-2 : tie.Need-slice-aggregate-kind-of-words-2

@@ -1,11 +1,11 @@
 -- What is told of the words that are left is told of the files.
 use mathlib.Core.Path.{_≡_, sym, ap, ap₂, _∙_, subst}
 use mathlib.Core.List.{List}
-use Prim.Native.Nat.{ℕ}
+use Prim.Native.Nat.{ℕ, _+_}
 use native.Mathlib.Omega.{arith}
 use lib.ListN.{length}
 use lib.Seq.{length-take-le}
-use Rattle.words.specs.Limits.{office}
+use Rattle.words.specs.Limits.{office, longestSystem, longestCertificate}
 use Rattle.words.specs.Outcome.{Outcome, mapped}
 use Rattle.answers.specs.Answer.{refusedBy, countedOutcome}
 use Rattle.answers.specs.Packed.{packed, packedMost, AnswerMost}
@@ -68,7 +68,7 @@ module _ (c : tie.After-opened2) where
 array-share-prefix-system-words : tie.Need-array-share-prefix-system-words
 array-share-prefix-system-words c =
     let o = c .before .before in
-    let room : length (call o .open-both .last .0) ≡ 1226 = search needs in
+    let room : length (call o .open-both .last .0) ≡ longestSystem office = search needs in
     omega (arith, opens o .system-room)
 
 slice-aggregate-lookup-words : tie.Need-slice-aggregate-lookup-words
@@ -77,7 +77,7 @@ slice-aggregate-lookup-words c = sym (length-take-le _ _ (opens (c .before .befo
 array-share-prefix-certificate-words : tie.Need-array-share-prefix-certificate-words
 array-share-prefix-certificate-words c =
     let o = c .before .before .before in
-    let room : length (call o .open-both .last .1 .0) ≡ 2199 = search needs in
+    let room : length (call o .open-both .last .1 .0) ≡ longestCertificate office + 1 = search needs in
     omega (arith, opens o .certificate-room)
 
 slice-aggregate-lookup-words-2 : tie.Need-slice-aggregate-lookup-words-2

@@ -31,9 +31,13 @@ module _ (call : tie.After-write-system) where
   abbrev words : List ℕ
   words = call .write-system .last .0
 
+  -- what one has before
+  abbrev zeros : List ℕ
+  zeros = replicate (longestSystem office) 0
+
   writes : (answer : Counted) → call .write-system .result ≡ answer
-      → Writes (writeSystem office (longestSystem office) system) (replicate 1226 0) answer words
-  writes answer e = subst (λ a. Writes (writeSystem office (longestSystem office) system) (replicate 1226 0) a words) e
+      → Writes (writeSystem office (longestSystem office) system) zeros answer words
+  writes answer e = subst (λ a. Writes (writeSystem office (longestSystem office) system) zeros a words) e
       (call .write-system .ensures)
 
 -- so many words are written
@@ -41,14 +45,14 @@ module _ (c : tie.After-written) where
   abbrev call : tie.After-write-system
   call = c .before .before .before
 
-  counted : Writes (writeSystem office (longestSystem office) (system call)) (replicate 1226 0) (Count (c .written .given .0 .0))
+  counted : Writes (writeSystem office (longestSystem office) (system call)) (zeros call) (Count (c .written .given .0 .0))
       (words call)
   counted = writes call _ (c .written .given .1)
 
   are : writeSystem office (longestSystem office) (system call) ≡ accepted (take (c .written .given .0 .0) (words call))
   are = count-words _ counted
 
-  room : length (words call) ≡ 1226
+  room : length (words call) ≡ longestSystem office
   room = search needs
 
 returns : tie.Need-returns

@@ -3,6 +3,7 @@ use mathlib.Core.Path.{sym, ap, _∙_}
 use Prim.Native.Nat.{_≤_}
 use native.Mathlib.Nat.{mul-le-mul}
 use native.Mathlib.Omega.{arith}
+use Rattle.modular.specs.Bits.{most8}
 use Rattle.limits.specs.Value.{limitsOf}
 use Rattle.answers.specs.Answer.{shapeOf, countedOutcome, systemOutcome}
 use Rattle.reader.proofs.SystemSteps.{system-head-refused, system-some, system-body-refused, system-read}
@@ -13,15 +14,15 @@ use Rattle.reader.proofs.system.read_system.Tie as tie
 mul-read-body : tie.Need-mul-read-body
 mul-read-body c =
     let h = c .before .before .before .head .given .0 .0 in
-    let n : h .rows ≤ 255 = omega arith in
-    let m : h .columns ≤ 255 = omega arith in
+    let n : h .rows ≤ most8 = omega arith in
+    let m : h .columns ≤ most8 = omega arith in
     omega (arith, mul-le-mul n m)
 
 add-read-body : tie.Need-add-read-body
 add-read-body c =
     let h = c .before .before .before .head .given .0 .0 in
-    let n : h .rows ≤ 255 = omega arith in
-    let m : h .columns ≤ 255 = omega arith in
+    let n : h .rows ≤ most8 = omega arith in
+    let m : h .columns ≤ most8 = omega arith in
     omega (arith, mul-le-mul n m)
 
 read-body-requires : tie.Need-read-body-requires

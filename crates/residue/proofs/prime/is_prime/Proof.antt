@@ -5,25 +5,26 @@ use native.Mathlib.Nat.{mul-le-mul}
 use native.Mathlib.Omega.{arith}
 use borrow.Author.Needs.{needs}
 use Rattle.modular.specs.Primality.{true-of-prime}
+use Rattle.modular.specs.Bits.{bound8, most8, most16}
 use Rattle.residue.specs.Primality.{Undivided, undivided-suc, false-of-composite, prime-of-root, composite-of-root}
 use Rattle.residue.proofs.prime.is_prime.Statement.{statement}
 use Rattle.residue.proofs.prime.is_prime.Tie as tie
 
 -- the square root of a number of 16 bits has 8
-root-short : (d : ℕ) → d * d ≤ 65535 → d ≤ 255
-root-short d h = let above : (256 ≤ d → ⊥) = λ le. omega (arith, mul-le-mul le le) in omega arith
+root-short : (d : ℕ) → d * d ≤ most16 → d ≤ most8
+root-short d h = let above : (bound8 ≤ d → ⊥) = λ le. omega (arith, mul-le-mul le le) in omega arith
 
 abbrev Inv-loop : tie.InvT-loop
-Inv-loop p n d₀ d = (2 ≤ p) × (2 ≤ d) × (d ≤ 256) × Undivided p d
+Inv-loop p n d₀ d = (2 ≤ p) × (2 ≤ d) × (d ≤ bound8) × Undivided p d
 
 abbrev μ-loop : tie.MeasureT-loop
-μ-loop p n d₀ d = 256 - d
+μ-loop p n d₀ d = bound8 - d
 
 returns : tie.Need-returns Inv-loop μ-loop
 returns c = sym (false-of-composite _ (λ h. omega (arith, h .large)))
 
 mul-loop : tie.Need-mul-loop Inv-loop μ-loop
-mul-loop c = omega (arith, mul-le-mul {n₁ = c .loop .d} {m₁ = c .loop .d} {n₂ = 256} {m₂ = 256} (omega arith) (omega arith))
+mul-loop c = omega (arith, mul-le-mul {n₁ = c .loop .d} {m₁ = c .loop .d} {n₂ = bound8} {m₂ = bound8} (omega arith) (omega arith))
 
 returns-2 : tie.Need-returns-2 Inv-loop μ-loop
 returns-2 c =

@@ -5,6 +5,7 @@ use native.Mathlib.Omega.{arith}
 use borrow.Author.Needs.{needs}
 use lib.ListN.{length}
 use Rattle.words.specs.Limits.{office, longestCertificate}
+use Rattle.words.specs.Bytes.{wordBytes}
 use Rattle.answers.specs.Answer.{countedOutcome}
 use Rattle.reader.specs.OpeningLaws.{opened-room, opened-length, system-file-refused, system-file-read}
 use Rattle.solver.specs.Solving.{withRoom, certificateBytes, SolvesOr}
@@ -32,7 +33,7 @@ returns c =
     let call = found .before .before .before in
     let lent = call .before .before .before .before .args .bytes .now in
     let solved = c .before .before .solve-to-bytes in
-    subst (λ o. SolvesOr office certificateBytes (withRoom (4 * longest) (length lent) o) lent (solved .last .0)
+    subst (λ o. SolvesOr office certificateBytes (withRoom (wordBytes * longest) (length lent) o) lent (solved .last .0)
     (countedOutcome (solved .result)))
     (sym (system-file-read office (call .open-file .ensures) (omega arith) (ap countedOutcome (found .opened .given .1))))
     (solved .ensures)
@@ -41,7 +42,7 @@ returns-2 : tie.Need-returns-2
 returns-2 c =
     let call = c .before .before .before .before in
     let lent = call .before .before .before .before .args .bytes .now in
-    solves-refused (4 * longest) certificateBytes lent lent _ _
+    solves-refused (wordBytes * longest) certificateBytes lent lent _ _
     (system-file-refused office (call .open-file .ensures) (ap countedOutcome (c .before .opened2 .given .1))) refl refl
 
 pub solve-file-spec : {M : Type 1} → statement M

@@ -6,6 +6,7 @@ use lib.ListN.{length, replicate}
 use lib.Seq.{length-take-le}
 use borrow.Author.Needs.{needs}
 use Rattle.words.specs.Limits.{office, longestCertificate}
+use Rattle.words.specs.Bytes.{wordBytes}
 use Rattle.answers.specs.Answer.{countedOutcome}
 use Rattle.writer.specs.PackingLaws.{packed-all}
 use Rattle.solver.specs.Solving.{certificateBytes}
@@ -36,7 +37,7 @@ returns c =
     let given = was-solved (call counted .before .before .before .before .args .system .now) (replicate longest 0) _ _
     (call counted .solve .ensures)
     (ap countedOutcome (counted .solved .given .1)) in
-    solves-short (4 * longest) certificateBytes lent lent _ _ (given .1) (c .if1 .taken) refl refl
+    solves-short (wordBytes * longest) certificateBytes lent lent _ _ (given .1) (c .if1 .taken) refl refl
 
 mul-t11 : tie.Need-mul-t11
 mul-t11 c =
@@ -53,14 +54,14 @@ returns-2 c =
     let few = fits counted in
     let room : length (call counted .solve .last .0) ≡ longest = search needs in
     let short = length-take-le _ (call counted .solve .last .0) few in
-    solves-given (4 * longest) certificateBytes _ _ _ _ (given .1) (search needs) _ refl
+    solves-given (wordBytes * longest) certificateBytes _ _ _ _ (given .1) (search needs) _ refl
     (gives-bytes (given .2) _ _ (packed-all (c .before .before .write-bytes .ensures) (omega arith)))
 
 returns-3 : tie.Need-returns-3
 returns-3 c =
     let told = c .before .before .before .before in
     let lent = told .before .before .before .before .args .bytes .now in
-    solves-refused (4 * longest) certificateBytes lent lent _ _
+    solves-refused (wordBytes * longest) certificateBytes lent lent _ _
     (was-refused (told .before .before .before .before .args .system .now) (replicate longest 0) _ _ (told .solve .ensures)
     (omega arith)
     (ap countedOutcome (c .before .solved2 .given .1))) refl refl

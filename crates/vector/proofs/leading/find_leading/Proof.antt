@@ -7,6 +7,7 @@ use lib.ListN.{length}
 use Rattle.algebra.specs.Coefficients.{leading}
 use Rattle.vector.specs.Reduced.{polynomial}
 use Rattle.vector.specs.Row.{reduced-take-row}
+use Rattle.vector.specs.RowStored.{rowWords}
 use Rattle.vector.proofs.leading.find_leading.Statement.{statement}
 use Rattle.vector.proofs.leading.find_leading.Tie as tie
 
@@ -24,7 +25,7 @@ loop-again c =
     let L = c .before .before .before .before .before in
     let A = L .before .before .args in
     let none = sym (c .before .or-of-row .ensures) ∙ eqb-true (c .before .or-of-row .result) 0 (c .if2 .taken) in
-    let next : L .loop .k ≡ L .loop .k - 8 + 8 = omega arith in
+    let next : L .loop .k ≡ L .loop .k - rowWords + rowWords = omega arith in
     (omega arith, L .loop .inv .1 ∙ reduced-take-row (A .modulus .p) (A .h .now) _ _ next (omega arith) none)
 
 find-leading-near-requires : tie.Need-find-leading-near-requires Inv-loop μ-loop

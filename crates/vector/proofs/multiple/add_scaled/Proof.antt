@@ -3,6 +3,7 @@ use mathlib.Core.List.{List}
 use Prim.Native.Nat.{ℕ, _-_}
 use native.Mathlib.Omega.{arith}
 use Rattle.vector.specs.Multiple.{sumAt, gains-multiple}
+use Rattle.vector.specs.RowStored.{rowWords}
 use Rattle.vector.proofs.Storing.{Storing, storing-start, storing-turn, storing-end}
 use Rattle.vector.proofs.Sums.{next-sum, next-fits, row-fits, row-stored}
 use Rattle.vector.proofs.multiple.add_scaled.Statement.{statement}
@@ -51,7 +52,7 @@ add-row-requires c κs =
     let L = c .before .before in
     let start = L .before .before .before in
     let A = start .args in
-    row-fits (A .h .now) (A .d) (A .s .now) (A .a) (A .n) (A .c) (L .loop .inv) (start .pre) 8 (omega arith)
+    row-fits (A .h .now) (A .d) (A .s .now) (A .a) (A .n) (A .c) (L .loop .inv) (start .pre) rowWords (omega arith)
 
 loop-again : tie.Need-loop-again Inv-loop μ-loop Inv-loop2 μ-loop2
 loop-again c =

@@ -4,7 +4,7 @@ use mathlib.Core.List.{List}
 use Prim.Native.Nat.{ℕ, _+_}
 use native.Mathlib.Omega.{arith}
 use Rattle.vector.specs.Sum.{sumAt, sum-later, first-fit, later-fit}
-use Rattle.vector.specs.RowStored.{fourStored, rowStored}
+use Rattle.vector.specs.RowStored.{fourStored, rowStored, rowWords}
 use Rattle.vector.proofs.sum.add_row.Statement.{statement}
 use Rattle.vector.proofs.sum.add_row.Tie as tie
 
@@ -27,13 +27,13 @@ sums-at-requires : tie.Need-sums-at-requires
 sums-at-requires c κs =
     let start = c .before .before .before in
     let A = start .args in
-    first-fit (A .h .now) (A .d) (A .s .now) (A .a) 8 (A .c) (start .pre) 4 (omega arith)
+    first-fit (A .h .now) (A .d) (A .s .now) (A .a) rowWords (A .c) (start .pre) 4 (omega arith)
 
 sums-at-requires-2 : tie.Need-sums-at-requires-2
 sums-at-requires-2 c κs =
     let start = c .before .before .before .before .before in
     let A = start .args in
-    later-fit (A .h .now) (A .d) (A .s .now) (A .a) 8 (A .c) (start .pre) 4 4 (omega arith)
+    later-fit (A .h .now) (A .d) (A .s .now) (A .a) rowWords (A .c) (start .pre) 4 4 (omega arith)
 
 store-four-requires-2 : tie.Need-store-four-requires-2
 store-four-requires-2 c κs = omega (arith, c .before .before .before .store-four .kept .0)

@@ -4,6 +4,7 @@ use Prim.Native.Nat.{ℕ, _+_, _*_, _%_}
 use native.Mathlib.Omega.{arith}
 use native.Mathlib.Nat.{mod-eq-of-lt}
 use lib.ListN.{getD}
+use Rattle.modular.specs.Bits.{bound32}
 use Rattle.vector.proofs.sum.sum_at.Statement.{statement}
 use Rattle.vector.proofs.sum.sum_at.Tie as tie
 use Rattle.vector.proofs.sum.sum_at.Reads as reads
@@ -14,7 +15,7 @@ Read = lts.After-shared-slice-known2 reads.Pre reads.Post
 
 same-product : (c : Read) →
     let A = c .before .before .args in
-    A .c % 4294967296 * (getD (A .s .now) (A .a + A .j) 0 % 4294967296) ≡ A .c * getD (A .s .now) (A .a + A .j) 0
+    A .c % bound32 * (getD (A .s .now) (A .a + A .j) 0 % bound32) ≡ A .c * getD (A .s .now) (A .a + A .j) 0
 same-product c =
     let given = c .before .before .pre in
     ap₂ _*_ (mod-eq-of-lt (given .0 .2)) (mod-eq-of-lt (given .0 .3))

@@ -3,6 +3,7 @@ use Prim.Native.Nat.{_+_, _≤_, _<_}
 use native.Mathlib.Omega.{arith}
 use borrow.Author.Needs.{needs}
 use lib.ListN.{length, length-set, length-take, length-drop}
+use Rattle.words.specs.Word.{payloadBound}
 use Rattle.write_frame.proofs.Framed.{length-whole, length-ended, framed-written}
 use Rattle.write_frame.proofs.frame.write_framed.Statement.{statement}
 use Rattle.write_frame.proofs.frame.write_framed.Tie as tie
@@ -10,7 +11,7 @@ use Rattle.write_frame.proofs.frame.write_framed.Tie as tie
 -- behind the polynomials: the count of all words fits, and there is room for the end
 fits-at : (c : tie.After-slice-known2) →
     let n = c .before .before .write-polynomials .result in
-    (2 + n < 268435456) × (2 + n ≤ length (c .before .before .before .before .before .before .before .args .words .now))
+    (2 + n < payloadBound) × (2 + n ≤ length (c .before .before .before .before .before .before .before .args .words .now))
 fits-at c =
     let S = c .before .before .before .before .before .before .before in
     let short = S .pre .0 .short in

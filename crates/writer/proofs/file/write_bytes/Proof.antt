@@ -3,6 +3,7 @@ use Prim.Native.Nat.{_+_, _-_, _*_, _≤_, _<_}
 use native.Mathlib.Omega.{arith}
 use lib.ListN.{length}
 use borrow.Author.Needs.{needs}
+use Rattle.words.specs.Bytes.{wordBytes}
 use Rattle.writer.proofs.WordBytes.{BytesWritten, bytes-start, bytes-room, bytes-next, bytes-end}
 use Rattle.writer.proofs.file.write_bytes.Statement.{statement}
 use Rattle.writer.proofs.file.write_bytes.Tie as tie
@@ -17,7 +18,7 @@ abbrev μ-loop : tie.MeasureT-loop
 room-at : (c : tie.In-loop Inv-loop μ-loop) →
     let a = c .before .before .before .before .before .args in
     let i = c .before .loop .i in
-    (i < length (a .words .now)) × (4 * i + 4 ≤ length (a .bytes .now))
+    (i < length (a .words .now)) × (wordBytes * i + wordBytes ≤ length (a .bytes .now))
 room-at c =
     let a = c .before .before .before .before .before .args in
     bytes-room (a .words .now) (a .bytes .now) _ (c .before .before .lesser .ensures) _ (c .loop-test .taken)

@@ -13,7 +13,7 @@ use Rattle.writer.proofs.format.format_for.Tie as tie
 
 module _ (c : tie.Start) where
   -- the polynomials of A
-  product : c .args .rows * c .args .columns ≤ 8 * 8
+  product : c .args .rows * c .args .columns ≤ office .rows * office .columns
   product = mul-le-mul (c .pre .rows .1) (c .pre .columns .1)
 
   abbrev h : Shape

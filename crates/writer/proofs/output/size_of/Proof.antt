@@ -2,6 +2,7 @@
 use mathlib.Core.Path.{_≡_, refl, sym, _∙_}
 use Prim.Native.Nat.{_*_, _≤_}
 use native.Mathlib.Omega.{arith}
+use Rattle.words.specs.Limits.{office}
 use Rattle.writer.specs.Values.{certificateStride}
 use Rattle.writer.specs.Output.{sizeFrom, sizeIn}
 use Rattle.writer.specs.OutputLaws.{size-down, size-found, size-most}
@@ -9,7 +10,8 @@ use Rattle.writer.proofs.output.size_of.Statement.{statement}
 use Rattle.writer.proofs.output.size_of.Tie as tie
 
 abbrev Inv-loop : tie.InvT-loop
-Inv-loop output k size₀ size = (size ≤ 121) × (sizeFrom output (certificateStride * k) size ≡ sizeIn output k)
+Inv-loop output k size₀ size =
+    (size ≤ office .certificateCoefficients) × (sizeFrom output (certificateStride * k) size ≡ sizeIn output k)
 
 abbrev μ-loop : tie.MeasureT-loop
 μ-loop output k size₀ size = size

@@ -4,8 +4,10 @@ use Prim.Native.Nat.{_+_, _-_, _<_, _≤_}
 use native.Mathlib.Omega.{arith}
 use lib.ListN.{length}
 use borrow.Author.Needs.{needs}
+use Rattle.modular.specs.Bits.{most16}
 use Rattle.residue.specs.Modulus.{ValidModulus}
 use Rattle.polynomial.specs.Value.{polynomialRoom, represents-is}
+use Rattle.polynomial.specs.Product.{sumMost}
 use Rattle.polynomial.proofs.Products.{words-at-most, products-small, products-are}
 use Rattle.polynomial.proofs.value.Polynomial.add_product.Statement.{statement}
 use Rattle.polynomial.proofs.value.Polynomial.add_product.Tie as tie
@@ -15,9 +17,9 @@ add-rows-requires c κs =
     let S = c .before .before .before .before .before .before .before .before in
     let m : ValidModulus (S .args .modulus) = S .pre .0 .0 in
     let positive : 0 < S .args .modulus .p = omega (arith, m .prime .large) in
-    let limit : S .args .modulus .p ≤ 65535 = omega (arith, m .limit) in
-    let small = words-at-most (S .args .modulus .p) positive 65535 limit in
-    let sum = words-at-most (S .args .modulus .p) positive 4611686018427387904 (omega arith) in
+    let limit : S .args .modulus .p ≤ most16 = omega (arith, m .limit) in
+    let small = words-at-most (S .args .modulus .p) positive most16 limit in
+    let sum = words-at-most (S .args .modulus .p) positive sumMost (omega arith) in
     let s = S .pre .0 .1 in
     let f = S .pre .0 .2 in
     let g = S .pre .0 .3 in (

@@ -2,7 +2,7 @@
 use native.Mathlib.Nat.{mul-le-mul, le-of-lt}
 use native.Mathlib.Omega.{arith}
 use Rattle.modular.specs.Modulo.{modulo}
-use Rattle.residue.specs.Modulus.{largestPrime}
+use Rattle.modular.specs.LargestPrime.{largestPrime}
 use Rattle.residue.proofs.modulus.Modulus.mul.Statement.{statement}
 use Rattle.residue.proofs.modulus.Modulus.mul.Tie as tie
 

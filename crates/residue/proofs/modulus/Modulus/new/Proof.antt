@@ -3,6 +3,7 @@ use mathlib.Core.Path.{_≡_, refl, ap}
 use Prim.Native.Nat.{ℕ, _-_, _*_, _/_, _^_, _≤_}
 use native.Mathlib.Omega.{arith}
 use lib.Pow.{pow-pos, pow-add}
+use Rattle.modular.specs.Bits.{bound32}
 use Rattle.residue.proofs.Barrett.{shift-limit}
 use Rattle.residue.proofs.modulus.Modulus.new.Statement.{statement}
 use Rattle.residue.proofs.modulus.Modulus.new.Tie as tie
@@ -35,7 +36,7 @@ returns c =
         limit = l .before .pre .1;
         scale-low = omega arith;
         scale-high = omega arith;
-        reciprocal = ap (λ (s : ℕ). 4294967296 * s / l .before .args .p) (l .loop .inv .0);
+        reciprocal = ap (λ (s : ℕ). bound32 * s / l .before .args .p) (l .loop .inv .0);
       },
       refl,
     )
