@@ -13,7 +13,7 @@ use Rattle.residue.specs.Sum.{SmallSum}
 use Rattle.vector.specs.Bound.{AtMost}
 use Rattle.vector.specs.Reduced.{polynomial}
 use Rattle.polynomial.specs.Value.{value-polynomial}
-use Rattle.polynomial.specs.Product.{GainsProduct}
+use Rattle.vector.specs.Product.{GainsProduct}
 use Rattle.polynomial.proofs.Made.{represents-zero}
 use Rattle.truth.specs.Solution.{totalModulo}
 use Rattle.loader.specs.SlotLaws.{canonical-word, canonical-polynomial}

@@ -2,29 +2,12 @@
 use crate::value::Polynomial;
 use residue::modulus::Modulus;
 use residue::number::larger;
-use vector::add_scaled;
+use vector::add_rows;
 ghost use Prim.Native.Nat.{_+_, _≤_};
-ghost use lib.ListN.{length};
 ghost use Rattle.algebra.specs.Coefficients.{add, mul};
 ghost use Rattle.modular.specs.Modulo.{modulo};
 ghost use Rattle.residue.specs.Modulus.{ValidModulus};
-ghost use Rattle.vector.specs.Bound.{AtMost};
 ghost use Rattle.polynomial.specs.Value.{polynomialRoom, coefficientsOf, ValidPolynomial, Represents};
-ghost use Rattle.polynomial.specs.Product.{GainsProduct};
-
-// Adds f g to h, for n words of f and k words of g: a row c x^i g for each coefficient c of f. The words of h may be sums of many
-// products.
-pub fn add_rows(h: &mut [u64], f: &[u64], n: usize, g: &[u64], k: usize)
-    requires { ⌜ (n ≤ length (now f)) × (k ≤ length (now g)) × (n + k ≤ length (now h) + 1) × (n ≤ polynomialRoom) ⌝ }
-    requires small { ⌜ AtMost 4611686018427387904 (now h) × AtMost 65535 (now f) × AtMost 65535 (now g) ⌝ }
-    ensures { λ _. ⌜ GainsProduct (now (h .entry)) (now (f .entry)) n (now (g .entry)) k (now (h .exit)) ⌝ }
-{
-    let mut i = 0;
-    while i < n {
-        add_scaled(h, i, g, 0, k, f[i]);
-        i += 1;
-    }
-}
 
 impl Polynomial {
     // Returns self + f g.

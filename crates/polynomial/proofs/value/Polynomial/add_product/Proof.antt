@@ -21,7 +21,7 @@ add-rows-requires c κs =
     let s = S .pre .0 .1 in
     let f = S .pre .0 .2 in
     let g = S .pre .0 .3 in (
-      (omega (arith, f .room, f .within), omega (arith, g .room, g .within), omega (arith, s .room), f .within),
+      (omega (arith, f .room, f .within), omega (arith, g .room, g .within), omega (arith, s .room), omega (arith, f .within)),
       (sum (S .args .self) s, small (S .args .t2) f, small (S .args .t3) g),
     )
 
