@@ -3,14 +3,13 @@ use mathlib.Core.Path.{_≡_, sym, ap, _∙_}
 use mathlib.Core.Logic.{⊎-elim, inr}
 use mathlib.Core.List.{List}
 use Prim.Native.Nat.{ℕ, _+_, _%_, _≤_, _<_}
-use native.Mathlib.Nat.{zero-mod, mod-lt, mod-mod}
+use native.Mathlib.Nat.{zero-mod}
 use native.Mathlib.Omega.{arith}
 use lib.ListN.{length, getD, take, drop}
 use Rattle.algebra.specs.Coefficients.{coefficient}
 use Rattle.modular.specs.Modulo.{modulo}
 use Rattle.vector.specs.Stored.{stored, stored-first, stored-outside, length-stored, below-or-not}
 use Rattle.vector.specs.Reduced.{polynomial, canonical-reduced, coefficient-reduced, word-inside, word-behind}
-use Rattle.vector.specs.Moved.{polynomial-stored}
 use Rattle.vector.specs.Size.{length-polynomial}
 use Rattle.polynomial.specs.Value.{polynomialRoom, Represents, represents}
 
@@ -28,29 +27,11 @@ module _ {p : ℕ} {words : List ℕ} {a n : ℕ} {zeros residues : List ℕ} (b
       ap (λ (l : List ℕ). getD l j 0) (by .copies)
       ∙ stored-first (λ j. getD words (a + j) 0 % p) zeros n j (omega (arith, by .few, by .room)) lt
 
-  pub residue-small : (j : ℕ) → j < n → getD residues j 0 < p
-  residue-small j lt = rw (residue-word j lt) (mod-lt (getD words (a + j) 0) (by .positive))
-
   behind : (i : ℕ) → n ≤ i → getD residues i 0 ≡ 0
   behind i ge =
       ap (λ (l : List ℕ). getD l i 0) (by .copies)
       ∙ stored-outside (λ j. getD words (a + j) 0 % p) zeros 0 n i (inr (omega arith))
       ∙ by .zero i
-
-  same : polynomial p residues 0 n ≡ polynomial p words a n
-  same =
-      ap (λ (l : List ℕ). polynomial p l 0 n) (by .copies)
-      ∙ polynomial-stored
-      p
-      (by .positive)
-      (λ j. getD words (a + j) 0 % p)
-      zeros
-      0
-      n
-      (omega (arith, by .few, by .room))
-      words
-      a
-      (λ j lt. mod-mod (getD words (a + j) 0) p)
 
   word : (i : ℕ) → getD residues i 0 ≡ coefficient (modulo p) (polynomial p words a n) i
   word i =
@@ -60,7 +41,7 @@ module _ {p : ℕ} {words : List ℕ} {a n : ℕ} {zeros residues : List ℕ} (b
       (below-or-not i n)
       ∙ sym (coefficient-reduced p (by .positive) (take n (drop a words)) i)
 
-  pub represents-words : (k : ℕ) → k ≡ length (polynomial p residues 0 n) →
+  pub represents-words : (k : ℕ) → k ≡ length (polynomial p words a n) →
       Represents p (record { size = k; coefficients = residues }) (polynomial p words a n)
   represents-words k size =
       represents
@@ -69,6 +50,6 @@ module _ {p : ℕ} {words : List ℕ} {a n : ℕ} {zeros residues : List ℕ} (b
       (polynomial p words a n)
       (canonical-reduced p (by .positive) (take n (drop a words)))
       (ap length (by .copies) ∙ length-stored (λ j. getD words (a + j) 0 % p) zeros 0 n ∙ by .room)
-      (size ∙ ap length same)
+      size
       (omega (arith, by .few, length-polynomial p words a n))
       word

@@ -12,10 +12,11 @@ impl Polynomial {
         requires { ⌜ (self .size ≤ polynomialRoom) × (g .size ≤ polynomialRoom) ⌝ }
         ensures { λ r. ⌜ Decides r (coefficientsOf self ≡ coefficientsOf g) ⌝ }
     {
-        let n = self.size;
-        if n != g.size {
+        if self.size != g.size {
             return false;
         }
-        same_words(&self.coefficients, &g.coefficients, n)
+        let left = self.coefficients;
+        let right = g.coefficients;
+        same_words(&left, &right, self.size)
     }
 }

@@ -18,7 +18,8 @@ impl Polynomial {
             (add (modulo (modulus .p)) (coefficientsOf self) (scale (modulo (modulus .p)) c (coefficientsOf g))) ⌝ }
     {
         let mut h = self.coefficients;
-        add_scaled(&mut h, 0, &g.coefficients, 0, g.size, c);
+        let words = g.coefficients;
+        add_scaled(&mut h, 0, &words, 0, g.size, c);
         Polynomial::from_words(&h, 0, larger(self.size, g.size), modulus)
     }
 

@@ -19,7 +19,9 @@ impl Polynomial {
             (add (modulo (modulus .p)) (coefficientsOf self) (mul (modulo (modulus .p)) (coefficientsOf f) (coefficientsOf g))) ⌝ }
     {
         let mut h = self.coefficients;
-        add_rows(&mut h, &f.coefficients, f.size, &g.coefficients, g.size);
+        let rows = f.coefficients;
+        let words = g.coefficients;
+        add_rows(&mut h, &rows, f.size, &words, g.size);
         Polynomial::from_words(&h, 0, larger(self.size + 1, f.size + g.size) - 1, modulus)
     }
 

@@ -1,7 +1,6 @@
 // The value itself: made, and asked for what it is.
 use residue::modulus::Modulus;
-use vector::copy_reduced;
-use vector::find_leading;
+use vector::copy_polynomial;
 ghost use mathlib.Core.Path.{_≡_};
 ghost use mathlib.Core.List.{[]};
 ghost use Prim.Native.Nat.{ℕ, _+_, _<_, _≤_};
@@ -62,10 +61,9 @@ impl Polynomial {
         ensures { λ r. ⌜ Represents (modulus .p) r (polynomial (modulus .p) (now (words .entry)) a n) ⌝ }
     {
         let mut residues = zeros();
-        copy_reduced(&mut residues, words, a, n, modulus);
-        let leading = find_leading(&residues, n, modulus);
+        let size = copy_polynomial(&mut residues, words, a, n, modulus);
         Polynomial {
-            size: leading.size,
+            size,
             coefficients: residues,
         }
     }
@@ -86,7 +84,8 @@ impl Polynomial {
         if n == 0 {
             return 0;
         }
-        self.coefficients[n - 1]
+        let words = self.coefficients;
+        words[n - 1]
     }
 
     // Tells whether the leading coefficient is 1.

@@ -5,6 +5,7 @@ pub mod leading;
 pub mod multiple;
 pub mod product;
 pub mod range;
+pub mod residues;
 
 // Eight words at once: what the loops on long ranges do in one turn.
 pub mod or;
@@ -19,6 +20,6 @@ pub use multiple::add_scaled;
 pub use product::add_rows;
 pub use range::clear;
 pub use range::copy;
-pub use range::copy_reduced;
 pub use range::exchange;
 pub use range::reduce_range;
+pub use residues::copy_polynomial;

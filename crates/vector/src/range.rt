@@ -1,9 +1,8 @@
 // A range of words reduced, cleared, copied to another, and exchanged with another.
 ghost use mathlib.Core.Path.{_≡_};
-ghost use Prim.Native.Nat.{ℕ, _+_, _%_, _<_, _≤_};
+ghost use Prim.Native.Nat.{_+_, _%_, _≤_};
 ghost use lib.ListN.{length, getD};
 ghost use Rattle.residue.specs.Modulus.{ValidModulus};
-ghost use Rattle.residue.specs.Sum.{SmallSum};
 ghost use Rattle.vector.specs.Bound.{Reducible};
 ghost use Rattle.vector.specs.Stored.{stored};
 use residue::modulus::Modulus;
@@ -41,19 +40,6 @@ pub fn copy(h: &mut [u64], d: usize, s: &[u64], a: usize, n: usize)
     let mut j = 0;
     while j < n {
         h[d + j] = s[a + j];
-        j += 1;
-    }
-}
-
-// Copies s[a + j] to h[j], reduced modulo p, for j below n.
-pub fn copy_reduced(h: &mut [u64], s: &[u64], a: usize, n: usize, modulus: Modulus)
-    requires { ⌜ ValidModulus modulus × (n ≤ length (now h)) × (a + n ≤ length (now s)) ⌝ }
-    requires sums { ⌜ ((j : ℕ) → j < n → SmallSum (modulus .p) (getD (now s) (a + j) 0)) ⌝ }
-    ensures { λ _. ⌜ now (h .exit) ≡ stored (λ j. getD (now (s .entry)) (a + j) 0 % modulus .p) (now (h .entry)) 0 n ⌝ }
-{
-    let mut j = 0;
-    while j < n {
-        h[j] = modulus.reduce(s[a + j]);
         j += 1;
     }
 }

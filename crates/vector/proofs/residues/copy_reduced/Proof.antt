@@ -1,12 +1,12 @@
--- `vector::range::copy_reduced` meets its contract: before turn j the first j words are copied. Assumes nothing.
+-- `vector::residues::copy_reduced` meets its contract: before turn j the first j words are copied. Assumes nothing.
 use mathlib.Core.Path.{sym}
 use Prim.Native.Nat.{_+_, _-_, _%_}
 use native.Mathlib.Nat.{zero-add}
 use native.Mathlib.Omega.{arith}
 use lib.ListN.{getD}
 use Rattle.vector.proofs.Storing.{Storing, storing-start, storing-turn-at, storing-end}
-use Rattle.vector.proofs.range.copy_reduced.Statement.{statement}
-use Rattle.vector.proofs.range.copy_reduced.Tie as tie
+use Rattle.vector.proofs.residues.copy_reduced.Statement.{statement}
+use Rattle.vector.proofs.residues.copy_reduced.Tie as tie
 
 abbrev Inv-loop : tie.InvT-loop
 Inv-loop h₀ s a n modulus j₀ h j = Storing (λ i. getD s (a + i) 0 % modulus .p) h₀ 0 n h j
