@@ -5,6 +5,11 @@ use Rattle.polynomial.proofs.Residues.{represents-words}
 use Rattle.polynomial.proofs.value.Polynomial.from_words.Statement.{statement}
 use Rattle.polynomial.proofs.value.Polynomial.from_words.Tie as tie
 
+copy-polynomial-requires : tie.Need-copy-polynomial-requires
+copy-polynomial-requires c κs =
+    let S = c .before .before .before in
+    ((S .pre .0 .0, omega (arith, c .before .zeros .ensures .0, S .pre .0 .1), S .pre .0 .2), S .pre .1)
+
 returns : tie.Need-returns
 returns c =
     let S = c .before .before .before .before .before in
@@ -27,4 +32,4 @@ returns c =
     (copies .ensures .1)
 
 pub from-words-spec : {M : Type 1} → statement M
-from-words-spec = tie.close (tie.spec (λ c κs. search needs) (λ c. search needs) (λ c κs. search needs) returns)
+from-words-spec = tie.close (tie.spec (λ c κs. search needs) (λ c. search needs) copy-polynomial-requires returns)
