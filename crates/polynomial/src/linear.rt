@@ -52,9 +52,10 @@ impl Polynomial {
         requires { ⌜ ValidModulus modulus × ValidPolynomial (modulus .p) self ⌝ }
         ensures { λ r. ⌜ Represents (modulus .p) r (monic (modulo (modulus .p)) (coefficientsOf self)) ⌝ }
     {
-        if self.size == 0 {
+        if self.size < 1 {
             return self;
         }
-        self.scale(modulus.inverse(self.leading()), modulus)
+        let inverse = modulus.inverse(self.leading());
+        self.scale(inverse, modulus)
     }
 }

@@ -61,9 +61,9 @@ impl Polynomial {
         ensures { λ r. ⌜ Represents (modulus .p) r (polynomial (modulus .p) (now (words .entry)) a n) ⌝ }
     {
         let mut residues = zeros();
-        let size = copy_polynomial(&mut residues, words, a, n, modulus);
+        let count = copy_polynomial(&mut residues, words, a, n, modulus);
         Polynomial {
-            size,
+            size: count,
             coefficients: residues,
         }
     }

@@ -39,6 +39,7 @@ from-words-requires c κs =
     (S .pre .0 .1)
     (S .pre .0 .2)
     (S .pre .0 .3)
+    (omega (arith, S .pre .0 .2 .within))
     (called .ensures) in
     ((m, fits, omega arith), λ i lt. small (0 + i))
 

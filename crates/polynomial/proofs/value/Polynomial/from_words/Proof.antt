@@ -8,7 +8,8 @@ use Rattle.polynomial.proofs.value.Polynomial.from_words.Tie as tie
 copy-polynomial-requires : tie.Need-copy-polynomial-requires
 copy-polynomial-requires c κs =
     let S = c .before .before .before in
-    ((S .pre .0 .0, omega (arith, c .before .zeros .ensures .0, S .pre .0 .1), S .pre .0 .2), S .pre .1)
+    let long = c .before .zeros .ensures .0 in
+    ((S .pre .0 .0, omega (arith, long, S .pre .0 .1), omega (arith, S .pre .0 .2)), λ j lt. S .pre .1 j (omega arith))
 
 returns : tie.Need-returns
 returns c =
