@@ -15,7 +15,7 @@ use Rattle.residue.specs.Sum.{SmallSum}
 use Rattle.vector.specs.Bound.{AtMost}
 use Rattle.vector.specs.Reduced.{polynomial}
 use Rattle.polynomial.specs.Value.{polynomialRoom, value-polynomial}
-use Rattle.polynomial.specs.Product.{sumMost, GainsProduct}
+use Rattle.vector.specs.Product.{sumMost, GainsProduct}
 use Rattle.polynomial.proofs.Made.{represents-zero}
 use Rattle.truth.specs.Solution.{totalModulo}
 use Rattle.loader.specs.SlotLaws.{canonical-word, canonical-polynomial}

@@ -1,5 +1,2 @@
-pub mod Rest
-pub mod Step
-pub mod Dividing
 pub mod Values
 pub mod Remainders

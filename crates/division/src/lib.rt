@@ -2,6 +2,7 @@
 use polynomial::Polynomial;
 use polynomial::value::zeros;
 use residue::modulus::Modulus;
+use vector::divide_words;
 ghost use Prim.Native.Nat.{_<_};
 ghost use Rattle.algebra.specs.Coefficients.{quotient, remainder};
 ghost use Rattle.modular.specs.Modulo.{modulo};
@@ -9,7 +10,6 @@ ghost use Rattle.residue.specs.Modulus.{ValidModulus};
 ghost use Rattle.polynomial.specs.Value.{coefficientsOf, ValidPolynomial, Represents};
 
 pub mod euclid;
-mod long;
 
 pub use euclid::gcd;
 
@@ -31,7 +31,7 @@ pub fn divide(f: Polynomial, d: Polynomial, modulus: Modulus) -> Division
     let n = f.size;
     let mut h = f.coefficients;
     let mut q = zeros();
-    long::divide_words(
+    divide_words(
         &mut h,
         n,
         &mut q,

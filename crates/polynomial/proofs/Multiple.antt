@@ -74,19 +74,16 @@ module _ (p : ℕ) (positive : 0 < p) where
     words-small : AtMost p (f .coefficients)
     words-small j = let below : getD (f .coefficients) j 0 < p = word-below p f hf positive j in omega arith
 
-    -- what `add_scaled` stores
-    abbrev sums : List ℕ
-    sums = stored (sumAt (f .coefficients) 0 (g .coefficients) 0 c) (f .coefficients) 0 (g .size)
+    -- what `add_scaled` adds up and stores, of any k words
+    pub multiple-fits : p ≤ largestPrime → (j : ℕ) → sumAt (f .coefficients) 0 (g .coefficients) 0 c j < bound64
+    multiple-fits limit j = omega (arith, words-small (0 + j), product-small j, mul-le-mul-right p limit)
 
-    pub multiple-fits : p ≤ largestPrime → (j : ℕ) → j < g .size
-        → sumAt (f .coefficients) 0 (g .coefficients) 0 c j < bound64
-    multiple-fits limit j lt = omega (arith, words-small (0 + j), product-small j, mul-le-mul-right p limit)
-
-    pub multiple-small : {h : List ℕ} → h ≡ sums → (i : ℕ) → SmallSum p (getD h i 0)
-    multiple-small words i =
+    pub multiple-small : {h : List ℕ} (k : ℕ) →
+        h ≡ stored (sumAt (f .coefficients) 0 (g .coefficients) 0 c) (f .coefficients) 0 k → (i : ℕ) → SmallSum p (getD h i 0)
+    multiple-small k words i =
         rw words (omega (
           arith,
-          at-most-sum p (p * p) (f .coefficients) 0 (g .coefficients) 0 (g .size) c words-small (λ j lt. product-small j) i,
+          at-most-sum p (p * p) (f .coefficients) 0 (g .coefficients) 0 k c words-small (λ j lt. product-small j) i,
           le-mul-of-pos-right p positive,
         ))
 

@@ -1,85 +1,55 @@
--- Words copied to zeros and reduced there: the words of the value that they stand for.
+-- Words copied to zeros and reduced: the words of the value that they stand for.
 use mathlib.Core.Path.{_≡_, sym, ap, _∙_}
 use mathlib.Core.Logic.{⊎-elim, inr}
 use mathlib.Core.List.{List}
 use Prim.Native.Nat.{ℕ, _+_, _%_, _≤_, _<_}
-use native.Mathlib.Nat.{zero-mod, mod-lt, mod-mod}
+use native.Mathlib.Nat.{zero-mod}
 use native.Mathlib.Omega.{arith}
 use lib.ListN.{length, getD, take, drop}
 use Rattle.algebra.specs.Coefficients.{coefficient}
 use Rattle.modular.specs.Modulo.{modulo}
 use Rattle.vector.specs.Stored.{stored, stored-first, stored-outside, length-stored, below-or-not}
 use Rattle.vector.specs.Reduced.{polynomial, canonical-reduced, coefficient-reduced, word-inside, word-behind}
-use Rattle.vector.specs.Moved.{polynomial-stored}
+use Rattle.vector.specs.Size.{length-polynomial}
 use Rattle.polynomial.specs.Value.{polynomialRoom, Represents, represents}
-use Rattle.polynomial.proofs.Rows.{length-polynomial}
 
--- n words from the place a on are copied to zeros
-pub record Copied (words : List ℕ) (a n : ℕ) (zeros copied : List ℕ) : Type 0 where
+-- n words from the place a on are copied to zeros, each modulo p
+pub record Residues (p : ℕ) (words : List ℕ) (a n : ℕ) (zeros residues : List ℕ) : Type 0 where
+  pub positive : 0 < p
   pub few : n ≤ polynomialRoom
   pub room : length zeros ≡ polynomialRoom
   pub zero : (i : ℕ) → getD zeros i 0 ≡ 0
-  pub copies : copied ≡ stored (λ j. getD words (a + j) 0) zeros 0 n
+  pub copies : residues ≡ stored (λ j. getD words (a + j) 0 % p) zeros 0 n
 
-module _ {words : List ℕ} {a n : ℕ} {zeros copied : List ℕ} (by : Copied words a n zeros copied) where
-  pub copied-word : (j : ℕ) → j < n → getD copied j 0 ≡ getD words (a + j) 0
-  copied-word j lt =
+module _ {p : ℕ} {words : List ℕ} {a n : ℕ} {zeros residues : List ℕ} (by : Residues p words a n zeros residues) where
+  residue-word : (j : ℕ) → j < n → getD residues j 0 ≡ getD words (a + j) 0 % p
+  residue-word j lt =
       ap (λ (l : List ℕ). getD l j 0) (by .copies)
-      ∙ stored-first (λ j. getD words (a + j) 0) zeros n j (omega (arith, by .few, by .room)) lt
+      ∙ stored-first (λ j. getD words (a + j) 0 % p) zeros n j (omega (arith, by .few, by .room)) lt
 
-  long : length copied ≡ polynomialRoom
-  long = ap length (by .copies) ∙ length-stored (λ j. getD words (a + j) 0) zeros 0 n ∙ by .room
+  behind : (i : ℕ) → n ≤ i → getD residues i 0 ≡ 0
+  behind i ge =
+      ap (λ (l : List ℕ). getD l i 0) (by .copies)
+      ∙ stored-outside (λ j. getD words (a + j) 0 % p) zeros 0 n i (inr (omega arith))
+      ∙ by .zero i
 
-  module _ (p : ℕ) (positive : 0 < p) {residues : List ℕ} (reduces : residues ≡ stored (λ j. getD copied j 0 % p) copied 0 n) where
-    residue-word : (j : ℕ) → j < n → getD residues j 0 ≡ getD words (a + j) 0 % p
-    residue-word j lt =
-        ap (λ (l : List ℕ). getD l j 0) reduces
-        ∙ stored-first (λ j. getD copied j 0 % p) copied n j (omega (arith, by .few, long)) lt
-        ∙ ap (λ (x : ℕ). x % p) (copied-word j lt)
+  word : (i : ℕ) → getD residues i 0 ≡ coefficient (modulo p) (polynomial p words a n) i
+  word i =
+      ⊎-elim
+      (λ lt. residue-word i lt ∙ ap (λ (x : ℕ). x % p) (sym (word-inside words a n i lt)))
+      (λ ge. behind i ge ∙ sym (ap (λ (x : ℕ). x % p) (word-behind words a n i ge) ∙ zero-mod p))
+      (below-or-not i n)
+      ∙ sym (coefficient-reduced p (by .positive) (take n (drop a words)) i)
 
-    pub residue-small : (j : ℕ) → j < n → getD residues j 0 < p
-    residue-small j lt = rw (residue-word j lt) (mod-lt (getD words (a + j) 0) positive)
-
-    behind : (i : ℕ) → n ≤ i → getD residues i 0 ≡ 0
-    behind i ge =
-        ap (λ (l : List ℕ). getD l i 0) reduces
-        ∙ stored-outside (λ j. getD copied j 0 % p) copied 0 n i (inr (omega arith))
-        ∙ ap (λ (l : List ℕ). getD l i 0) (by .copies)
-        ∙ stored-outside (λ j. getD words (a + j) 0) zeros 0 n i (inr (omega arith))
-        ∙ by .zero i
-
-    same : polynomial p residues 0 n ≡ polynomial p words a n
-    same =
-        ap (λ (l : List ℕ). polynomial p l 0 n) reduces
-        ∙ polynomial-stored
-        p
-        positive
-        (λ j. getD copied j 0 % p)
-        copied
-        0
-        n
-        (omega (arith, by .few, long))
-        words
-        a
-        (λ j lt. mod-mod (getD copied j 0) p ∙ ap (λ (x : ℕ). x % p) (copied-word j lt))
-
-    word : (i : ℕ) → getD residues i 0 ≡ coefficient (modulo p) (polynomial p words a n) i
-    word i =
-        ⊎-elim
-        (λ lt. residue-word i lt ∙ ap (λ (x : ℕ). x % p) (sym (word-inside words a n i lt)))
-        (λ ge. behind i ge ∙ sym (ap (λ (x : ℕ). x % p) (word-behind words a n i ge) ∙ zero-mod p))
-        (below-or-not i n)
-        ∙ sym (coefficient-reduced p positive (take n (drop a words)) i)
-
-    pub represents-words : (k : ℕ) → k ≡ length (polynomial p residues 0 n) →
-        Represents p (record { size = k; coefficients = residues }) (polynomial p words a n)
-    represents-words k size =
-        represents
-        p
-        (record { size = k; coefficients = residues })
-        (polynomial p words a n)
-        (canonical-reduced p positive (take n (drop a words)))
-        (ap length reduces ∙ length-stored (λ j. getD copied j 0 % p) copied 0 n ∙ long)
-        (size ∙ ap length same)
-        (omega (arith, by .few, length-polynomial p words a n))
-        word
+  pub represents-words : (k : ℕ) → k ≡ length (polynomial p words a n) →
+      Represents p (record { size = k; coefficients = residues }) (polynomial p words a n)
+  represents-words k size =
+      represents
+      p
+      (record { size = k; coefficients = residues })
+      (polynomial p words a n)
+      (canonical-reduced p (by .positive) (take n (drop a words)))
+      (ap length (by .copies) ∙ length-stored (λ j. getD words (a + j) 0 % p) zeros 0 n ∙ by .room)
+      size
+      (omega (arith, by .few, length-polynomial p words a n))
+      word

@@ -1,4 +1,2 @@
--- interface, what contracts, other crates and PROVED.md cite: Decides, Value, Product
-pub mod Decides
+-- interface, what contracts, other crates and PROVED.md cite: Value
 pub mod Value
-pub mod Product

@@ -18,7 +18,8 @@ impl Polynomial {
             (add (modulo (modulus .p)) (coefficientsOf self) (scale (modulo (modulus .p)) c (coefficientsOf g))) ⌝ }
     {
         let mut h = self.coefficients;
-        add_scaled(&mut h, 0, &g.coefficients, 0, g.size, c);
+        let words = g.coefficients;
+        add_scaled(&mut h, 0, &words, 0, g.size, c);
         Polynomial::from_words(&h, 0, larger(self.size, g.size), modulus)
     }
 
@@ -51,9 +52,10 @@ impl Polynomial {
         requires { ⌜ ValidModulus modulus × ValidPolynomial (modulus .p) self ⌝ }
         ensures { λ r. ⌜ Represents (modulus .p) r (monic (modulo (modulus .p)) (coefficientsOf self)) ⌝ }
     {
-        if self.size == 0 {
+        if self.size < 1 {
             return self;
         }
-        self.scale(modulus.inverse(self.leading()), modulus)
+        let inverse = modulus.inverse(self.leading());
+        self.scale(inverse, modulus)
     }
 }

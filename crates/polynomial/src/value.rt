@@ -1,8 +1,6 @@
 // The value itself: made, and asked for what it is.
 use residue::modulus::Modulus;
-use vector::copy;
-use vector::find_leading;
-use vector::reduce_range;
+use vector::copy_polynomial;
 ghost use mathlib.Core.Path.{_≡_};
 ghost use mathlib.Core.List.{[]};
 ghost use Prim.Native.Nat.{ℕ, _+_, _<_, _≤_};
@@ -13,7 +11,7 @@ ghost use Rattle.modular.specs.Modulo.{modulo};
 ghost use Rattle.residue.specs.Modulus.{ValidModulus};
 ghost use Rattle.residue.specs.Sum.{SmallSum};
 ghost use Rattle.vector.specs.Reduced.{polynomial};
-ghost use Rattle.polynomial.specs.Decides.{Decides};
+ghost use Rattle.vector.specs.Decides.{Decides};
 ghost use Rattle.polynomial.specs.Value.{polynomialRoom, coefficientsOf, Represents};
 
 // The most coefficients of a polynomial by value: as many as a certificate's polynomial (121) times a row sum (136) has.
@@ -63,11 +61,9 @@ impl Polynomial {
         ensures { λ r. ⌜ Represents (modulus .p) r (polynomial (modulus .p) (now (words .entry)) a n) ⌝ }
     {
         let mut residues = zeros();
-        copy(&mut residues, 0, words, a, n);
-        reduce_range(&mut residues, n, modulus);
-        let leading = find_leading(&residues, n, modulus);
+        let count = copy_polynomial(&mut residues, words, a, n, modulus);
         Polynomial {
-            size: leading.size,
+            size: count,
             coefficients: residues,
         }
     }
@@ -88,7 +84,8 @@ impl Polynomial {
         if n == 0 {
             return 0;
         }
-        self.coefficients[n - 1]
+        let words = self.coefficients;
+        words[n - 1]
     }
 
     // Tells whether the leading coefficient is 1.

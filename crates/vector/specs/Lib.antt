@@ -1,4 +1,5 @@
--- interface, what contracts, other crates and PROVED.md cite: Or, Sum, RowStored, Stored, Reduced, Multiple, Bound, Size, Moved
+-- interface, what contracts, other crates and PROVED.md cite: Or, Sum, RowStored, Stored, Reduced, Multiple, Bound, Size, Moved,
+-- Decides, Product, Long
 -- inside: Row, Examples
 -- Eight words at once: what the loops on long ranges do in one turn.
 pub mod Or
@@ -12,4 +13,7 @@ pub mod Bound
 pub mod Size
 pub mod Row
 pub mod Moved
+pub mod Decides
+pub mod Product
+pub mod Long
 pub mod Examples

@@ -5,14 +5,14 @@ use mathlib.Core.List.{List, [], _∷_, _++_}
 use Prim.Native.Nat.{ℕ, zero, suc, _+_, _%_, _≤_, _<_}
 use native.Mathlib.Numerals.{add-one}
 use native.Mathlib.Omega.{arith}
-use lib.ListN.{length, getD, take}
+use lib.ListN.{length, getD, take, drop, length-take}
 use lib.Seq.{take-suc, length-take-le}
 use lib.Dec.{eqb}
 use borrow.Author.Tests.{eq-eqb, ne-eqb}
 use Rattle.algebra.specs.Coefficients.{single, cons, leading}
 use Rattle.modular.specs.Modulo.{modulo}
 use Rattle.modular.specs.Coefficientwise.{coefficient-beyond, coefficient-last, leading-positive}
-use Rattle.vector.specs.Reduced.{reduced, canonical-reduced, coefficient-reduced}
+use Rattle.vector.specs.Reduced.{reduced, polynomial, canonical-reduced, coefficient-reduced}
 
 module _ (p : ℕ) where
   cons-single : (a : ℕ) (t : Bool) → eqb a 0 ≡ t → cons (modulo p) a [] ≡ single t a
@@ -95,3 +95,6 @@ module _ (p : ℕ) where
   unfolding reduced
   size-reduced [] = omega arith
   size-reduced (a ∷ l) = omega (arith, size-cons-most (a % p) (reduced p l), size-reduced l)
+
+pub length-polynomial : (p : ℕ) (l : List ℕ) (a n : ℕ) → length (polynomial p l a n) ≤ n
+length-polynomial p l a n = omega (arith, size-reduced p (take n (drop a l)), length-take n (drop a l))

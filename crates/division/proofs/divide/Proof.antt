@@ -32,7 +32,7 @@ divide-words-requires c κs =
     let inverse = c .before .before .before .before .before .before .before .inverse in
     let first = c .before .before .before .before .before .before .before .before .leading in
     let inverts = inverse .ensures ∙ ap (modulo p .inverse) (first .ensures p) in (
-      (m, f .within, omega (arith, f .room, f .within), omega (arith, f .within, fresh .ensures .0)),
+      (m, omega (arith, f .within), omega (arith, f .room, f .within), omega (arith, f .within, fresh .ensures .0)),
       (
         (f .canonical, λ i. omega (arith, word-below p (S .args .f) f positive i)),
         (

@@ -12,32 +12,32 @@ use Rattle.polynomial.proofs.value.Polynomial.add_multiple.Tie as tie
 
 add-scaled-requires : tie.Need-add-scaled-requires
 add-scaled-requires c κs =
-    let S = c .before .before .before .before .before in
+    let S = c .before .before .before .before in
     let m : ValidModulus (S .args .modulus) = S .pre .0 in
     let positive : 0 < S .args .modulus .p = omega (arith, m .prime .large) in
     let g = S .pre .3 in (
       (omega (arith, S .pre .1 .room, g .within), omega (arith, g .room, g .within), omega (arith, m .limit, S .pre .2)),
       (
-        (λ j lt. omega (arith, word-below (S .args .modulus .p) (S .args .t3) g positive (0 + j), m .limit)),
-        multiple-fits (S .args .modulus .p) positive (S .pre .1) g (S .args .c) (S .pre .2) (m .limit),
+        (λ j lt. omega (arith, word-below (S .args .modulus .p) (S .args .g) g positive (0 + j), m .limit)),
+        λ j lt. multiple-fits (S .args .modulus .p) positive (S .pre .1) g (S .args .c) (S .pre .2) (m .limit) j,
       ),
     )
 
 from-words-requires : tie.Need-from-words-requires
 from-words-requires c κs =
-    let S = c .before .before .before .before .before .before .before .before .before in
+    let S = c .before .before .before .before .before .before .before .before in
     let m : ValidModulus (S .args .modulus) = S .pre .0 in
     let positive : 0 < S .args .modulus .p = omega (arith, m .prime .large) in
     let called = c .before .before .before .add-scaled in
     let p = S .args .modulus .p in
-    let small = multiple-small p positive (S .pre .1) (S .pre .3) (S .args .c) (S .pre .2) (called .ensures .0) in
+    let small = multiple-small p positive (S .pre .1) (S .pre .3) (S .args .c) (S .pre .2) _ (called .ensures .0) in
     let long : length (called .last .0) ≡ polynomialRoom = search needs in
     let fits : c .larger .result ≤ polynomialRoom = omega (arith, c .larger .ensures, S .pre .1 .within, S .pre .3 .within) in
     ((m, fits, omega arith), λ i lt. small (0 + i))
 
 returns : tie.Need-returns
 returns c =
-    let S = c .before .before .before .before .before .before .before .before .before .before in
+    let S = c .before .before .before .before .before .before .before .before .before in
     let m : ValidModulus (S .args .modulus) = S .pre .0 in
     let positive : 0 < S .args .modulus .p = omega (arith, m .prime .large) in
     let called = c .before .before .before .before .add-scaled in
@@ -60,6 +60,7 @@ pub add-multiple-spec : {M : Type 1} → statement M
 add-multiple-spec =
     tie.close
     (tie.spec
+    (λ c. search needs)
     (λ c. search needs)
     add-scaled-requires
     (λ c. search needs)

@@ -1,63 +1,36 @@
--- The words are copied, reduced and counted; `Residues` says that this gives the value.
-use mathlib.Core.Path.{_≡_}
-use Prim.Native.Nat.{_<_}
-use native.Mathlib.Nat.{le-mul-of-pos-right}
+-- The words are copied to zeros and reduced; `Residues` says that this gives the value.
 use native.Mathlib.Omega.{arith}
-use lib.ListN.{length}
 use borrow.Author.Needs.{needs}
-use Rattle.polynomial.specs.Value.{polynomialRoom}
-use Rattle.polynomial.proofs.Residues.{Copied, copied-word, residue-small, represents-words}
+use Rattle.polynomial.proofs.Residues.{represents-words}
 use Rattle.polynomial.proofs.value.Polynomial.from_words.Statement.{statement}
 use Rattle.polynomial.proofs.value.Polynomial.from_words.Tie as tie
 
-reduce-range-requires : tie.Need-reduce-range-requires
-reduce-range-requires c κs =
-    let S = c .before .before .before .before .before .before in
-    let fresh = c .before .before .before .before .zeros in
-    let copies = c .before .before .copy in
-    let by : Copied (S .args .words .now) (S .args .a) (S .args .n) (fresh .result) (copies .last .0) =
-    record { few = S .pre .0 .1; room = fresh .ensures .0; zero = fresh .ensures .1; copies = copies .ensures } in
-    let long : length (copies .last .0) ≡ polynomialRoom = search needs in
-    ((S .pre .0 .0, omega (arith, by .few)), λ j lt. rw (copied-word by j (omega arith)) (S .pre .1 j (omega arith)))
-
-find-leading-requires : tie.Need-find-leading-requires
-find-leading-requires c κs =
-    let S = c .before .before .before .before .before .before .before .before .before in
-    let p = S .args .modulus .p in
-    let positive : 0 < p = omega (arith, S .pre .0 .0 .prime .large) in
-    let fresh = c .before .before .before .before .before .before .before .zeros in
-    let copies = c .before .before .before .before .before .copy in
-    let reduces = c .before .before .reduce-range in
-    let by : Copied (S .args .words .now) (S .args .a) (S .args .n) (fresh .result) (copies .last .0) =
-    record { few = S .pre .0 .1; room = fresh .ensures .0; zero = fresh .ensures .1; copies = copies .ensures } in
-    let long : length (reduces .last .0) ≡ polynomialRoom = search needs in
-    let small = residue-small by p positive (reduces .ensures) in
-    ((S .pre .0 .0, omega (arith, by .few)), λ j lt. omega (arith, small j (omega arith), le-mul-of-pos-right p positive))
+copy-polynomial-requires : tie.Need-copy-polynomial-requires
+copy-polynomial-requires c κs =
+    let S = c .before .before .before in
+    let long = c .before .zeros .ensures .0 in
+    ((S .pre .0 .0, omega (arith, long, S .pre .0 .1), omega (arith, S .pre .0 .2)), λ j lt. S .pre .1 j (omega arith))
 
 returns : tie.Need-returns
 returns c =
-    let S = c .before .before .before .before .before .before .before .before .before .before in
-    let fresh = c .before .before .before .before .before .before .before .before .zeros in
-    let copies = c .before .before .before .before .before .before .copy in
-    let by : Copied (S .args .words .now) (S .args .a) (S .args .n) (fresh .result) (copies .last .0) =
-    record { few = S .pre .0 .1; room = fresh .ensures .0; zero = fresh .ensures .1; copies = copies .ensures } in
+    let S = c .before .before .before .before .before in
+    let fresh = c .before .before .before .zeros in
+    let copies = c .before .copy-polynomial in
     represents-words
-    by
-    (S .args .modulus .p)
-    (omega (arith, S .pre .0 .0 .prime .large))
-    (c .before .before .before .reduce-range .ensures)
-    (c .find-leading .result .size)
-    (c .find-leading .ensures .0)
+    {p = S .args .modulus .p}
+    {words = S .args .words .now}
+    {a = S .args .a}
+    {n = S .args .n}
+    {zeros = fresh .result}
+    (record {
+      positive = omega (arith, S .pre .0 .0 .prime .large);
+      few = S .pre .0 .1;
+      room = fresh .ensures .0;
+      zero = fresh .ensures .1;
+      copies = copies .ensures .0;
+    })
+    (copies .result)
+    (copies .ensures .1)
 
 pub from-words-spec : {M : Type 1} → statement M
-from-words-spec =
-    tie.close
-    (tie.spec
-    (λ c κs. search needs)
-    (λ c. search needs)
-    (λ c κs. search needs)
-    (λ c. search needs)
-    reduce-range-requires
-    (λ c. search needs)
-    find-leading-requires
-    returns)
+from-words-spec = tie.close (tie.spec (λ c κs. search needs) (λ c. search needs) copy-polynomial-requires returns)

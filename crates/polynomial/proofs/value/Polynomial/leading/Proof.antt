@@ -13,12 +13,12 @@ use Rattle.polynomial.proofs.value.Polynomial.leading.Tie as tie
 
 returns : tie.Need-returns
 unfolding coefficientsOf leading modulo
-returns c = λ p. ap (λ (n : ℕ). leading (modulo p) (take n (c .before .args .t1 .coefficients))) (sym (c .if1 .taken))
+returns c = λ p. ap (λ (n : ℕ). leading (modulo p) (take n (c .before .args .self .coefficients))) (sym (c .if1 .taken))
 
 returns-2 : tie.Need-returns-2
 unfolding coefficientsOf
 returns-2 c =
-    let f = c .before .before .args .t1 in
+    let f = c .before .before .args .self in
     let room : length (f .coefficients) ≡ polynomialRoom = search needs in
     λ p. leading-last p (f .size) (f .coefficients) (omega arith) (omega arith)
 

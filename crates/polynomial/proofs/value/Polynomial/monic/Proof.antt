@@ -1,6 +1,6 @@
 -- Zero as it is; any other leading coefficient has an inverse.
 use mathlib.Core.Path.{_≡_, sym, ap, _∙_}
-use Prim.Native.Nat.{ℕ}
+use Prim.Native.Nat.{ℕ, _<_}
 use native.Mathlib.Omega.{arith}
 use lib.ListN.{length}
 use borrow.Author.Needs.{needs}
@@ -32,7 +32,9 @@ inverse-requires c κs =
 scale-requires : tie.Need-scale-requires
 scale-requires c κs =
     let S = c .before .before .before .before in
-    (S .pre .0, S .pre .1, rw (c .inverse .ensures) (inverse-below _ (S .pre .0 .prime .large) _))
+    let m : ValidModulus (S .args .modulus) = S .pre .0 in
+    let below : c .inverse .result < S .args .modulus .p = rw (c .inverse .ensures) (inverse-below _ (m .prime .large) _) in
+    (m, S .pre .1, omega (arith, m .prime .large))
 
 returns-2 : tie.Need-returns-2
 unfolding monic

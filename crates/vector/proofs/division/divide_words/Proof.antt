@@ -11,10 +11,10 @@ use Rattle.modular.specs.LargestPrime.{largestPrime}
 use Rattle.residue.specs.declared.modulus.Modulus.{Modulus}
 use Rattle.residue.specs.Modulus.{ValidModulus}
 use Rattle.residue.specs.Below.{mul-below, inverse-below}
-use Rattle.division.specs.Long.{Divisor}
-use Rattle.division.proofs.Dividing.{Task, Dividing, dividing-start, dividing-turn, dividing-end, word-small, factor-is}
-use Rattle.division.proofs.long.divide_words.Statement.{statement}
-use Rattle.division.proofs.long.divide_words.Tie as tie
+use Rattle.vector.specs.Long.{Divisor}
+use Rattle.vector.proofs.Dividing.{Task, Dividing, dividing-start, dividing-turn, dividing-end, word-small, factor-is}
+use Rattle.vector.proofs.division.divide_words.Statement.{statement}
+use Rattle.vector.proofs.division.divide_words.Tie as tie
 
 -- the preconditions as a task
 task : {h q : List ℕ} {n : ℕ} {d : List ℕ} {e inverse : ℕ} (m : Modulus) → ValidModulus m → n ≤ length h → n ≤ length q →

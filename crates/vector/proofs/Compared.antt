@@ -6,7 +6,7 @@ use Prim.Native.Nat.{ℕ, _≤_, _<_}
 use native.Mathlib.Omega.{arith}
 use lib.ListN.{length, getD, take}
 use lib.Seq.{getD-take, length-take-le, ext-getD}
-use Rattle.polynomial.specs.Decides.{Decides, decides-yes, decides-no}
+use Rattle.vector.specs.Decides.{Decides, decides-yes, decides-no}
 
 module _ (f g : List ℕ) (n : ℕ) where
   pub compared-differ : (i : ℕ) → i < n → (getD f i 0 ≡ getD g i 0 → ⊥) → Decides false (take n f ≡ take n g)

@@ -5,9 +5,9 @@ use native.Mathlib.Omega.{arith}
 use lib.ListN.{getD}
 use borrow.Author.Count.{below-more}
 use borrow.Author.Needs.{needs}
-use Rattle.polynomial.proofs.Compared.{compared-differ, compared-same}
-use Rattle.polynomial.proofs.equal.same_words.Statement.{statement}
-use Rattle.polynomial.proofs.equal.same_words.Tie as tie
+use Rattle.vector.proofs.Compared.{compared-differ, compared-same}
+use Rattle.vector.proofs.compare.same_words.Statement.{statement}
+use Rattle.vector.proofs.compare.same_words.Tie as tie
 
 abbrev Inv-loop : tie.InvT-loop
 Inv-loop f g n i₀ i = (i ≤ n) × ((k : ℕ) → k < i → getD f k 0 ≡ getD g k 0)

@@ -1,13 +1,12 @@
 // Long division on words. What is left of the dividend is kept in sums that are not reduced.
-use residue::modulus::Modulus;
-use vector::add_scaled;
 ghost use Prim.Native.Nat.{_+_, _≤_};
 ghost use lib.ListN.{length, take};
 ghost use Rattle.modular.specs.Canonical.{Canonical};
 ghost use Rattle.residue.specs.Modulus.{ValidModulus};
-ghost use Rattle.vector.specs.Bound.{AtMost};
-ghost use Rattle.polynomial.specs.Value.{polynomialRoom};
-ghost use Rattle.division.specs.Long.{Divisor, LongDivided};
+ghost use Rattle.vector.specs.Bound.{mostTerms, AtMost};
+ghost use Rattle.vector.specs.Long.{Divisor, LongDivided};
+use crate::multiple::add_scaled;
+use residue::modulus::Modulus;
 
 // Takes multiples of d, which has e + 1 coefficients, off n words of h until only e places are left; stores the factors in q.
 pub fn divide_words(
@@ -19,7 +18,7 @@ pub fn divide_words(
     inverse: u64,
     modulus: Modulus,
 )
-    requires { ⌜ ValidModulus modulus × (n ≤ polynomialRoom) × (n ≤ length (now h)) × (n ≤ length (now q)) ⌝ }
+    requires { ⌜ ValidModulus modulus × (n ≤ mostTerms) × (n ≤ length (now h)) × (n ≤ length (now q)) ⌝ }
     requires dividend { ⌜ Canonical (modulus .p) (take n (now h)) × AtMost (modulus .p) (now h) ⌝ }
     requires divisor { ⌜ Divisor (modulus .p) (now d) e inverse ⌝ }
     requires zero { ⌜ AtMost 0 (now q) ⌝ }

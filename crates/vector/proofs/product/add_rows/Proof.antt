@@ -2,9 +2,9 @@
 use Prim.Native.Nat.{_+_, _-_}
 use native.Mathlib.Omega.{arith}
 use borrow.Author.Needs.{needs}
-use Rattle.polynomial.proofs.Adding.{Adding, adding-start, adding-fits, adding-turn, adding-end}
-use Rattle.polynomial.proofs.product.add_rows.Statement.{statement}
-use Rattle.polynomial.proofs.product.add_rows.Tie as tie
+use Rattle.vector.proofs.Adding.{Adding, adding-start, adding-fits, adding-turn, adding-end}
+use Rattle.vector.proofs.product.add_rows.Statement.{statement}
+use Rattle.vector.proofs.product.add_rows.Tie as tie
 
 abbrev Inv-loop : tie.InvT-loop
 Inv-loop h₀ f n g k i₀ h i = Adding h₀ f n g k h i

@@ -4,7 +4,7 @@ use mathlib.Core.List.{List, [], _∷_}
 use Prim.Native.Nat.{ℕ, zero, suc, _+_, _-_, _%_, _≤_, _<_}
 use native.Mathlib.Nat.{zero-mod, zero-mul, mod-add-mod, add-mod-mod}
 use native.Mathlib.Omega.{arith}
-use lib.ListN.{length, take, drop, length-take}
+use lib.ListN.{length}
 use Rattle.algebra.specs.Coefficients.{cons, coefficient, add, scale, shift, mul}
 use Rattle.modular.specs.Modulo.{modulo}
 use Rattle.modular.specs.Canonical.{Canonical}
@@ -12,8 +12,6 @@ use Rattle.modular.specs.Remainder.{mod-mul-mod}
 use Rattle.modular.specs.Closed.{canonical-add, canonical-scale}
 use Rattle.modular.specs.Coefficientwise.{coefficient-beyond, coefficient-add, coefficient-scale, canonical-same}
 use Rattle.modular.specs.Product.{rows, mul-rows}
-use Rattle.vector.specs.Reduced.{polynomial}
-use Rattle.vector.specs.Size.{size-reduced}
 
 pub add-nil : (p : ℕ) (f : List ℕ) → add (modulo p) f [] ≡ f
 unfolding add
@@ -43,9 +41,6 @@ rows-behind p f g (suc j) =
     ∙ ap (λ (h : List ℕ). add (modulo p) (rows p f g (j + length f)) h) (shift-nil p (j + length f))
     ∙ add-nil p (rows p f g (j + length f))
     ∙ rows-behind p f g j
-
-pub length-polynomial : (p : ℕ) (l : List ℕ) (a n : ℕ) → length (polynomial p l a n) ≤ n
-length-polynomial p l a n = omega (arith, size-reduced p (take n (drop a l)), length-take n (drop a l))
 
 module _ (p : ℕ) (positive : 0 < p) where
   pub rows-mul : (f g : List ℕ) (n : ℕ) → length f ≤ n → rows p f g n ≡ mul (modulo p) f g

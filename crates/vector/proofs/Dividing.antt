@@ -13,14 +13,13 @@ use Rattle.modular.specs.Modulo.{modulo}
 use Rattle.modular.specs.Canonical.{Canonical}
 use Rattle.modular.specs.Coefficientwise.{coefficient-getD, coefficient-below}
 use Rattle.residue.specs.Sum.{SmallSum}
 use Rattle.vector.specs.Stored.{stored, length-stored, stored-outside}
-use Rattle.vector.specs.Bound.{AtMost, at-most-set, at-most-sum}
+use Rattle.vector.specs.Bound.{mostTerms, AtMost, at-most-set, at-most-sum}
 use Rattle.vector.specs.Reduced.{polynomial, reduced, canonical-reduced, coefficient-reduced, residue-same, word-inside}
 use Rattle.vector.specs.Multiple.{sumAt, GainsMultiple}
-use Rattle.polynomial.specs.Value.{polynomialRoom}
-use Rattle.division.specs.Long.{Divisor, LongDivided}
-use Rattle.division.proofs.Rest.{canonical-drop, polynomial-first, reduced-canonical, polynomial-zero, polynomial-rest}
-use Rattle.division.proofs.Step.{extend-is, subtract-multiple, divide-short}
+use Rattle.vector.specs.Long.{Divisor, LongDivided}
+use Rattle.vector.proofs.Rest.{canonical-drop, polynomial-first, reduced-canonical, polynomial-zero, polynomial-rest}
+use Rattle.vector.proofs.Step.{extend-is, subtract-multiple, divide-short}
 
 -- what is divided: n words of h, with zeros q for the quotient, by the e + 1 words of w
 pub record Task (p : ℕ) (h q : List ℕ) (n : ℕ) (w : List ℕ) (e inverse : ℕ) : Type 0 where
@@ -170,10 +169,10 @@ module _ {p : ℕ} {h₀ q₀ : List ℕ} {n : ℕ} {w : List ℕ} {e inverse : 
     }
 
 -- a word of the hand is small enough for a reduction, and stays so with one product more
-pub word-small : (p n i : ℕ) (h : List ℕ) → 0 < p → n ≤ polynomialRoom → AtMost (p + (n - i) * (p * p)) h →
+pub word-small : (p n i : ℕ) (h : List ℕ) → 0 < p → n ≤ mostTerms → AtMost (p + (n - i) * (p * p)) h →
     (j : ℕ) → SmallSum p (getD h j 0 + p * p)
 word-small p n i h positive few small j =
-    let steps : n - i ≤ polynomialRoom = omega arith in
+    let steps : n - i ≤ mostTerms = omega arith in
     omega (arith, small j, mul-le-mul-right (p * p) steps, le-mul-of-pos-right p positive)
 
 -- what a turn puts into the quotient
@@ -182,7 +181,7 @@ unfolding modulo
 factor-is p x y ev ec = rw (← ev) ec
 
 -- at the end all coefficients are divided
-pub dividing-end : (p : ℕ) {h₀ q₀ : List ℕ} {n : ℕ} {b q h : List ℕ} {i : ℕ} → 0 < p → n ≤ polynomialRoom → i ≡ 0 →
+pub dividing-end : (p : ℕ) {h₀ q₀ : List ℕ} {n : ℕ} {b q h : List ℕ} {i : ℕ} → 0 < p → n ≤ mostTerms → i ≡ 0 →
     Dividing p h₀ q₀ n b q h i → LongDivided p (take n h₀) n b q h
 dividing-end p {h₀} {q₀} {n} {b} {q} {h} positive few end state =
     let last : Dividing p h₀ q₀ n b q h 0 = rw end at state in

@@ -11,13 +11,13 @@ use Rattle.modular.specs.Modulo.{modulo}
 use Rattle.modular.specs.Closed.{canonical-multiple}
 use Rattle.modular.specs.Product.{rows, canonical-rows}
 use Rattle.modular.specs.Bits.{most16, bound64}
 use Rattle.vector.specs.Stored.{stored, length-stored}
-use Rattle.vector.specs.Bound.{AtMost, at-most-sum}
+use Rattle.vector.specs.Bound.{mostTerms, AtMost, at-most-sum}
 use Rattle.vector.specs.Reduced.{polynomial, canonical-reduced, coefficient-reduced, word-inside, residue-same}
 use Rattle.vector.specs.Multiple.{sumAt, GainsMultiple}
-use Rattle.polynomial.specs.Value.{polynomialRoom}
-use Rattle.polynomial.specs.Product.{GainsProduct, sumMost}
-use Rattle.polynomial.proofs.Rows.{add-nil, rows-mul, length-polynomial, scale-mod, add-assoc}
+use Rattle.vector.specs.Size.{length-polynomial}
+use Rattle.vector.specs.Product.{sumMost, GainsProduct}
+use Rattle.vector.proofs.Rows.{add-nil, rows-mul, scale-mod, add-assoc}
 
 pub record Adding (h f : List ℕ) (n : ℕ) (g : List ℕ) (k : ℕ) (h′ : List ℕ) (i : ℕ) : Type 0 where
   pub within : i ≤ n
@@ -38,7 +38,7 @@ module _ (h f : List ℕ) (n : ℕ) (g : List ℕ) (k : ℕ) where
 
   module _ (h′ : List ℕ) (i : ℕ) (so-far : Adding h f n g k h′ i) where
     -- no sum is too large for a word
-    pub adding-fits : n ≤ polynomialRoom → AtMost sumMost h → AtMost most16 f → AtMost most16 g →
+    pub adding-fits : n ≤ mostTerms → AtMost sumMost h → AtMost most16 f → AtMost most16 g →
         (j : ℕ) → j < k → sumAt h′ i g 0 (getD f i 0) j < bound64
     adding-fits few hb hf hg j lt =
         let within : i ≤ n = so-far .within in

@@ -15,7 +15,7 @@ use Rattle.modular.specs.Canonical.{Canonical}
 use Rattle.modular.specs.Closed.{canonical-tail, canonical-add, canonical-scale, canonical-subtract}
 use Rattle.modular.specs.Coefficientwise.{coefficient-beyond, coefficient-add, coefficient-subtract, coefficient-scale}
 use Rattle.modular.specs.Coefficientwise.{canonical-same}
-use Rattle.polynomial.proofs.Rows.{add-nil, scale-zero}
+use Rattle.vector.proofs.Rows.{add-nil, scale-zero}
 
 -- a step, where it is known what it computes with: the remainder r to go on with, and its factor c
 pub extend-is : (p : ℕ) (d : List ℕ) (a : ℕ) (w : Division ℕ) (r : List ℕ) (c : ℕ) →

@@ -1,2 +1,0 @@
--- interface, what contracts, other crates and PROVED.md cite: Long
-pub mod Long
