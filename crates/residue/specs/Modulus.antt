@@ -1,6 +1,6 @@
 -- A modulus with its precomputed reciprocal, as the code holds it.
 use mathlib.Core.Path.{_≡_}
-use Prim.Native.Nat.{ℕ, _*_, _/_, _^_, _≤_, _<_}
+use Prim.Native.Nat.{_*_, _/_, _^_, _≤_, _<_}
 use Rattle.modular.specs.Prime.{Prime}
 use Rattle.modular.specs.Bits.{bound32}
 use Rattle.modular.specs.LargestPrime.{largestPrime}
