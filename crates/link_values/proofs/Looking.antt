@@ -2,11 +2,9 @@
 use mathlib.Core.Path.{_≡_, refl, sym, ap, _∙_}
 use mathlib.Core.Bool.{Bool, true, false}
 use mathlib.Core.List.{List, [], append-nil}
-use mathlib.Core.Logic.{⊎-elim}
 use Prim.Native.Nat.{ℕ, suc, _+_, _-_, _≤_, _<_}
 use native.Mathlib.Omega.{arith}
-use lib.ListN.{length, getD, drop, length-append, length-drop, List·getD-append}
-use lib.Seq.{ext-getD, getD-append-add, getD-drop}
+use lib.ListN.{length, getD}
 use lib.Dec.{leb}
 use borrow.Author.Tests.{lt-leb}
 use Rattle.words.specs.Limits.{Limits, office}
@@ -23,48 +21,12 @@ use Rattle.words.specs.SystemLaws.{system-written-of-read}
 use Rattle.words.specs.Certificate.{Certificate, readCertificate}
 use Rattle.lookup.specs.Lookup.{Side, Part, entriesOn, shown, polynomialLookup, wordsShown, companion}
 use Rattle.lookup.specs.LookupLaws.{Shows, lookup-shown}
-use Rattle.vector.specs.Stored.{stored, length-stored, stored-first, stored-outside, below-or-not}
-use Rattle.write_frame.specs.Overwriting.{overwritten}
+use Rattle.vector.specs.Stored.{stored}
+use Rattle.loader.specs.StoredLaws.{stored-list}
 use Rattle.link_values.specs.Files.{Pair, readBoth, lookupOf}
 use Rattle.link_values.specs.FilesLaws.{ReadAs, both-accepted, lookup-size, lookup-canonical}
 use Rattle.link_values.specs.Giving.{GivesList}
 use Rattle.link_values.specs.GivingLaws.{gives-list}
-
--- ---- numbers stored one after another, as a list over the first of those lent
-
-module _ (f lent : List ℕ) (numbers : ℕ → ℕ) (same : (i : ℕ) → i < length f → numbers i ≡ getD f i 0)
-    (room : length f ≤ length lent) where
-  stored-over : stored numbers lent 0 (length f) ≡ overwritten f lent
-  stored-over = ext-getD 0 _ _ lengths each
-    where
-      rest : List ℕ
-      rest = drop (length f) lent
-
-      lengths : length (stored numbers lent 0 (length f)) ≡ length (overwritten f lent)
-      lengths = omega (
-        arith,
-        length-stored numbers lent 0 (length f),
-        length-append f (drop (length f) lent),
-        length-drop (length f) lent,
-      )
-
-      behind : (i : ℕ) → length f ≤ i → getD (overwritten f lent) i 0 ≡ getD lent i 0
-      behind i h =
-          let e : length f + (i - length f) ≡ i = omega arith in
-          ap (λ (j : ℕ). getD (overwritten f lent) j 0) (sym e)
-          ∙ getD-append-add f (drop (length f) lent) (i - length f) 0
-          ∙ getD-drop (length f) lent (i - length f) 0
-          ∙ ap (λ (j : ℕ). getD lent j 0) e
-
-      each : (i : ℕ) → i < length (stored numbers lent 0 (length f))
-          → getD (stored numbers lent 0 (length f)) i 0 ≡ getD (overwritten f lent) i 0
-      each i _ =
-          ⊎-elim
-          (λ lt.
-          stored-first numbers lent (length f) i room lt ∙ same i lt
-          ∙ sym (List·getD-append f (drop (length f) lent) 0 i lt))
-          (λ ge. stored-outside numbers lent 0 (length f) i (mathlib.Core.Logic.inr (omega arith)) ∙ sym (behind i ge))
-          (below-or-not i (length f))
 
 -- ---- what is looked up, by the words that the lookup shows
 
@@ -163,4 +125,4 @@ module _ (ws cs : List ℕ) (side : Side) (k : ℕ) where
   gives-found F lent exit room {n} count stores =
       let size : n ≡ length (F .coefficients) = omega (arith, F .size) in
       gives-list (F .sought) size
-      (stores ∙ ap (stored _ lent 0) size ∙ stored-over (F .coefficients) lent _ (F .each) (omega (arith, F .few)))
+      (stores ∙ ap (stored _ lent 0) size ∙ stored-list _ lent 0 (F .coefficients) (F .each) (omega (arith, F .few)))

@@ -28,7 +28,7 @@ use Rattle.words.specs.Bytes.{wordsOf, broken, tooLong, readSystemFile, wordByt
 use Rattle.words.specs.BytesLaws.{length-wordsOf}
 use Rattle.lookup.specs.Lookup.{Side, entriesOn}
 use Rattle.lookup.specs.Lookup.Side.{system, certificate}
-use Rattle.lookup.specs.FramedLaws.{system-framed, certificate-framed, framed-size}
+use Rattle.words.specs.FramedLaws.{system-framed, certificate-framed, framed-size}
 use Rattle.truth.specs.Verdict.{verdict, certificateVerdict}
 use Rattle.verifier.specs.File.{filesBroken, fileVerdict}
 use Rattle.link_values.specs.Refusals.{Numbers, Places, refusals-row, refusals-followed, refusals-mapped}

@@ -1,189 +1,128 @@
--- The invariant of `load`: the polynomials before k stand in their slots, and polynomial k starts at the word `at`.
+-- The invariant of `load`: the polynomials before k stand in their slots, and start word k is at the place `at`.
 use mathlib.Core.Path.{_≡_, refl, sym, ap, _∙_}
 use mathlib.Core.Logic.{_⊎_, inl, inr}
-use mathlib.Core.List.{List, [], _∷_, _++_, append-assoc}
-use Prim.Native.Nat.{ℕ, suc, _+_, _*_, _≤_, _<_}
+use mathlib.Core.List.{List, []}
+use Prim.Native.Nat.{ℕ, _+_, _-_, _*_, _≤_, _<_}
 use native.Mathlib.Nat.{eq-or-lt-of-le}
 use native.Mathlib.Numerals.{add-one}
 use native.Mathlib.Omega.{arith}
-use lib.ListN.{length, getD, drop, length-append, length-drop}
-use lib.Seq.{drop-cons, getD-drop}
+use lib.ListN.{length, getD}
 use Rattle.words.specs.Word.{payload}
-use Rattle.words.specs.Polynomial.{polynomialWords, polynomialsWords}
-use Rattle.words.specs.Frame.{endWord, entryPlace}
-use Rattle.words.specs.PolynomialLaws.{length-polynomialWords}
-use Rattle.words.specs.PlaceLaws.{entry-words, entryPlace-zero, entryPlace-next, count-at, coefficient-at}
+use Rattle.words.specs.Starts.{startPlace, coefficientsAt, firstEntries, HasEntries, start-first, start-next}
+use Rattle.words.specs.Starts.{length-coefficientsAt, getD-coefficientsAt, length-firstEntries, getD-firstEntries}
 use Rattle.vector.specs.Stored.{stored, length-stored, stored-inside, stored-outside}
-use Rattle.loader.specs.Slot.{FramedForSlots, InSlots}
+use Rattle.loader.specs.Slot.{InSlots}
 use Rattle.loader.specs.SlotLaws.{slot-before, slot-is}
 
--- ---- the words at the place of polynomial k
+-- the number of coefficients that start word k says
+abbrev sizeOf : List ℕ → ℕ → ℕ
+sizeOf ws k = payload (getD ws (startPlace ws k) 0)
 
-module _ {width : ℕ} {ws : List ℕ} {fs : List (List ℕ)} (h : FramedForSlots width ws fs) (k : ℕ) (some : k < length fs) where
-  abbrev f : List ℕ
-  f = getD fs k []
+-- slot k has the payloads of a start word and of the coefficients behind it
+abbrev InSlot : (width : ℕ) (ws area : List ℕ) (k : ℕ) → Type 0
+InSlot width ws area k = (i : ℕ) → i ≤ sizeOf ws k → getD area (k * width + i) 0 ≡ payload (getD ws (startPlace ws k + i) 0)
 
-  abbrev at : ℕ
-  at = entryPlace fs k
-
-  from-place : (rest : List ℕ) × (drop at ws ≡ polynomialWords f ++ rest)
-  unfolding polynomialsWords
-  from-place =
-      let rest = polynomialsWords (drop (suc k) fs) ++ endWord (1 + length (polynomialsWords fs)) ∷ [] in (
-        rest,
-        ap (drop at) (h .words)
-            ∙ entry-words (h .head) fs k
-            ∙ ap
-            (λ (gs : List (List ℕ)). polynomialsWords gs ++ endWord (1 + length (polynomialsWords fs)) ∷ [])
-            (drop-cons fs k [] some)
-            ∙ append-assoc (polynomialWords f) (polynomialsWords (drop (suc k) fs)) _,
-      )
-
-  pub place-room : at + (1 + length f) ≤ length ws
-  place-room =
-      omega (
-        arith,
-        length-drop at ws,
-        ap length (from-place .1),
-        length-append (polynomialWords f) (from-place .0),
-        length-polynomialWords f,
-      )
-
-  word-from : (i : ℕ) → payload (getD ws (at + i) 0) ≡ payload (getD (polynomialWords f ++ from-place .0) i 0)
-  word-from i = ap payload (sym (getD-drop at ws i 0) ∙ ap (λ (l : List ℕ). getD l i 0) (from-place .1))
-
-  -- the count, then the coefficients
-  pub place-count : payload (getD ws at 0) ≡ length f
-  place-count =
-      let here : at + 0 ≡ at = omega arith in
-      ap (λ (i : ℕ). payload (getD ws i 0)) (sym here)
-      ∙ word-from 0
-      ∙ count-at f (from-place .0) (omega (arith, h .sizes k, h .narrow))
-
-  pub place-coefficient : (i : ℕ) → i < length f → payload (getD ws (at + (1 + i)) 0) ≡ getD f i 0
-  place-coefficient i lt =
-      let next : 1 + i ≡ suc i = omega arith in
-      ap (λ (j : ℕ). payload (getD ws (at + j) 0)) next
-      ∙ word-from (suc i)
-      ∙ coefficient-at (h .modulus) (h .small) f (from-place .0) (h .canonical k) i lt
-
--- ---- slots by their words, which later stores leave alone
-
-pub record InSlot (width : ℕ) (area : List ℕ) (k : ℕ) (f : List ℕ) : Type 0 where
-  pub size : getD area (k * width) 0 ≡ length f
-  pub words : (i : ℕ) → i < length f → getD area (k * width + 1 + i) 0 ≡ getD f i 0
-
-pub record Loading (width : ℕ) (fs : List (List ℕ)) (area : List ℕ) (at k : ℕ) : Type 0 where
-  pub place : at ≡ entryPlace fs k
-  pub slots : (j : ℕ) → j < k → InSlot width area j (getD fs j [])
-
--- for all polynomials that the words may hold: there is one list of them, and the contract speaks of any
 pub record Loads (width : ℕ) (ws : List ℕ) (count : ℕ) (before area : List ℕ) (at k : ℕ) : Type 0 where
   pub within : k ≤ count
   pub same-length : length area ≡ length before
-  pub loading : (fs : List (List ℕ)) → FramedForSlots width ws fs → length fs ≡ count → Loading width fs area at k
+  pub place : at ≡ startPlace ws k
+  pub slots : (j : ℕ) → j < k → InSlot width ws area j
 
 pub loads-start : (width : ℕ) (ws : List ℕ) (count : ℕ) (area : List ℕ) → Loads width ws count area area 1 0
 loads-start width ws count area = record {
   within = omega arith;
   same-length = refl;
-  loading = λ fs h all. record { place = sym (entryPlace-zero fs); slots = λ j lt. absurd (omega arith) };
+  place = sym (start-first ws);
+  slots = λ j lt. absurd (omega arith);
 }
 
-module _
-    {width : ℕ}
-    {ws : List ℕ}
-    {count : ℕ}
-    {before area : List ℕ}
-    {at k : ℕ}
-    (so-far : Loads width ws count before area at k)
-    (more : k < count)
-    (room : count * width ≤ length before)
-  where
-    -- a turn stores a polynomial in slot k
-    module _ (fs : List (List ℕ)) (h : FramedForSlots width ws fs) (all : length fs ≡ count) where
-      abbrev next : List ℕ
-      next = getD fs k []
+module _ {width : ℕ} {ws : List ℕ} {count : ℕ} {before area : List ℕ} {at k : ℕ} (has : HasEntries (width - 1) count ws)
+    (some : 0 < width) (room : count * width ≤ length before) (so-far : Loads width ws count before area at k) where
+  -- a turn stores a polynomial in slot k
+  module _ (more : k < count) where
+    pub turn-room : at + 1 + payload (getD ws at 0) ≤ length ws
+    turn-room = rw (so-far .place) (has .inside k more)
 
-      some : k < length fs
-      some = omega arith
+    size : payload (getD ws at 0) < width
+    size = rw (so-far .place) (omega (arith, has .sizes k more))
 
-      here : at ≡ entryPlace fs k
-      here = so-far .loading fs h all .place
+    pub turn-fits : k * width + (1 + payload (getD ws at 0)) ≤ length area
+    turn-fits = omega (arith, slot-before width more, size, so-far .same-length)
 
-      pub turn-count : payload (getD ws at 0) ≡ length next
-      turn-count = rw here (place-count h k some)
+    module _ (after : List ℕ) (n : ℕ) (all : n ≡ payload (getD ws at 0) + 1)
+        (stores : after ≡ stored (λ j. payload (getD ws (at + j) 0)) area (k * width) n) where
+      kept : (j : ℕ) → j < k → InSlot width ws after j
+      kept j lt i few =
+          ap (λ l. getD l (j * width + i) 0) stores
+          ∙ stored-outside _ area (k * width) n (j * width + i)
+          (inl (omega (arith, slot-before width lt, has .sizes j (omega arith))))
+          ∙ so-far .slots j lt i few
 
-      pub turn-room : at + (1 + length next) ≤ length ws
-      turn-room = rw here (place-room h k some)
+      new : InSlot width ws after k
+      new i few =
+          let here = so-far .place in
+          let same = ap (λ a. payload (getD ws a 0)) here in
+          ap (λ l. getD l (k * width + i) 0) stores
+          ∙ stored-inside _ area (k * width) n i (omega (arith, turn-fits)) (omega arith)
+          ∙ ap (λ a. payload (getD ws (a + i) 0)) here
 
-      pub turn-fits : k * width + (1 + length next) ≤ length area
-      turn-fits = omega (arith, slot-before width more, h .sizes k, so-far .same-length)
+      either : (j : ℕ) → (j ≡ k) ⊎ (j < k) → InSlot width ws after j
+      either j (inl e) = rw e new
+      either j (inr lt) = kept j lt
 
-      module _ (after : List ℕ) (n : ℕ) (size : n ≡ 1 + length next)
-          (stores : after ≡ stored (λ j. payload (getD ws (at + j) 0)) area (k * width) n) where
-        kept : (j : ℕ) → j < k → InSlot width after j (getD fs j [])
-        kept j lt =
-            let slot = so-far .loading fs h all .slots j lt in
-            let apart = slot-before width lt in
-            let outside : (i : ℕ) → i < k * width → getD after i 0 ≡ getD area i 0 =
-            λ i l. rw stores (stored-outside _ area (k * width) n i (inl l)) in
-            record {
-              size = outside (j * width) (omega (arith, h .sizes j)) ∙ slot .size;
-              words = λ i l. outside (j * width + 1 + i) (omega (arith, h .sizes j)) ∙ slot .words i l;
-            }
+      pub loads-turn : Loads width ws count before after (at + n) (k + 1)
+      loads-turn = record {
+        within = omega arith;
+        same-length = ap length stores ∙ length-stored _ area (k * width) n ∙ so-far .same-length;
+        place =
+            omega (
+              arith,
+              so-far .place,
+              ap (λ a. payload (getD ws a 0)) (so-far .place),
+              start-next ws k (has .starts k more),
+              ap (startPlace ws) (add-one k),
+            );
+        slots = λ j lt. either j (eq-or-lt-of-le (omega arith));
+      }
 
-        stored-word : (i : ℕ) → i < n → getD after (k * width + i) 0 ≡ payload (getD ws (at + i) 0)
-        stored-word i lt = rw stores (stored-inside _ area (k * width) n i (omega (arith, turn-fits)) lt)
+  pub loads-end : count ≤ k → InSlots width area (firstEntries ws count)
+  loads-end past = record {
+    sizes = λ j lt. size-is j (omega (arith, length-firstEntries ws count));
+    slots =
+        λ j lt.
+        let few : j < count = omega (arith, length-firstEntries ws count) in
+        let short = has .sizes j few in
+        slot-is width area j (getD (firstEntries ws count) j [])
+        (omega (arith, slot-before width few, so-far .same-length, size-is j few, first-word j few))
+        (size-is j few)
+        (λ i l. word-is j few i l);
+  }
+    where
+      polynomial : (j : ℕ) → j < count → getD (firstEntries ws count) j [] ≡ coefficientsAt ws (startPlace ws j)
+      polynomial j few = getD-firstEntries ws count j few
 
-        new : InSlot width after k next
-        new = record {
-          size =
-              let e : k * width + 0 ≡ k * width = omega arith in
-              let e′ : at + 0 ≡ at = omega arith in
-              ap (λ (i : ℕ). getD after i 0) (sym e)
-              ∙ stored-word 0 (omega arith)
-              ∙ ap (λ (i : ℕ). payload (getD ws i 0)) e′
-              ∙ turn-count;
-          words =
-              λ i lt.
-              let e : k * width + 1 + i ≡ k * width + (1 + i) = omega arith in
-              ap (λ (j : ℕ). getD after j 0) e
-              ∙ stored-word (1 + i) (omega arith)
-              ∙ ap (λ (a : ℕ). payload (getD ws (a + (1 + i)) 0)) here
-              ∙ place-coefficient h k some i lt;
-        }
+      first-word : (j : ℕ) → j < count → getD area (j * width) 0 ≡ sizeOf ws j
+      first-word j few =
+          let e : j * width + 0 ≡ j * width = omega arith in
+          let e′ : startPlace ws j + 0 ≡ startPlace ws j = omega arith in
+          ap (λ i. getD area i 0) (sym e)
+          ∙ so-far .slots j (omega arith) 0 (omega arith)
+          ∙ ap (λ i. payload (getD ws i 0)) e′
 
-        either : (j : ℕ) → (j ≡ k) ⊎ (j < k) → InSlot width after j (getD fs j [])
-        either j (inl e) = rw e new
-        either j (inr lt) = kept j lt
+      length-is : (j : ℕ) → j < count → length (getD (firstEntries ws count) j []) ≡ sizeOf ws j
+      length-is j few = ap length (polynomial j few) ∙ length-coefficientsAt ws (startPlace ws j) (has .inside j few)
 
-        turned : Loading width fs after (at + n) (k + 1)
-        turned = record {
-          place = omega (arith, here, entryPlace-next fs k some, ap (entryPlace fs) (add-one k));
-          slots = λ j lt. either j (eq-or-lt-of-le (omega arith));
-        }
+      size-is : (j : ℕ) → j < count → getD area (j * width) 0 ≡ length (getD (firstEntries ws count) j [])
+      size-is j few = first-word j few ∙ sym (length-is j few)
 
-    pub loads-turn : (after : List ℕ) (n : ℕ) → n ≡ payload (getD ws at 0) + 1
-        → after ≡ stored (λ j. payload (getD ws (at + j) 0)) area (k * width) n → Loads width ws count before after (at + n) (k + 1)
-    loads-turn after n size stores = record {
-      within = omega arith;
-      same-length = ap length stores ∙ length-stored _ area (k * width) n ∙ so-far .same-length;
-      loading = λ fs h all. turned fs h all after n (omega (arith, turn-count fs h all)) stores;
-    }
-
-pub loads-end : {width : ℕ} {ws : List ℕ} {count : ℕ} {before area : List ℕ} {at k : ℕ} → Loads width ws count before area at k
-    → count ≤ k → count * width ≤ length before
-    → (fs : List (List ℕ)) → FramedForSlots width ws fs → length fs ≡ count → InSlots width area fs
-loads-end {width} {area = area} done past room fs h all = record {
-  sizes = λ j lt. in-slot j lt .size;
-  slots =
-      λ j lt.
-      let apart = slot-before width lt in
-      let long = done .same-length in
-      slot-is width area j (getD fs j []) (omega (arith, h .sizes j, ap (λ (n : ℕ). n * width) all)) (in-slot j lt .size)
-      (in-slot j lt .words);
-}
-  where
-    in-slot : (j : ℕ) → j < length fs → InSlot width area j (getD fs j [])
-    in-slot j lt = done .loading fs h all .slots j (omega arith)
+      word-is : (j : ℕ) → j < count → (i : ℕ) → i < length (getD (firstEntries ws count) j [])
+          → getD area (j * width + 1 + i) 0 ≡ getD (getD (firstEntries ws count) j []) i 0
+      word-is j few i l =
+          let n = length-is j few in
+          let e : j * width + 1 + i ≡ j * width + (1 + i) = omega arith in
+          let e′ : startPlace ws j + (1 + i) ≡ startPlace ws j + 1 + i = omega arith in
+          ap (λ x. getD area x 0) e
+          ∙ so-far .slots j (omega arith) (1 + i) (omega arith)
+          ∙ ap (λ x. payload (getD ws x 0)) e′
+          ∙ sym (getD-coefficientsAt ws (startPlace ws j) (has .inside j few) i (omega arith))
+          ∙ ap (λ f. getD f i 0) (sym (polynomial j few))

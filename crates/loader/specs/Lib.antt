@@ -1,5 +1,5 @@
--- interface, what contracts, other crates and PROVED.md cite: Widths, Slot, SlotLaws, HoldLaws
+-- interface, what contracts, other crates and PROVED.md cite: Widths, Slot, SlotLaws, StoredLaws
 pub mod Widths
 pub mod Slot
 pub mod SlotLaws
-pub mod HoldLaws
+pub mod StoredLaws

@@ -5,22 +5,10 @@ use mathlib.Core.List.{List, []}
 use Prim.Native.Nat.{ℕ, _+_, _*_, _≤_, _<_}
 use lib.ListN.{length, getD, take, drop}
 use Rattle.modular.specs.Canonical.{Canonical}
-use Rattle.words.specs.Frame.{framedWords}
-use Rattle.words.specs.Word.{payloadBound}
 
 -- the polynomial in slot k
 unfoldable pub slot : ℕ → List ℕ → ℕ → List ℕ
 slot width area k = take (getD area (k * width) 0) (drop (k * width + 1) area)
-
--- the words are a head, these polynomials and an end, and each polynomial fits a slot
-pub record FramedForSlots (width : ℕ) (ws : List ℕ) (fs : List (List ℕ)) : Type 0 where
-  pub head : ℕ
-  pub words : ws ≡ framedWords head fs
-  pub modulus : ℕ
-  pub small : modulus ≤ payloadBound
-  pub canonical : (k : ℕ) → Canonical modulus (getD fs k [])
-  pub sizes : (k : ℕ) → length (getD fs k []) < width
-  pub narrow : width ≤ payloadBound
 
 -- each of these polynomials stands in its slot
 pub record InSlots (width : ℕ) (area : List ℕ) (fs : List (List ℕ)) : Type 0 where

@@ -8,6 +8,8 @@ use lib.ListN.{length, getD, drop, length-drop}
 use lib.Seq.{length-take-le, take-all, getD-take, getD-drop, ext-getD}
 use Rattle.modular.specs.Canonical.{Canonical}
 use Rattle.modular.specs.Coefficientwise.{coefficient-getD, coefficient-below}
+use Rattle.words.specs.Starts.{firstEntries}
+use Rattle.words.specs.FramedLaws.{EntriesRead}
 use Rattle.vector.specs.Reduced.{reduced, polynomial, reduced-is}
 use Rattle.loader.specs.Slot.{slot, InSlots, SlotFilled}
 
@@ -64,7 +66,12 @@ module _ {p width : ℕ} {area : List ℕ} {k : ℕ} {f : List ℕ} (is : f ≡ 
   pub taken-size : length f < width
   taken-size = rw is (filled-size filled)
 
--- what `load` leaves is filled
+-- what `load` leaves: the polynomials of what was read
+pub read-stands : {limit count width : ℕ} {ws area : List ℕ} {fs : List (List ℕ)} → EntriesRead limit count ws fs
+    → InSlots width area (firstEntries ws count) → InSlots width area fs
+read-stands {width = width} {area = area} r = subst (InSlots width area) (r .same)
+
+-- they fill their slots
 pub stands-filled : {p width : ℕ} {area : List ℕ} {fs : List (List ℕ)} → InSlots width area fs → (k : ℕ) → k < length fs
     → length fs * width ≤ length area
     → length (getD fs k []) < width → Canonical p (getD fs k []) → SlotFilled p width area k

@@ -6,14 +6,14 @@ use polynomial::Polynomial;
 use read_frame::word::payload_of;
 use residue::modulus::Modulus;
 ghost use mathlib.Core.Path.{_≡_};
-ghost use mathlib.Core.List.{List};
-ghost use Prim.Native.Nat.{ℕ, _+_, _*_, _≤_, _<_};
+ghost use Prim.Native.Nat.{_+_, _-_, _*_, _≤_, _<_};
 ghost use lib.ListN.{length, getD};
 ghost use Rattle.words.specs.Word.{payload};
+ghost use Rattle.words.specs.Starts.{firstEntries, HasEntries};
 ghost use Rattle.vector.specs.Stored.{stored};
 ghost use Rattle.residue.specs.Modulus.{ValidModulus};
 ghost use Rattle.polynomial.specs.Value.{polynomialRoom, Represents};
-ghost use Rattle.loader.specs.Slot.{slot, FramedForSlots, InSlots, SlotFilled};
+ghost use Rattle.loader.specs.Slot.{slot, InSlots, SlotFilled};
 
 // Stores the payload of words[a + j] at area[d + j] for j below n.
 pub fn copy_payloads(area: &mut [u64], d: usize, words: &[u32], a: usize, n: usize)
@@ -27,12 +27,10 @@ pub fn copy_payloads(area: &mut [u64], d: usize, words: &[u32], a: usize, n: usi
     }
 }
 
-// Loads the `count` polynomials of `words`, each into its slot of `width` words.
+// Loads the first `count` polynomials of `words`, each into its slot of `width` words.
 pub fn load(area: &mut [u64], width: usize, words: &[u32], count: usize)
-    requires { ⌜ ((fs : List (List ℕ)) × FramedForSlots width (now words) fs × (length fs ≡ count))
-        × (count * width ≤ length (now area)) ⌝ }
-    ensures { λ _. ⌜ ((fs : List (List ℕ)) → FramedForSlots width (now (words .entry)) fs → length fs ≡ count
-        → InSlots width (now (area .exit)) fs) ⌝ }
+    requires { ⌜ HasEntries (width - 1) count (now words) × (0 < width) × (count * width ≤ length (now area)) ⌝ }
+    ensures { λ _. ⌜ InSlots width (now (area .exit)) (firstEntries (now (words .entry)) count) ⌝ }
 {
     let mut at = 1;
     let mut k = 0;

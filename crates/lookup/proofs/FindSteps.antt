@@ -7,22 +7,19 @@ use Rattle.modular.specs.Bits.{most16}
 use Rattle.words.specs.Limits.{Limits}
 use Rattle.words.specs.Outcome.{Outcome, mapped}
 use Rattle.words.specs.Outcome.Outcome.{accepted, refused}
-use Rattle.words.specs.Frame.{Due}
 use Rattle.words.specs.System.{System, Shape, shape, readSystem}
 use Rattle.words.specs.Certificate.{Certificate, Form, certificateForm, readCertificate}
 use Rattle.lookup.specs.Lookup.{Side, Part, on, entriesOn, shown, polynomialLookup, boundsShown}
 use Rattle.lookup.specs.Answer.{partOutcome}
 use Rattle.lookup.specs.Lookup.Side.{system, certificate}
-use Rattle.lookup.specs.Holding.{HasPolynomials, Holding}
+use Rattle.lookup.specs.Standing.{StartsInside, partIn}
 use Rattle.words.specs.OutcomeLaws.{mapped-accepted, mapped-refused}
-use Rattle.lookup.specs.FramedLaws.{FramedIn, system-framed, certificate-framed, framed-size}
+use Rattle.words.specs.FramedLaws.{system-framed, certificate-framed, start-inside}
 use Rattle.lookup.specs.LookupLaws.{lookup-system-refused, lookup-certificate-refused, lookup-read}
 use Rattle.lookup.specs.declared.part.Part.{Part as PartValue}
 use Rattle.lookup.specs.declared.part.Part.the-variants.{Refused}
+use Rattle.lookup.proofs.Walk.{part-framed}
 use Rattle.answers.specs.declared.answer.Refusal.{Refusal}
-
-holds : {ws : List ℕ} {due : Due} {fs : List (List ℕ)} → due .limit ≤ most16 → FramedIn ws due fs → HasPolynomials ws fs
-holds few f = record { head = f .head; words = f .words; sizes = λ k. let s = framed-size f k in omega arith }
 
 module _ (limits : Limits) (ss cs : List ℕ) (side : Side) (k : ℕ) where
   abbrev pub Told : Outcome Part
@@ -65,18 +62,22 @@ module _ (limits : Limits) (ss cs : List ℕ) (side : Side) (k : ℕ) where
       c = read-certificate .0
 
       module _ (few : limits .systemCoefficients ≤ most16) (few′ : limits .certificateCoefficients ≤ most16) where
-        holds-on : (side : Side) → HasPolynomials (on side ss cs) (entriesOn side s c)
+        inside-on : (side : Side) → StartsInside (on side ss cs)
         unfolding s c
-        holds-on system = holds few (system-framed limits ss s (read-system .1))
-        holds-on certificate = holds few′ (certificate-framed limits cs (shape s) c (read-certificate .1))
+        inside-on system = start-inside (system-framed limits ss s (read-system .1)) (omega arith)
+        inside-on certificate = start-inside (certificate-framed limits cs (shape s) c (read-certificate .1)) (omega arith)
 
-        pub find-holding : (ws : List ℕ) → ws ≡ on side ss cs → Holding ws
-        find-holding ws e = rw e (_, holds-on side)
-
-        pub find-part : (ws : List ℕ) → ws ≡ on side ss cs → (r : PartValue)
-            → ((fs : List (List ℕ)) → HasPolynomials ws fs → partOutcome r ≡ boundsShown (shown k fs))
-            → Tells r
+        part-on : (side : Side) → partIn (on side ss cs) k ≡ boundsShown (polynomialLookup limits ss cs side k)
         unfolding s c
-        find-part ws e r found =
-            let told = lookup-read limits ss cs side k s (read-system .1) c (read-certificate .1) in
-            found (entriesOn side s c) (rw e (holds-on side)) ∙ ap boundsShown (sym told)
+        part-on side =
+            framed side ∙ ap boundsShown (sym (lookup-read limits ss cs side k s (read-system .1) c (read-certificate .1)))
+          where
+            framed : (side : Side) → partIn (on side ss cs) k ≡ boundsShown (shown k (entriesOn side s c))
+            framed system = part-framed (system-framed limits ss s (read-system .1)) (omega arith) k
+            framed certificate = part-framed (certificate-framed limits cs (shape s) c (read-certificate .1)) (omega arith) k
+
+        pub find-inside : (ws : List ℕ) → ws ≡ on side ss cs → StartsInside ws
+        find-inside ws e = rw e (inside-on side)
+
+        pub find-part : (ws : List ℕ) → ws ≡ on side ss cs → (r : PartValue) → partOutcome r ≡ partIn ws k → Tells r
+        find-part ws e r found = found ∙ ap (λ v. partIn v k) e ∙ part-on side

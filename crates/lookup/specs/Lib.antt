@@ -1,9 +1,7 @@
--- interface, what contracts, other crates and PROVED.md cite: Lookup, Answer, Examples, Holding, FramedLaws, LookupLaws,
---   RefusedLaws
+-- interface, what contracts, other crates and PROVED.md cite: Lookup, Answer, Examples, Standing, LookupLaws, RefusedLaws
 pub mod Lookup
 pub mod Answer
 pub mod Examples
-pub mod Holding
-pub mod FramedLaws
+pub mod Standing
 pub mod LookupLaws
 pub mod RefusedLaws

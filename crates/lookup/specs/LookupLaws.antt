@@ -19,7 +19,7 @@ use Rattle.words.specs.PolynomialLaws.{length-polynomialWords}
 use Rattle.lookup.specs.Lookup.{Side, Part, on, entriesOn, partOf, shown, polynomialLookup, wordsShown}
 use Rattle.lookup.specs.Lookup.Side.{system, certificate}
 use Rattle.words.specs.OutcomeLaws.{followedBy-accepted, refuse-passed}
-use Rattle.lookup.specs.FramedLaws.{system-framed, certificate-framed, polynomial-inside, polynomial-part}
+use Rattle.words.specs.FramedLaws.{system-framed, certificate-framed, polynomial-inside, polynomial-part}
 
 -- ---- the definition, case by case
 

@@ -4,11 +4,9 @@ use answers::Refusal;
 use read_frame::word::kind_of;
 use read_frame::word::payload_of;
 ghost use mathlib.Core.Path.{_≡_};
-ghost use mathlib.Core.List.{List};
-ghost use Prim.Native.Nat.{ℕ};
-ghost use Rattle.lookup.specs.Lookup.{shown, boundsShown};
+ghost use Rattle.words.specs.Starts.{startPlace};
 ghost use Rattle.lookup.specs.Answer.{partOutcome};
-ghost use Rattle.lookup.specs.Holding.{HasPolynomials, Holding, StartsAt};
+ghost use Rattle.lookup.specs.Standing.{StartsInside, partIn};
 
 // Where a polynomial stands in the words of its side.
 pub enum Part {
@@ -19,8 +17,8 @@ pub enum Part {
 
 // Finds the place of the start word of polynomial `number`; behind the last polynomial that of the end word.
 fn start_of(words: &[u32], number: usize) -> usize
-    requires { ⌜ Holding (now words) ⌝ }
-    ensures { λ r. ⌜ StartsAt (now (words .entry)) number r ⌝ }
+    requires { ⌜ StartsInside (now words) ⌝ }
+    ensures { λ r. ⌜ r ≡ startPlace (now (words .entry)) number ⌝ }
 {
     let mut at: usize = 1;
     let mut left = number;
@@ -37,9 +35,8 @@ fn start_of(words: &[u32], number: usize) -> usize
 
 // Finds where polynomial `number` stands.
 pub fn part_of(words: &[u32], number: usize) -> Part
-    requires { ⌜ Holding (now words) ⌝ }
-    ensures { λ r. ⌜ ((fs : List (List ℕ)) → HasPolynomials (now (words .entry)) fs
-        → partOutcome r ≡ boundsShown (shown number fs)) ⌝ }
+    requires { ⌜ StartsInside (now words) ⌝ }
+    ensures { λ r. ⌜ partOutcome r ≡ partIn (now (words .entry)) number ⌝ }
 {
     let from = start_of(words, number);
     let word = words[from];

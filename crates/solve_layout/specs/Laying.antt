@@ -1,63 +1,79 @@
 -- What is loaded from the words of a system and laid out is the system, as the solver takes it.
 use Prim.Native.Nat.{ℕ, _+_, _-_, _*_, _/_, _%_, _<_, _≤_}
-use mathlib.Core.Path.{_≡_, sym, _∙_, ap, ap₂, subst, subst₂}
+use mathlib.Core.Path.{_≡_, sym, _∙_, ap, subst, subst₂}
 use mathlib.Core.Logic.{inl, inr}
 use mathlib.Core.List.{List, []}
-use native.Mathlib.Nat.{mul-le-mul}
+use native.Mathlib.Nat.{le-refl, mul-le-mul}
 use native.Mathlib.Omega.{arith}
 use native.Mathlib.Decide.{ℕ-discrete, decLt}
 use lib.ListN.{length, getD, length-append, List·getD-append}
 use lib.Seq.{getD-append-add}
 use Rattle.limits.specs.Counts.{systemPolynomials}
-use Rattle.words.specs.Limits.{office}
+use Rattle.words.specs.Limits.{office, systemCount}
 use Rattle.words.specs.LimitsLaws.{office-fits}
-use Rattle.words.specs.System.{System, entry, sideEntry, systemEntries}
-use Rattle.words.specs.SystemLaws.{entry-within, sideEntry-within}
+use Rattle.words.specs.Outcome.{mapped}
+use Rattle.words.specs.Outcome.Outcome.{accepted}
+use Rattle.words.specs.OutcomeLaws.{mapped-accepted}
+use Rattle.words.specs.System.{System, Shape, SystemWithin, shape, entry, sideEntry, systemEntries, readSystem}
+use Rattle.words.specs.SystemLaws.{entry-within, sideEntry-within, system-written-of-read}
+use Rattle.words.specs.Starts.{firstEntries, length-firstEntries, sizes-firstEntries}
+use Rattle.words.specs.FramedLaws.{EntriesRead, system-entries-read}
 use Rattle.vector.specs.Bound.{AtMost}
-use Rattle.loader.specs.Slot.{FramedForSlots, InSlots}
-use Rattle.loader.specs.SlotLaws.{slot-before, canonical-word}
-use Rattle.loader.specs.HoldLaws.{system-holds, system-count}
+use Rattle.loader.specs.Slot.{InSlots}
+use Rattle.loader.specs.SlotLaws.{slot-before, canonical-word, read-stands}
 use Rattle.loader.specs.Widths.{systemWidth}
 use Rattle.solve_meaning.specs.Laid.{SystemLaid}
+use Rattle.solve_meaning.specs.SystemIn.{systemInLanes, SystemArea}
+use Rattle.solve_meaning.specs.SystemInLaws.{laid-read}
 use Rattle.solve_lattice.specs.Room.{inputWords, blockWords, lanes, blockDegrees, lastLane}
-use Rattle.solve_layout.specs.HasWords.{HasWords}
 use Rattle.solve_layout.specs.Column.{FitsSlot, columnPlace}
 use Rattle.solve_layout.specs.Matrix.{LaidOut, matrix-slot}
 
-module _ {s : System} {ws : List ℕ} {rows columns : ℕ} (H : HasWords s ws rows columns) where
+-- the words were read as s, which has so many rows and columns
+pub record ReadAs (s : System) (ws : List ℕ) (rows columns : ℕ) : Type 0 where
+  pub read : readSystem office ws ≡ accepted s
+  pub same-rows : s .rows ≡ rows
+  pub same-columns : s .columns ≡ columns
+
+module _ {s : System} {ws : List ℕ} {rows columns : ℕ} (R : ReadAs s ws rows columns) where
+  within : SystemWithin office s
+  within = system-written-of-read office office-fits ws s (R .read) .1
+
   pub few-rows : rows ≤ lanes
-  few-rows = subst (λ n. n ≤ lanes) (H .same-rows) (H .within .shape .rows .1)
+  few-rows = subst (λ n. n ≤ lanes) (R .same-rows) (within .shape .rows .1)
 
   pub few-columns : columns ≤ lanes
-  few-columns = subst (λ n. n ≤ lanes) (H .same-columns) (H .within .shape .columns .1)
+  few-columns = subst (λ n. n ≤ lanes) (R .same-columns) (within .shape .columns .1)
 
   -- there are at most systemPolynomials polynomials
   pub few-entries : rows * columns ≤ lanes * lanes
   few-entries = mul-le-mul few-rows few-columns
 
-  pub words-hold : FramedForSlots systemWidth ws (systemEntries s)
-  words-hold = system-holds office office-fits ws s (H .words) (H .within)
-
-  pub words-count : length (systemEntries s) ≡ rows * columns + rows
-  words-count =
-      system-count office office-fits ws s (H .words) (H .within)
-      ∙ ap₂ (λ n m. n * m + n) (H .same-rows) (H .same-columns)
+  pub entries-read : EntriesRead (office .systemCoefficients) (systemCount rows columns) ws (systemEntries s)
+  entries-read =
+      subst₂ (λ n m. EntriesRead (office .systemCoefficients) (systemCount n m) ws (systemEntries s)) (R .same-rows)
+      (R .same-columns) (system-entries-read office office-fits ws s (R .read))
 
   module _ (area : List ℕ) (room : length area ≡ systemPolynomials * systemWidth)
-      (stands : InSlots systemWidth area (systemEntries s)) where
+      (loaded : InSlots systemWidth area (firstEntries ws (systemCount rows columns))) where
     pub loaded-fits : (k : ℕ) → k < rows * columns + rows → FitsSlot area k
-    loaded-fits k lt = record {
-      room = omega (arith, slot-before systemWidth lt, few-entries, few-rows);
-      size = omega (arith, stands .sizes k (omega (arith, words-count)), words-hold .sizes k);
-    }
+    loaded-fits k lt =
+        let few = sizes-firstEntries ws (entries-read .has) (systemCount rows columns) (le-refl _) k in
+        record {
+          room = omega (arith, slot-before systemWidth lt, few-entries, few-rows);
+          size = omega (arith, loaded .sizes k (omega (arith, length-firstEntries ws (systemCount rows columns))));
+        }
+
+    stands : InSlots systemWidth area (systemEntries s)
+    stands = read-stands entries-read loaded
 
     module _ (input input′ : List ℕ) (length-is : length input ≡ inputWords) (clear : AtMost 0 input)
         (out : LaidOut area rows columns input input′) where
       laid-out : LaidOut area (s .rows) (s .columns) input input′
-      laid-out = subst₂ (λ n m. LaidOut area n m input input′) (sym (H .same-rows)) (sym (H .same-columns)) out
+      laid-out = subst₂ (λ n m. LaidOut area n m input input′) (sym (R .same-rows)) (sym (R .same-columns)) out
 
       count : length (s .matrix) ≡ s .rows * s .columns
-      count = H .within .matrix .count
+      count = within .matrix .count
 
       matrix-is : (i j e : ℕ) → i < s .rows → j < s .columns → e < blockDegrees
           → getD input′ (columnPlace j i e) 0 ≡ getD (entry s i j) e 0
@@ -75,7 +91,7 @@ module _ {s : System} {ws : List ℕ} {rows columns : ℕ} (H : HasWords s ws ro
       side-is i e row small =
           let k : s .rows * s .columns + 1 * i ≡ length (s .matrix) + i = omega (arith, count) in
           let inside : s .rows * s .columns + 1 * i < length (systemEntries s) =
-          omega (arith, count, length-append (s .matrix) (s .side), H .within .side .count) in
+          omega (arith, count, length-append (s .matrix) (s .side), within .side .count) in
           laid-out .side i e row small
           ∙ ap (λ f. getD f e 0)
           (stands .slots (s .rows * s .columns + 1 * i) inside
@@ -87,15 +103,15 @@ module _ {s : System} {ws : List ℕ} {rows columns : ℕ} (H : HasWords s ws ro
       other-is j i e same = omega (arith, clear (columnPlace j i e))
 
       positive : 0 < s .modulus
-      positive = omega (arith, H .within .shape .prime .large)
+      positive = omega (arith, within .shape .prime .large)
 
       below-at : (j i e : ℕ) → i < lanes → e < blockDegrees → Dec (i < s .rows) → Dec (j < s .columns) → Dec (j ≡ s .columns)
           → getD input′ (columnPlace j i e) 0 < s .modulus
       below-at j i e row small (yes r) (yes c) d = subst (λ w. w < s .modulus) (sym (matrix-is i j e r c small))
-          (canonical-word (s .modulus) positive (entry s i j) (entry-within office s (H .within) i j .canonical) e)
+          (canonical-word (s .modulus) positive (entry s i j) (entry-within office s within i j .canonical) e)
       below-at j i e row small (yes r) (no c) (yes d) = subst (λ w. w < s .modulus)
           (sym (ap (λ k. getD input′ (columnPlace k i e) 0) d ∙ side-is i e r small))
-          (canonical-word (s .modulus) positive (sideEntry s i) (sideEntry-within office s (H .within) i .canonical) e)
+          (canonical-word (s .modulus) positive (sideEntry s i) (sideEntry-within office s within i .canonical) e)
       below-at j i e row small (yes r) (no c) (no d) = subst (λ w. w < s .modulus)
           (sym (other-is j i e (laid-out .others j i e row small (inl (omega arith))))) positive
       below-at j i e row small (no r) c d = subst (λ w. w < s .modulus)
@@ -111,7 +127,7 @@ module _ {s : System} {ws : List ℕ} {rows columns : ℕ} (H : HasWords s ws ro
           subst (λ y. getD input′ y 0 < s .modulus) is
           (below-at j i e (omega arith) (omega arith) (decLt i (s .rows)) (decLt j (s .columns)) (ℕ-discrete j (s .columns)))
 
-      pub system-laid : SystemLaid s input′
+      system-laid : SystemLaid s input′
       system-laid = record {
         area = record {
           room = laid-out .same-length ∙ length-is;
@@ -121,3 +137,25 @@ module _ {s : System} {ws : List ℕ} {rows columns : ℕ} (H : HasWords s ws ro
         matrix = matrix-is;
         side = side-is;
       }
+
+      -- it is read back
+      pub laid-back : SystemArea (shape s) input′ × (readSystem office ws ≡ accepted (systemInLanes (shape s) input′))
+      laid-back = (system-laid .area, R .read ∙ ap accepted (sym (laid-read s within system-laid)))
+
+-- by the shape that was read
+module _ {h : Shape} (ws : List ℕ) (told : mapped shape (readSystem office ws) ≡ accepted h) where
+  abbrev found : (s : System) × (readSystem office ws ≡ accepted s) × (shape s ≡ h)
+  found = mapped-accepted shape (readSystem office ws) told
+
+  pub told-as : ReadAs (found .0) ws (h .rows) (h .columns)
+  told-as = record {
+    read = found .1;
+    same-rows = ap (λ (g : Shape). g .rows) (found .2);
+    same-columns = ap (λ (g : Shape). g .columns) (found .2);
+  }
+
+  pub told-back : (input : List ℕ)
+      → SystemArea (shape (found .0)) input × (readSystem office ws ≡ accepted (systemInLanes (shape (found .0)) input))
+      → SystemArea h input × (readSystem office ws ≡ accepted (systemInLanes h input))
+  told-back input =
+      subst (λ (g : Shape). SystemArea g input × (readSystem office ws ≡ accepted (systemInLanes g input))) (found .2)

@@ -1,6 +1,5 @@
--- interface, what contracts, other crates and PROVED.md cite: HasWords, Column, Matrix
+-- interface, what contracts, other crates and PROVED.md cite: Column, Matrix
 -- inside: Laying
-pub mod HasWords
 pub mod Column
 pub mod Matrix
 pub mod Laying

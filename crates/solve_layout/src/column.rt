@@ -4,7 +4,7 @@ use loader::coefficients_in;
 use loader::width::SYSTEM_WIDTH;
 use solve_lattice::BLOCK;
 use solve_lattice::Input;
-use solve_lattice::LANES;
+use solve_lattice::LAST_LANE;
 ghost use mathlib.Core.Path.{_≡_};
 ghost use Prim.Native.Nat.{ℕ, _+_, _*_, _<_, _≤_};
 ghost use lib.ListN.{length};
@@ -27,7 +27,7 @@ pub fn store_column(
     let mut i = 0;
     while i < rows {
         let f = coefficients_in(area, SYSTEM_WIDTH, first + step * i);
-        store_lane(input, BLOCK * j + (LANES - 1 - i), f);
+        store_lane(input, BLOCK * j + (LAST_LANE - i), f);
         i += 1;
     }
 }

@@ -2,6 +2,7 @@
 pub mod column;
 pub mod lane;
 
+use answers::Shape;
 use column::store_column;
 use limits::Office;
 use loader::load;
@@ -10,13 +11,16 @@ use solve_lattice::Input;
 ghost use mathlib.Core.Path.{_≡_};
 ghost use Prim.Native.Nat.{ℕ, _+_, _*_, _<_, _≤_};
 ghost use lib.ListN.{length};
-ghost use Rattle.words.specs.System.{System};
+ghost use Rattle.words.specs.Limits.{office};
+ghost use Rattle.words.specs.Outcome.{mapped};
+ghost use Rattle.words.specs.Outcome.Outcome.{accepted};
+ghost use Rattle.words.specs.System as system;
+ghost use Rattle.answers.specs.Answer.{shapeOf};
 ghost use Rattle.vector.specs.Bound.{AtMost};
 ghost use Rattle.solve_lattice.specs.Room.{lanes, inputWords};
-ghost use Rattle.solve_meaning.specs.Laid.{SystemLaid};
+ghost use Rattle.solve_meaning.specs.SystemIn.{systemInLanes, SystemArea};
 ghost use Rattle.solve_layout.specs.Column.{FitsSlot};
 ghost use Rattle.solve_layout.specs.Matrix.{LaidOut};
-ghost use Rattle.solve_layout.specs.HasWords.{HasWords};
 
 // Lays out the polynomials of `area` as `load` leaves it, A row by row, then b: column j in its block of `input`, b behind the last
 // column.
@@ -33,12 +37,15 @@ fn lay_area(input: &mut Input, area: &[u64], rows: usize, columns: usize)
     store_column(input, columns, area, rows * columns, 1, rows);
 }
 
-// Lays out the system of `words`, which were read and accepted, in `input`, which is 0.
-pub fn lay_system(input: &mut Input, words: &[u32], rows: usize, columns: usize)
-    requires { ⌜ ((s : System) × HasWords s (now words) rows columns) ⌝ }
+// Lays out the system that `words` were read as, of that shape, in `input`, which is 0.
+pub fn lay_system(input: &mut Input, words: &[u32], shape: Shape)
+    requires { ⌜ mapped system.shape (system.readSystem office (now words)) ≡ accepted (shapeOf shape) ⌝ }
     requires area { ⌜ (length (now input) ≡ inputWords) × AtMost 0 (now input) ⌝ }
-    ensures { λ _. ⌜ ((s : System) → HasWords s (now (words .entry)) rows columns → SystemLaid s (now (input .exit))) ⌝ }
+    ensures { λ _. ⌜ SystemArea (shapeOf shape) (now (input .exit))
+        × (system.readSystem office (now (words .entry)) ≡ accepted (systemInLanes (shapeOf shape) (now (input .exit)))) ⌝ }
 {
+    let rows = shape.rows as usize;
+    let columns = shape.columns as usize;
     let mut area = [0u64; Office::SYSTEM_POLYNOMIALS * SYSTEM_WIDTH];
     load(&mut area, SYSTEM_WIDTH, words, rows * columns + rows);
     lay_area(input, &area, rows, columns);

@@ -18,17 +18,15 @@ use Rattle.truth.specs.Chosen.{chosen-right}
 use Rattle.solve_lattice.specs.Input.{ValidInput}
 use Rattle.solve_lattice.specs.Output.{ValidOutput}
 use Rattle.solve_certify.specs.Certifies.{HasSystem, Certifies}
-use Rattle.solve_layout.specs.HasWords.{HasWords, read-has-words}
-use Rattle.solve_meaning.specs.Laid.{SystemLaid}
 use Rattle.solve_meaning.specs.SystemIn.{systemInLanes, SystemArea}
-use Rattle.solve_meaning.specs.SystemInLaws.{laid-read, read-within, read-laid}
+use Rattle.solve_meaning.specs.SystemInLaws.{read-within, read-laid}
 use Rattle.solve_meaning.specs.Taken.{takenCertificate}
 use Rattle.solve_meaning.specs.Equations.{officeEquations}
 use Rattle.solve_meaning.specs.LaidLaws.{laid-valid, laid-holds}
 use Rattle.solve_meaning.specs.TakenChosen.{taken-chosen, taken-within}
 use Rattle.solve_meaning.specs.Answers.{right-answers}
 use Rattle.solver.specs.SolvingLaws.{accepted-same}
-use Rattle.solver.specs.Certified.{HasShape, Read, CertifiedOutput, CertifiedRead, certified-of}
+use Rattle.solver.specs.Certified.{HasShape, Read, CertifiedOutput}
 
 -- the system in the input area
 module _ {h : Shape} (within : ShapeWithin office h) {input : List ℕ} (area : SystemArea h input) where
@@ -75,27 +73,6 @@ module _ {h : Shape} {ws : List ℕ} (R : Read h ws) where
 
   pub read-shape : ShapeWithin office h
   read-shape = rw (R .same-shape) (written .shape)
-
-  has-words : HasWords (R .system) ws (h .rows) (h .columns)
-  has-words = read-has-words (R .read) (sym (ap (λ (g : Shape). g .rows) (R .same-shape)))
-      (sym (ap (λ (g : Shape). g .columns) (R .same-shape)))
-
-  pub read-words : (s : System) × HasWords s ws (h .rows) (h .columns)
-  read-words = (R .system, has-words)
-
-  -- what `lay_system` says of every system with these words
-  module _ (input : List ℕ) (lays : (s : System) → HasWords s ws (h .rows) (h .columns) → SystemLaid s input) where
-    laid : SystemLaid (R .system) input
-    laid = lays (R .system) has-words
-
-    pub lays-area : SystemArea h input
-    lays-area = subst (λ g. SystemArea g input) (sym (R .same-shape)) (laid .area)
-
-    -- it is the system in the input area
-    pub lays-certified : {output : List ℕ} {solved : Bool} → CertifiedOutput (systemInLanes h input) output solved
-        → CertifiedRead (readSystem office ws) output solved
-    lays-certified {output} {solved} C = certified-of (R .read) (subst (λ s. CertifiedOutput s output solved)
-        (ap (λ g. systemInLanes g input) (R .same-shape) ∙ laid-read (R .system) written laid) C)
 
 -- the words by what reading gives
 pub told-read : {h : Shape} {ws : List ℕ} → HasShape h ws → Read h ws

@@ -37,9 +37,7 @@ pub fn certify_words(output: &mut Output, system: &[u32], shape: Shape) -> bool
     requires cleared { ⌜ (length (now output) ≡ outputWords) × AtMost 0 (now output) ⌝ }
     ensures { λ r. ⌜ CertifiedRead (readSystem office (now (system .entry))) (now (output .exit)) r ⌝ }
 {
-    let rows = shape.rows as usize;
-    let columns = shape.columns as usize;
     let mut input = [0u64; INPUT];
-    lay_system(&mut input, system, rows, columns);
+    lay_system(&mut input, system, shape);
     certify_laid(output, &input, shape)
 }

@@ -9,11 +9,11 @@ use Rattle.words.specs.LimitsLaws.{office-fits}
 use Rattle.words.specs.Outcome.{Outcome, mapped}
 use Rattle.words.specs.Outcome.Outcome.{accepted, refused}
 use Rattle.words.specs.OutcomeLaws.{mapped-accepted, mapped-refused}
-use Rattle.words.specs.System.{System, Shape, shape, ShapeWithin, SystemWithin, headWord, systemEntries, systemWords, readSystem}
-use Rattle.words.specs.SystemLaws.{system-laws, system-written-of-read}
-use Rattle.words.specs.Certificate.{Certificate, Form, CertificateWithin, certificateForm, certificateEntries, certificateWords}
-use Rattle.words.specs.Certificate.{formWord, entryCount, readCertificate}
-use Rattle.words.specs.CertificateLaws.{certificate-laws, certificate-written-of-read}
+use Rattle.words.specs.System.{System, Shape, shape, ShapeWithin, systemEntries, readSystem}
+use Rattle.words.specs.SystemLaws.{system-written-of-read}
+use Rattle.words.specs.Certificate.{Certificate, Form, certificateForm, certificateEntries, entryCount, readCertificate}
+use Rattle.words.specs.Starts.{firstEntries, HasEntries}
+use Rattle.words.specs.FramedLaws.{EntriesRead, system-entries-read, certificate-entries-read}
 use Rattle.limits.specs.Counts.{systemPolynomials, certificatePolynomials}
 use Rattle.answers.specs.declared.answer.Refusal.{Refusal}
 use Rattle.answers.specs.declared.shape.Shape.{Shape as ShapeValue}
@@ -33,17 +33,16 @@ use Rattle.writer.specs.WritingLaws.{shape-first, shape-passed, shape-within}
 use Rattle.writer.specs.Formats.{formatOf}
 use Rattle.writer.proofs.Ready.{kind-ready}
 use Rattle.values.specs.Laid.{sizesOver, laidOver}
-use Rattle.values.specs.Holding.{HoldsEntries}
 use Rattle.values.specs.Loading.{sizesAfter, valuesAfter, LoadsSystem, certificateToLoad, LoadsCertificate}
 
 -- what the loop asks, and what it gives
 abbrev pub Asked : Format → List ℕ → List ℕ → List ℕ → Type 0
-Asked format ws sizes values =
-    ((fs : List (List ℕ)) × HoldsEntries (format .limit) (format .count) ws fs) × Covers format sizes values
+Asked format ws sizes values = HasEntries (format .limit) (format .count) ws × Covers format sizes values
 
 abbrev pub Given : Format → List ℕ → List ℕ → List ℕ → List ℕ → List ℕ → Type 0
-Given format ws sizes sizes′ values values′ = (fs : List (List ℕ)) → HoldsEntries (format .limit) (format .count) ws fs
-    → (sizes′ ≡ sizesOver fs sizes) × (values′ ≡ laidOver (format .stride) fs values)
+Given format ws sizes sizes′ values values′ =
+    (sizes′ ≡ sizesOver (firstEntries ws (format .count)) sizes)
+    × (values′ ≡ laidOver (format .stride) (firstEntries ws (format .count)) values)
 
 -- ---- systems
 
@@ -65,34 +64,21 @@ module _ (ws : List ℕ) where
     abbrev s : System
     s = read .0
 
-    written : (ws ≡ systemWords s) × SystemWithin office s
-    written = system-written-of-read office office-fits ws s (read .1)
-
     pub system-shape : ShapeWithin office h
-    system-shape = subst (ShapeWithin office) (read .2) (written .1 .shape)
+    system-shape = subst (ShapeWithin office) (read .2) (system-written-of-read office office-fits ws s (read .1) .1 .shape)
 
-    holds : HoldsEntries (office .systemCoefficients) (systemCount (h .rows) (h .columns)) ws (systemEntries s)
-    unfolding systemWords
+    holds : EntriesRead (office .systemCoefficients) (systemCount (h .rows) (h .columns)) ws (systemEntries s)
     holds =
-        let within = system-laws office office-fits .apart s (written .1) .entries in
-        let small = written .1 .shape .modulus in
-        subst (λ (g : Shape). HoldsEntries (office .systemCoefficients) (systemCount (g .rows) (g .columns)) ws (systemEntries s))
+        subst (λ (g : Shape). EntriesRead (office .systemCoefficients) (systemCount (g .rows) (g .columns)) ws (systemEntries s))
         (read .2)
-        (record {
-          head = headWord (shape s);
-          words = written .0;
-          modulus = s .modulus;
-          small = omega arith;
-          within = within;
-          narrow = omega arith;
-        })
+        (system-entries-read office office-fits ws s (read .1))
 
     module _ {format : Format} (is : format ≡ formatOf office h kind.System) (sizes values : List ℕ) where
       pub system-asked : systemPolynomials ≤ length sizes → office .systemCoefficients * systemPolynomials ≤ length values
           → Asked format ws sizes values
       system-asked sized roomy =
           subst (λ (f : Format). Asked f ws sizes values) (sym is) (
-            (systemEntries s, holds),
+            holds .has,
             kind-ready office office-fits h system-shape kind.System sizes values (omega arith) sized
                 roomy .0,
           )
@@ -101,9 +87,13 @@ module _ (ws : List ℕ) where
           → LoadsSystem office ws (system.Accepted v) sizes sizes′ values values′
       unfolding sizesAfter valuesAfter
       system-loads {sizes′} {values′} v same given =
-          let stored = subst (λ (f : Format). Given f ws sizes sizes′ values values′) is given (systemEntries s) holds in
+          let stored = subst (λ (f : Format). Given f ws sizes sizes′ values values′) is given in
           let e = ap (mapped systemEntries) (read .1) in
-          record { answer-is = ap accepted same ∙ told; sizes-are = rw e (stored .0); values-are = rw e (stored .1) }
+          record {
+            answer-is = ap accepted same ∙ told;
+            sizes-are = rw (e, ← holds .same) (stored .0);
+            values-are = rw (e, ← holds .same) (stored .1);
+          }
 
 -- ---- certificates
 
@@ -144,31 +134,18 @@ module _ (h : Shape) (ws : List ℕ) where
       abbrev c : Certificate
       c = read-as .0
 
-      written-as : (ws ≡ certificateWords c) × CertificateWithin office h c
-      written-as = certificate-written-of-read office h ws c (read-as .1)
-
-      holds-as : HoldsEntries (office .certificateCoefficients) (entryCount h (formOf form)) ws (certificateEntries c)
-      unfolding certificateWords
+      holds-as : EntriesRead (office .certificateCoefficients) (entryCount h (formOf form)) ws (certificateEntries c)
       holds-as =
-          let within = certificate-laws office h .apart c (written-as .1) .entries in
-          let small = certificate-shape .modulus in
-          subst (λ (f : Form). HoldsEntries (office .certificateCoefficients) (entryCount h f) ws (certificateEntries c))
+          subst (λ (f : Form). EntriesRead (office .certificateCoefficients) (entryCount h f) ws (certificateEntries c))
           (read-as .2)
-          (record {
-            head = formWord (certificateForm c);
-            words = written-as .0;
-            modulus = h .modulus;
-            small = omega arith;
-            within = within;
-            narrow = omega arith;
-          })
+          (certificate-entries-read office office-fits ws h certificate-shape c (read-as .1))
 
       module _ {format : Format} (is : format ≡ formatOf office h (kind.Certificate form)) (sizes values : List ℕ) where
         pub certificate-asked : certificatePolynomials ≤ length sizes → certificateStride * certificatePolynomials ≤ length values
             → Asked format ws sizes values
         certificate-asked sized roomy =
             subst (λ (f : Format). Asked f ws sizes values) (sym is) (
-              (certificateEntries c, holds-as),
+              holds-as .has,
               kind-ready office office-fits h certificate-shape (kind.Certificate form) sizes values (omega arith) sized roomy .0,
             )
 
@@ -176,10 +153,10 @@ module _ (h : Shape) (ws : List ℕ) where
             → LoadsCertificate office h ws (certificate.Accepted form) sizes sizes′ values values′
         unfolding sizesAfter valuesAfter
         certificate-loads {sizes′} {values′} given =
-            let stored = subst (λ (f : Format). Given f ws sizes sizes′ values values′) is given (certificateEntries c) holds-as in
+            let stored = subst (λ (f : Format). Given f ws sizes sizes′ values values′) is given in
             let e = ap (mapped certificateEntries) (to-load ∙ read-as .1) in
             record {
               answer-is = told ∙ ap (mapped certificateForm) (sym to-load);
-              sizes-are = rw e (stored .0);
-              values-are = rw e (stored .1);
+              sizes-are = rw (e, ← holds-as .same) (stored .0);
+              values-are = rw (e, ← holds-as .same) (stored .1);
             }

@@ -1,14 +1,10 @@
--- interface: what the calls do, and where values lie in arrays
+-- interface, what contracts, other crates and PROVED.md cite: Laid, Loading, HeldLaws, LoadedLaws, RefusedLaws, RoundTrip, Examples
+-- inside: LaidLaws
 pub mod Laid
+pub mod LaidLaws
 pub mod Loading
--- interface: every value within the limits lies in such arrays, and what the calls leave in them
 pub mod HeldLaws
 pub mod LoadedLaws
--- interface: what they refuse
 pub mod RefusedLaws
--- interface: the round trip of the calls
 pub mod RoundTrip
--- inside
-pub mod Holding
-pub mod LaidLaws
 pub mod Examples

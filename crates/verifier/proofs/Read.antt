@@ -1,5 +1,5 @@
 -- What the areas hold once the words that were read are loaded, and that the verdict on the areas is the verdict on the words.
-use mathlib.Core.Path.{_≡_, sym, ap, _∙_, subst}
+use mathlib.Core.Path.{_≡_, refl, sym, ap, _∙_, subst, subst₂}
 use mathlib.Core.List.{List, []}
 use Prim.Native.Nat.{ℕ, _+_, _*_, _≤_, _<_}
 use native.Mathlib.Nat.{mul-le-mul}
@@ -9,9 +9,13 @@ use Rattle.limits.specs.Counts.{systemPolynomials, certificatePolynomials}
 use Rattle.modular.specs.Canonical.{Canonical}
 use Rattle.residue.specs.Modulus.{ValidModulus}
 use Rattle.residue.specs.declared.modulus.Modulus.{Modulus}
-use Rattle.words.specs.Limits.{office}
+use Rattle.words.specs.Limits.{office, systemCount}
 use Rattle.words.specs.LimitsLaws.{office-fits}
 use Rattle.words.specs.Outcome.{Outcome, followedBy}
+use Rattle.words.specs.Polynomial.{VectorWithin}
+use Rattle.words.specs.VectorLaws.{all-at}
+use Rattle.words.specs.Starts.{length-firstEntries}
+use Rattle.words.specs.FramedLaws.{EntriesRead, system-entries-read, certificate-entries-read, system-framed, certificate-framed}
 use Rattle.words.specs.System.{System, Shape, SystemWithin, ShapeWithin, shape, systemEntries, systemWords}
 use Rattle.words.specs.SystemLaws.{system-written-of-read}
 use Rattle.words.specs.Certificate.{Certificate, Form, CertificateWithin, certificateForm, certificateEntries, certificateWords}
@@ -20,10 +24,8 @@ use Rattle.words.specs.Certificate.Certificate.{solution, absence}
 use Rattle.words.specs.Certificate.Form.{solving, absent}
 use Rattle.words.specs.CertificateLaws.{certificate-written-of-read}
 use Rattle.truth.specs.Verdict.{verdict, certificateVerdict, solutionVerdict, absenceVerdict}
-use Rattle.loader.specs.Slot.{FramedForSlots, InSlots, SlotFilled}
+use Rattle.loader.specs.Slot.{InSlots, SlotFilled}
 use Rattle.loader.specs.SlotLaws.{stands-filled}
-use Rattle.loader.specs.HoldLaws.{system-holds, system-canonical, system-count, certificate-holds, certificate-canonical}
-use Rattle.loader.specs.HoldLaws.{certificate-count}
 use Rattle.loader.specs.Widths.{systemWidth, certificateWidth}
 use Rattle.check_conditions.specs.declared.dimensions.Dimensions.{Dimensions}
 use Rattle.check_conditions.specs.Areas.{systemInSlots, vectorIn, denominatorIn}
@@ -32,6 +34,9 @@ use Rattle.check_conditions.specs.Areas.{Loaded}
 use Rattle.check_conditions.specs.AreaLaws.{system-is}
 use Rattle.verifier.proofs.Parts.{solution-is, absence-is}
 use Rattle.verifier.specs.BothRead.{BothRead}
+
+entries-count : {limit count : ℕ} {ws : List ℕ} {fs : List (List ℕ)} → EntriesRead limit count ws fs → length fs ≡ count
+entries-count {count = count} {ws = ws} r = ap length (sym (r .same)) ∙ length-firstEntries ws count
 
 module _ {h : Shape} {form : Form} {ws cs : List ℕ} (b : BothRead h form ws cs) where
   abbrev s : System
@@ -55,31 +60,38 @@ module _ {h : Shape} {form : Form} {ws cs : List ℕ} (b : BothRead h form ws cs
 
   -- ---- what `load` asks
 
-  pub read-system : FramedForSlots systemWidth ws (systemEntries s)
-  read-system = system-holds office office-fits ws s (system-part .0) (system-part .1)
+  pub read-system : EntriesRead (office .systemCoefficients) (systemCount (h .rows) (h .columns)) ws (systemEntries s)
+  read-system =
+      subst (λ (g : Shape). EntriesRead (office .systemCoefficients) (systemCount (g .rows) (g .columns)) ws (systemEntries s))
+      (sym (b .same-shape)) (system-entries-read office office-fits ws s (b .system-read))
 
-  pub read-system-count : length (systemEntries s) ≡ h .rows * h .columns + h .rows
-  read-system-count =
-      system-count office office-fits ws s (system-part .0) (system-part .1)
-      ∙ ap (λ (g : Shape). g .rows * g .columns + g .rows) (sym (b .same-shape))
-
-  pub read-certificate : FramedForSlots certificateWidth cs (certificateEntries c)
+  read-certificate : EntriesRead (office .certificateCoefficients) (entryCount h form) cs (certificateEntries c)
   read-certificate =
-      certificate-holds office office-fits cs (shape s) (system-part .1 .shape) c (certificate-part .0) (certificate-part .1)
+      subst₂ (λ (g : Shape) (f : Form). EntriesRead (office .certificateCoefficients) (entryCount g f) cs (certificateEntries c))
+      (sym (b .same-shape)) (sym (b .same-form))
+      (certificate-entries-read office office-fits cs (shape s) (system-part .1 .shape) c (b .certificate-read))
 
-  certificate-entries : length (certificateEntries c) ≡ entryCount h form
-  certificate-entries =
-      certificate-count office office-fits cs (shape s) (system-part .1 .shape) c (certificate-part .0) (certificate-part .1)
-      ∙ ap (λ (g : Shape). entryCount g (certificateForm c)) (sym (b .same-shape))
-      ∙ ap (entryCount h) (sym (b .same-form))
+  certificate-by : (f : Form) (n : ℕ) → form ≡ f → entryCount h f ≡ n
+      → EntriesRead (office .certificateCoefficients) n cs (certificateEntries c)
+  certificate-by f n e count =
+      subst (λ (k : ℕ). EntriesRead (office .certificateCoefficients) k cs (certificateEntries c)) (ap (entryCount h) e ∙ count)
+      read-certificate
 
-  pub read-solution-count : form ≡ solving → length (certificateEntries c) ≡ h .columns + 2 + h .rows
+  pub read-solution : form ≡ solving
+      → EntriesRead (office .certificateCoefficients) (h .columns + 2 + h .rows) cs (certificateEntries c)
   unfolding entryCount
-  read-solution-count e = let n = certificate-entries ∙ ap (entryCount h) e in omega arith
+  read-solution e = certificate-by solving (h .columns + 2 + h .rows) e (omega arith)
 
-  pub read-absence-count : form ≡ absent → length (certificateEntries c) ≡ h .rows
+  pub read-absence : form ≡ absent → EntriesRead (office .certificateCoefficients) (h .rows) cs (certificateEntries c)
   unfolding entryCount
-  read-absence-count e = certificate-entries ∙ ap (entryCount h) e
+  read-absence e = certificate-by absent (h .rows) e refl
+
+  system-within : VectorWithin (s .modulus) (office .systemCoefficients) (systemCount (s .rows) (s .columns)) (systemEntries s)
+  system-within = system-framed office ws s (b .system-read) .entries
+
+  certificate-within :
+      VectorWithin (s .modulus) (office .certificateCoefficients) (entryCount (shape s) (certificateForm c)) (certificateEntries c)
+  certificate-within = certificate-framed office cs (shape s) c (b .certificate-read) .entries
 
   -- ---- the verdict
 
@@ -109,19 +121,19 @@ module _ {h : Shape} {form : Form} {ws cs : List ℕ} (b : BothRead h form ws cs
 
       filled-system : (k : ℕ) → k < h .rows * h .columns + h .rows → SlotFilled (m .p) systemWidth A k
       filled-system k lt =
+          let count = entries-count read-system in
           let few : length (systemEntries s) * systemWidth ≤ systemPolynomials * systemWidth =
-          omega (arith, read-system-count, read-places, read-shape .rows .1) in
-          stands-filled in-A k (omega (arith, read-system-count)) (omega arith) (read-system .sizes k)
-          (subst (λ (p : ℕ). Canonical p (getD (systemEntries s) k [])) (sym same-modulus)
-          (system-canonical office office-fits ws s (system-part .0) (system-part .1) k))
+          omega (arith, read-places, read-shape .rows .1) in
+          let within = all-at _ _ (systemEntries s) (system-within .entries) k in
+          stands-filled in-A k (omega arith) (omega arith) (omega (arith, within .size))
+          (subst (λ (p : ℕ). Canonical p (getD (systemEntries s) k [])) (sym same-modulus) (within .canonical))
 
       filled-certificate : length (certificateEntries c) ≤ certificatePolynomials → (k : ℕ) → k < length (certificateEntries c)
           → SlotFilled (m .p) certificateWidth C k
       filled-certificate few k lt =
-          stands-filled in-C k lt (omega arith) (read-certificate .sizes k)
-          (subst (λ (p : ℕ). Canonical p (getD (certificateEntries c) k [])) (sym same-modulus)
-          (certificate-canonical office office-fits cs (shape s) (system-part .1 .shape) c (certificate-part .0)
-          (certificate-part .1) k))
+          let within = all-at _ _ (certificateEntries c) (certificate-within .entries) k in
+          stands-filled in-C k lt (omega arith) (omega (arith, within .size))
+          (subst (λ (p : ℕ). Canonical p (getD (certificateEntries c) k [])) (sym same-modulus) (within .canonical))
 
       loaded : (count : ℕ) → length (certificateEntries c) ≡ count → count ≤ certificatePolynomials → Loaded l count A C
       loaded count all few = record {
@@ -137,12 +149,12 @@ module _ {h : Shape} {form : Form} {ws cs : List ℕ} (b : BothRead h form ws cs
       loaded-solution e =
           let r = read-shape .rows .1 in
           let k = read-shape .columns .1 in
-          loaded (h .columns + 2 + h .rows) (read-solution-count e) (omega arith)
+          loaded (h .columns + 2 + h .rows) (entries-count (read-solution e)) (omega arith)
 
       pub loaded-absence : form ≡ absent → Loaded l (h .rows) A C
       loaded-absence e =
           let r = read-shape .rows .1 in
-          loaded (h .rows) (read-absence-count e) (omega arith)
+          loaded (h .rows) (entries-count (read-absence e)) (omega arith)
 
       system-in : systemInSlots l A ≡ s
       system-in =

@@ -1,7 +1,8 @@
 -- interface, what contracts, other crates and PROVED.md cite: Limits, Word, Outcome, OutcomeLaws, Reading, Polynomial, Frame,
 --   System, Certificate, Bytes, Examples, WordLaws, ReadingLaws, PolynomialLaws, FrameLaws, FormatLaws, LimitsLaws, VectorLaws,
 --   SystemHeadLaws, SystemLaws, CertificateLaws, LongestLaws, WidthLaws, BytesLaws, ForwardLaws, PlaceLaws, PrefixLaws,
---   Table, FirstFault, TenFirst, RefusedLaws, Rows, RowLaws, PolynomialRows, PolynomialsRefused, TableExamples, Pair, PairLaws
+--   Table, FirstFault, TenFirst, RefusedLaws, Rows, RowLaws, PolynomialRows, PolynomialsRefused, TableExamples, Pair, PairLaws,
+--   Starts, FramedLaws
 -- inside: TableLaws, PassLaws, CompleteLaws, OnTableLaws, FirstFaultLaws
 pub mod Limits
 pub mod Word
@@ -46,3 +47,5 @@ pub mod RefusedLaws
 pub mod TableExamples
 pub mod Pair
 pub mod PairLaws
+pub mod Starts
+pub mod FramedLaws

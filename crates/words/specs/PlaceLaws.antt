@@ -62,11 +62,7 @@ entryPlace-next fs k h = omega (arith, length-take-next k fs h, length-polynomia
 
 -- ---- values
 
--- the count in a start word, and coefficient i in the word i + 1 behind it
-pub count-at : (f rest : List ℕ) → length f < payloadBound → payload (getD (polynomialWords f ++ rest) 0 0) ≡ length f
-unfolding polynomialWords
-count-at f rest h = omega arith
-
+-- coefficient i in the word i + 1 behind a start word
 coefficient-in : (p : ℕ) → p ≤ payloadBound → (f rest : List ℕ) → Canonical p f → (i : ℕ) → i < length f
     → payload (getD (map (word 3) f ++ rest) i 0) ≡ getD f i 0
 unfolding Canonical

@@ -2,7 +2,7 @@
 use Prim.Native.Nat.{_-_}
 use native.Mathlib.Omega.{arith}
 use borrow.Author.Needs.{needs}
-use Rattle.loader.proofs.Loading.{Loads, loads-start, turn-count, turn-room, turn-fits, loads-turn, loads-end}
+use Rattle.loader.proofs.Loading.{Loads, loads-start, turn-room, turn-fits, loads-turn, loads-end}
 use Rattle.loader.proofs.load.Statement.{statement}
 use Rattle.loader.proofs.load.Tie as tie
 
@@ -17,65 +17,49 @@ loop-holds c = loads-start _ _ _ _
 
 mul-payload-of : tie.Need-mul-payload-of Inv-loop μ-loop
 mul-payload-of c =
-    let S = c .before .before .before .before in
-    omega (arith, turn-room (c .before .loop .inv) (c .loop-test .taken) (S .pre .1) (S .pre .0 .0) (S .pre .0 .1) (S .pre .0 .2))
+    let P = c .before .before .before .before .pre in
+    omega (arith, turn-room (P .0) (P .1) (P .2) (c .before .loop .inv) (c .loop-test .taken))
 
 shared-slice-read-payload-of : tie.Need-shared-slice-read-payload-of Inv-loop μ-loop
 shared-slice-read-payload-of c =
-    let S = c .before .before .before .before .before in
-    let P = S .pre in
-    omega (arith, turn-room (c .before .before .loop .inv) (c .before .loop-test .taken) (P .1) (P .0 .0) (P .0 .1) (P .0 .2))
+    let P = c .before .before .before .before .before .pre in
+    omega (arith, turn-room (P .0) (P .1) (P .2) (c .before .before .loop .inv) (c .before .loop-test .taken))
 
 mul-copy-payloads : tie.Need-mul-copy-payloads Inv-loop μ-loop
 mul-copy-payloads c =
-    let S = c .before .before .before .before .before .before .before in
+    let P = c .before .before .before .before .before .before .before .pre in
     let at = c .before .before .before .before in
-    let P = S .pre in
-    omega (arith, turn-fits (at .loop .inv) (c .before .before .before .loop-test .taken) (P .1) (P .0 .0) (P .0 .1) (P .0 .2))
+    omega (arith, turn-fits (P .0) (P .1) (P .2) (at .loop .inv) (c .before .before .before .loop-test .taken))
 
 copy-payloads-requires : tie.Need-copy-payloads-requires Inv-loop μ-loop
 copy-payloads-requires c κs =
-    let S = c .before .before .before .before .before .before .before in
-    let at = c .before .before .before .before in
+    let P = c .before .before .before .before .before .before .before .pre in
+    let inv = c .before .before .before .before .loop .inv in
     let taken = c .before .before .before .loop-test .taken in
-    let P = S .pre in (
-      omega (
-        arith,
-        turn-fits (at .loop .inv) taken (P .1) (P .0 .0) (P .0 .1) (P .0 .2),
-        turn-count (at .loop .inv) taken (P .1) (P .0 .0) (P .0 .1) (P .0 .2),
-      ),
-      omega (
-        arith,
-        turn-room (at .loop .inv) taken (P .1) (P .0 .0) (P .0 .1) (P .0 .2),
-        turn-count (at .loop .inv) taken (P .1) (P .0 .0) (P .0 .1) (P .0 .2),
-      ),
-    )
+    (omega (arith, turn-fits (P .0) (P .1) (P .2) inv taken), omega (arith, turn-room (P .0) (P .1) (P .2) inv taken))
 
 add-at : tie.Need-add-at Inv-loop μ-loop
 add-at c =
-    let S = c .before .before .before .before .before .before .before .before .before .before in
+    let P = c .before .before .before .before .before .before .before .before .before .before .pre in
     let at = c .before .before .before .before .before .before .before in
     let taken = c .before .before .before .before .before .before .loop-test .taken in
-    let P = S .pre in
-    omega (
-      arith,
-      turn-room (at .loop .inv) taken (P .1) (P .0 .0) (P .0 .1) (P .0 .2),
-      turn-count (at .loop .inv) taken (P .1) (P .0 .0) (P .0 .1) (P .0 .2),
-    )
+    omega (arith, turn-room (P .0) (P .1) (P .2) (at .loop .inv) taken)
 
 loop-again : tie.Need-loop-again Inv-loop μ-loop
 loop-again c =
-    let S = c .before .before .before .before .before .before .before .before .before .before in
+    let P = c .before .before .before .before .before .before .before .before .before .before .pre in
     let at = c .before .before .before .before .before .before .before in
     let taken = c .before .before .before .before .before .before .loop-test .taken in
     let count = c .before .before .before .before .payload-of .ensures in
-    loads-turn (at .loop .inv) taken (S .pre .1) _ _ (omega (arith, count)) (c .before .before .copy-payloads .ensures)
+    loads-turn (P .0) (P .1) (P .2) (at .loop .inv) taken _ _ (omega (arith, count)) (c .before .before .copy-payloads .ensures)
 
 same-length : tie.Need-same-length Inv-loop μ-loop
 same-length c = c .before .loop .inv .same-length
 
 returns : tie.Need-returns Inv-loop μ-loop
-returns c = loads-end (c .before .loop .inv) (c .loop-test .left) (c .before .before .before .before .pre .1)
+returns c =
+    let P = c .before .before .before .before .pre in
+    loads-end (P .0) (P .1) (P .2) (c .before .loop .inv) (c .loop-test .left)
 
 pub load-spec : {M : Type 1} → statement M
 load-spec =

@@ -1,16 +1,16 @@
 -- `lookup::lookup_part` meets its contract, from what the two readers tell and what is found in the words of the side.
 use mathlib.Core.Path.{_≡_, sym, ap, _∙_}
 use mathlib.Core.List.{List}
+use Prim.Native.Nat.{ℕ}
 use native.Mathlib.Omega.{arith}
 use Rattle.answers.specs.Answer.{shapeOf, formOf, systemOutcome, certificateOutcome}
 use Rattle.limits.specs.Value.{limitsOf}
-use Prim.Native.Nat.{ℕ}
-use Rattle.lookup.specs.Lookup.{on, shown, polynomialLookup, boundsShown}
+use Rattle.lookup.specs.Lookup.{on, polynomialLookup, boundsShown}
 use Rattle.lookup.specs.Answer.{sideAsked, partOutcome}
-use Rattle.lookup.specs.Holding.{HasPolynomials, Holding}
+use Rattle.lookup.specs.Standing.{StartsInside, partIn}
 use Rattle.lookup.specs.declared.Side.{Side}
 use Rattle.lookup.specs.declared.part.Part.{Part}
-use Rattle.lookup.proofs.FindSteps.{find-system-refused, find-certificate-refused, find-holding, find-part}
+use Rattle.lookup.proofs.FindSteps.{find-system-refused, find-certificate-refused, find-inside, find-part}
 use borrow.Author.Needs.{needs}
 use Rattle.lookup.proofs.lookup_part.Statement.{statement}
 use Rattle.lookup.proofs.lookup_part.Tie as tie
@@ -29,18 +29,18 @@ module _ (f : tie.After-enum-told) where
   abbrev of-side : Side → List ℕ
   of-side side = on (sideAsked side) (start .args .system .now) (start .args .certificate .now)
 
-  holding : (side : Side) → start .args .side ≡ side → Holding (of-side side)
-  holding side is =
+  inside : (side : Side) → start .args .side ≡ side → StartsInside (of-side side)
+  inside side is =
       let a = start .args in
       let e = y .before .before .read .given in
       let g = f .enum-told .given in
-      find-holding (limitsOf (a .limits)) (a .system .now) (a .certificate .now) (sideAsked (a .side)) (a .number)
+      find-inside (limitsOf (a .limits)) (a .system .now) (a .certificate .now) (sideAsked (a .side)) (a .number)
       (shapeOf (e .0 .0)) (ap systemOutcome (sym (e .1)) ∙ r .read-system .ensures)
       (formOf (g .0 .0)) (ap certificateOutcome (sym (g .1)) ∙ y .read-certificate .ensures)
       (omega (arith, start .good)) (omega (arith, start .good)) (of-side side) (ap of-side (sym is))
 
   tells : (side : Side) → start .args .side ≡ side → (part : Part)
-      → ((fs : List (List ℕ)) → HasPolynomials (of-side side) fs → partOutcome part ≡ boundsShown (shown (start .args .number) fs))
+      → partOutcome part ≡ partIn (of-side side) (start .args .number)
       → partOutcome part ≡ boundsShown (polynomialLookup (limitsOf (start .args .limits)) (start .args .system .now)
       (start .args .certificate .now) (sideAsked (start .args .side)) (start .args .number))
   tells side is =
@@ -53,10 +53,10 @@ module _ (f : tie.After-enum-told) where
       (omega (arith, start .good)) (omega (arith, start .good)) (of-side side) (ap of-side (sym is))
 
 part-of-requires : tie.Need-part-of-requires
-part-of-requires c κs = holding (c .before .before) _ (c .enum-told2 .given .1)
+part-of-requires c κs = inside (c .before .before) _ (c .enum-told2 .given .1)
 
 part-of-requires-2 : tie.Need-part-of-requires-2
-part-of-requires-2 c κs = holding (c .before .before) _ (c .enum-told3 .given .1)
+part-of-requires-2 c κs = inside (c .before .before) _ (c .enum-told3 .given .1)
 
 returns : tie.Need-returns
 returns c =

@@ -5,12 +5,12 @@ use native.Mathlib.Omega.{arith}
 use lib.ListN.{length}
 use Rattle.limits.specs.Counts.{systemPolynomials, certificatePolynomials}
 use Rattle.answers.specs.Answer.{formOf}
-use Rattle.verifier.proofs.Read.{read-shape, read-places, read-system, read-system-count, read-certificate}
-use Rattle.verifier.proofs.Read.{read-solution-count, read-absence-count}
+use Rattle.verifier.proofs.Read.{read-shape, read-places, read-system, read-solution, read-absence}
 use Rattle.verifier.proofs.Read.{loaded-solution, loaded-absence, verdict-solution, verdict-absence}
 use borrow.Author.Needs.{needs}
 use Rattle.verifier.proofs.check_read.Statement.{statement}
 use Rattle.verifier.proofs.check_read.Tie as tie
+use Rattle.loader.specs.SlotLaws.{read-stands}
 use Rattle.loader.specs.Widths.{systemWidth, certificateWidth}
 
 new-requires : tie.Need-new-requires
@@ -29,13 +29,14 @@ add-load c =
 load-requires : tie.Need-load-requires
 load-requires c κs =
     let S = c .before .before .before .before .before .before .before in
-    ((_, read-system (S .pre), read-system-count (S .pre)), omega (arith, read-places (S .pre), read-shape (S .pre) .rows .1))
+    (read-system (S .pre) .has, omega arith, omega (arith, read-places (S .pre), read-shape (S .pre) .rows .1))
 
 load-requires-2 : tie.Need-load-requires-2
 load-requires-2 c κs =
     let S = c .before .before .before .before .before .before .before .before .before .before .before .before in
     let shape = read-shape (S .pre) in (
-      (_, read-certificate (S .pre), read-solution-count (S .pre) (ap formOf (c .before .enum-told .given .1))),
+      read-solution (S .pre) (ap formOf (c .before .enum-told .given .1)) .has,
+      omega arith,
       omega (arith, shape .rows .1, shape .columns .1),
     )
 
@@ -50,15 +51,15 @@ check-solution-requires c κs =
     let room-A : length A ≡ systemPolynomials * systemWidth = search needs in
     let room-C : length C ≡ certificatePolynomials * certificateWidth = search needs in
     loaded-solution (S .pre) _ (new .ensures .0) (new .ensures .1) A C room-A room-C
-    (first .load .ensures _ (read-system (S .pre)) (read-system-count (S .pre)))
-    (c .before .before .before .load2 .ensures _ (read-certificate (S .pre))
-    (read-solution-count (S .pre) (ap formOf (told .enum-told .given .1))))
+    (read-stands (read-system (S .pre)) (first .load .ensures))
+    (read-stands (read-solution (S .pre) (ap formOf (told .enum-told .given .1))) (c .before .before .before .load2 .ensures))
     (ap formOf (told .enum-told .given .1))
 
 load-requires-3 : tie.Need-load-requires-3
 load-requires-3 c κs =
     let S = c .before .before .before .before .before .before .before .before .before .before .before .before in (
-      (_, read-certificate (S .pre), read-absence-count (S .pre) (ap formOf (c .before .enum-told2 .given .1))),
+      read-absence (S .pre) (ap formOf (c .before .enum-told2 .given .1)) .has,
+      omega arith,
       omega (arith, read-shape (S .pre) .rows .1),
     )
 
@@ -73,9 +74,8 @@ check-absence-requires c κs =
     let room-A : length A ≡ systemPolynomials * systemWidth = search needs in
     let room-C : length C ≡ certificatePolynomials * certificateWidth = search needs in
     loaded-absence (S .pre) _ (new .ensures .0) (new .ensures .1) A C room-A room-C
-    (first .load .ensures _ (read-system (S .pre)) (read-system-count (S .pre)))
-    (c .before .before .before .load3 .ensures _ (read-certificate (S .pre))
-    (read-absence-count (S .pre) (ap formOf (told .enum-told2 .given .1))))
+    (read-stands (read-system (S .pre)) (first .load .ensures))
+    (read-stands (read-absence (S .pre) (ap formOf (told .enum-told2 .given .1))) (c .before .before .before .load3 .ensures))
     (ap formOf (told .enum-told2 .given .1))
 
 returns : tie.Need-returns
@@ -89,9 +89,9 @@ returns c =
     let room-A : length A ≡ systemPolynomials * systemWidth = search needs in
     let room-C : length C ≡ certificatePolynomials * certificateWidth = search needs in
     verdict-solution (S .pre) _ (new .ensures .0) (new .ensures .1) A C room-A room-C
-    (first .load .ensures _ (read-system (S .pre)) (read-system-count (S .pre)))
-    (c .before .before .before .before .load2 .ensures _ (read-certificate (S .pre))
-    (read-solution-count (S .pre) (ap formOf (told .enum-told .given .1))))
+    (read-stands (read-system (S .pre)) (first .load .ensures))
+    (read-stands (read-solution (S .pre) (ap formOf (told .enum-told .given .1)))
+    (c .before .before .before .before .load2 .ensures))
     (ap formOf (told .enum-told .given .1)) (c .check-solution .ensures)
 
 returns-2 : tie.Need-returns-2
@@ -105,9 +105,9 @@ returns-2 c =
     let room-A : length A ≡ systemPolynomials * systemWidth = search needs in
     let room-C : length C ≡ certificatePolynomials * certificateWidth = search needs in
     verdict-absence (S .pre) _ (new .ensures .0) (new .ensures .1) A C room-A room-C
-    (first .load .ensures _ (read-system (S .pre)) (read-system-count (S .pre)))
-    (c .before .before .before .before .load3 .ensures _ (read-certificate (S .pre))
-    (read-absence-count (S .pre) (ap formOf (told .enum-told2 .given .1))))
+    (read-stands (read-system (S .pre)) (first .load .ensures))
+    (read-stands (read-absence (S .pre) (ap formOf (told .enum-told2 .given .1)))
+    (c .before .before .before .before .load3 .ensures))
     (ap formOf (told .enum-told2 .given .1)) (c .check-absence .ensures)
 
 pub check-read-spec : {M : Type 1} → statement M

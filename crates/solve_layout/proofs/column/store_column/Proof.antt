@@ -61,7 +61,6 @@ store-column-spec =
     (λ c. search needs)
     (λ c. search needs)
     (λ c. search needs)
-    (λ c. search needs)
     store-lane-requires
     (λ c. search needs)
     (λ c. search needs)

@@ -1,9 +1,8 @@
 -- The loop keeps a `Loads`.
 use Prim.Native.Nat.{_-_}
 use native.Mathlib.Omega.{arith}
-use lib.ListN.{length-take, length-drop}
 use borrow.Author.Needs.{needs}
-use Rattle.values.proofs.Turns.{Loads, loads-start, Turn, turn, loads-turn, loads-end}
+use Rattle.values.proofs.Turns.{Loads, loads-start, same-sizes, same-values, Turn, turn, loads-turn, loads-end}
 use Rattle.values.proofs.entries.load_entries.Statement.{statement}
 use Rattle.values.proofs.entries.load_entries.Tie as tie
 
@@ -17,30 +16,39 @@ abbrev μ-loop : tie.MeasureT-loop
 turn-at : (c : tie.In-loop Inv-loop μ-loop) →
     let l = c .before in
     let S = l .before .before .before .before .args in
-    Turn (S .words .now) (l .loop .sizes) (l .loop .values) (S .format .stride) (l .loop .at) (l .loop .k)
+    Turn (S .words .now) (S .sizes .now) (S .values .now) (l .loop .sizes) (l .loop .values) (S .format .stride) (l .loop .at)
+    (l .loop .k)
 turn-at c =
     let l = c .before in
     let P = l .before .before .before .before .pre in
-    turn (l .loop .inv) (c .loop-test .taken) (P .1 .sized) (P .1 .roomy) (P .1 .apart) (P .0 .1)
+    turn (P .0) (P .1 .apart) (P .1 .sized) (P .1 .roomy) (l .loop .inv) (c .loop-test .taken)
 
-store-payloads-requires : tie.Need-store-payloads-requires Inv-loop μ-loop
-store-payloads-requires c κs =
-    let t = turn-at (c .before .before .before .before) in
-    let e = c .before .before .payload-of .ensures in
-    simp (length-take, length-drop) (omega arith)
+copy-payloads-requires : tie.Need-copy-payloads-requires Inv-loop μ-loop
+copy-payloads-requires c κs = let t = turn-at (c .before .before .before) in (omega arith, omega arith)
 
 loop-again : tie.Need-loop-again Inv-loop μ-loop
 loop-again c =
-    let l = c .before .before .before .before .before .before .before .before in
+    let l = c .before .before .before .before .before .before .before in
     let P = l .before .before .before .before .pre in
-    let taken = c .before .before .before .before .before .before .before .loop-test .taken in
-    loads-turn (l .loop .inv) taken (P .1 .sized) (P .1 .roomy) (P .1 .apart) (P .0 .1) _
-    (c .before .before .before .before .before .payload-of .ensures) _ (c .before .before .store-payloads .ensures)
+    let taken = c .before .before .before .before .before .before .loop-test .taken in
+    loads-turn (P .0) (P .1 .apart) (P .1 .sized) (P .1 .roomy) (l .loop .inv) taken _
+    (c .before .before .before .before .payload-of .ensures) _ (c .before .before .copy-payloads .ensures)
+
+-- the lengths of the arrays, behind the loop
+same-length : tie.Need-same-length Inv-loop μ-loop
+same-length c =
+    let P = c .before .before .before .before .before .pre in
+    same-sizes (P .0) (P .1 .apart) (P .1 .sized) (P .1 .roomy) (c .before .loop .inv)
+
+same-length-2 : tie.Need-same-length-2 Inv-loop μ-loop
+same-length-2 c =
+    let P = c .before .before .before .before .before .pre in
+    same-values (P .0) (P .1 .apart) (P .1 .sized) (P .1 .roomy) (c .before .loop .inv)
 
 returns : tie.Need-returns Inv-loop μ-loop
 returns c =
     let P = c .before .before .before .before .before .pre in
-    λ fs h. loads-end (c .before .loop .inv) (c .loop-test .left) _ (P .1 .apart) fs h
+    loads-end (P .0) (P .1 .apart) (P .1 .sized) (P .1 .roomy) (c .before .loop .inv) (c .loop-test .left)
 
 pub load-entries-spec : {M : Type 1} → statement M
 load-entries-spec =
@@ -56,21 +64,12 @@ load-entries-spec =
     (λ c. let t = turn-at (c .before .before) in omega arith)
     (λ c. let t = turn-at (c .before .before) in omega arith)
     (λ c. let t = turn-at (c .before .before) in omega arith)
-    (λ c. let t = turn-at (c .before .before) in omega arith)
-    (λ c. let t = turn-at (c .before .before) in omega arith)
-    (λ c. let t = turn-at (c .before .before) in omega arith)
-    (λ c. let t = turn-at (c .before .before) in omega arith)
-    (λ c. let t = turn-at (c .before .before) in omega arith)
     (λ c. let t = turn-at (c .before .before .before) in omega arith)
-    (λ c. let t = turn-at (c .before .before .before) in omega arith)
-    (λ c. let t = turn-at (c .before .before .before) in omega arith)
-    (λ c. let t = turn-at (c .before .before .before) in omega arith)
-    (λ c. let t = turn-at (c .before .before .before) in omega arith)
-    store-payloads-requires
-    (λ c. let t = turn-at (c .before .before .before .before .before .before .before) in omega arith)
+    copy-payloads-requires
+    (λ c. let t = turn-at (c .before .before .before .before .before .before) in omega arith)
     (λ c. search needs)
     (λ c. search needs)
     loop-again
-    (λ c. c .before .loop .inv .same-sizes)
-    (λ c. c .before .loop .inv .same-values)
+    same-length
+    same-length-2
     returns)
