@@ -8,7 +8,7 @@ use native.Mathlib.Decide.{decLt}
 use lib.ListN.{length, getD}
 use lib.Dec.{eqb}
 use borrow.Author.Tests.{eq-eqb, eqb-true, le-leb, lt-leb}
-use Rattle.words.specs.Word.{kind, payload}
+use Rattle.words.specs.Word.{payloadBound, kind, payload}
 use Rattle.words.specs.Outcome.{Outcome, refuse}
 use Rattle.words.specs.Outcome.Outcome.{accepted, refused}
 use Rattle.words.specs.PolynomialLaws.{length-polynomialWords}
@@ -70,7 +70,7 @@ module _ (ws : List ℕ) (k : ℕ) {at : ℕ} (reached : at ≡ startPlace ws k)
       ∙ part-some ws k (rw (← reached) two)
 
 -- of words with a frame it is the part that the lookup shows
-pub part-framed : {ws : List ℕ} {due : Due} {fs : List (List ℕ)} → FramedIn ws due fs → due .limit < 268435456 → (k : ℕ)
+pub part-framed : {ws : List ℕ} {due : Due} {fs : List (List ℕ)} → FramedIn ws due fs → due .limit < payloadBound → (k : ℕ)
     → partIn ws k ≡ boundsShown (shown k fs)
 part-framed {ws} {due} {fs} f narrow k = either (decLt k (length fs))
   where

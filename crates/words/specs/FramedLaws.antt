@@ -9,7 +9,7 @@ use lib.ListN.{length, getD, take, drop, length-append, length-drop, length-map,
 use lib.Seq.{drop-cons, drop-drop, getD-drop, take-at, take-all, ext-getD}
 use Rattle.words.specs.Limits.{Limits, systemCount}
 use Rattle.words.specs.LimitsLaws.{LimitsFit}
-use Rattle.words.specs.Word.{kind, payload, word}
+use Rattle.words.specs.Word.{payloadBound, kind, payload, word}
 use Rattle.words.specs.Outcome.Outcome.{accepted}
 use Rattle.words.specs.Reading.{Reading, renumber}
 use Rattle.words.specs.Reading.Reading.{read}
@@ -118,7 +118,7 @@ module _ (ws : List ℕ) (head : ℕ) (fs : List (List ℕ)) (framed : ws ≡ fr
 
 -- ---- the start words lead to it
 
-module _ {ws : List ℕ} {due : Due} {fs : List (List ℕ)} (f : FramedIn ws due fs) (narrow : due .limit < 268435456) where
+module _ {ws : List ℕ} {due : Due} {fs : List (List ℕ)} (f : FramedIn ws due fs) (narrow : due .limit < payloadBound) where
   first-word : (at w : ℕ) (rest : List ℕ) → drop at ws ≡ w ∷ rest → getD ws at 0 ≡ w
   first-word at w rest e =
       let n : at + 0 ≡ at = omega arith in
@@ -139,7 +139,7 @@ module _ {ws : List ℕ} {due : Due} {fs : List (List ℕ)} (f : FramedIn ws due
     start-count : payload (getD ws (entryPlace fs k) 0) ≡ length (getD fs k [])
     start-count = omega (arith, framed-size f k, start-word)
 
-    coefficients-at : due .modulus ≤ 268435456 → coefficientsAt ws (entryPlace fs k) ≡ getD fs k []
+    coefficients-at : due .modulus ≤ payloadBound → coefficientsAt ws (entryPlace fs k) ≡ getD fs k []
     unfolding coefficientsAt polynomialWords
     coefficients-at small =
         let g = getD fs k [] in
@@ -213,7 +213,7 @@ module _ {ws : List ℕ} {due : Due} {fs : List (List ℕ)} (f : FramedIn ws due
             );
       }
 
-  pub framed-first : due .modulus ≤ 268435456 → firstEntries ws (due .count) ≡ fs
+  pub framed-first : due .modulus ≤ payloadBound → firstEntries ws (due .count) ≡ fs
   framed-first small =
       let all = f .entries .count in
       let n = length-firstEntries ws (due .count) in
