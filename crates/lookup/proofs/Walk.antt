@@ -46,17 +46,16 @@ module _ (ws : List ℕ) (k : ℕ) {at : ℕ} (reached : at ≡ startPlace ws k)
 
 -- ---- what it leads to
 
-module _ (ws : List ℕ) where
-  module _ (k : ℕ) where
-    refused-by : (b : Bool) (next : Outcome (ℕ × ℕ)) → (b ≡ true → ⊥) → refused 12 0 ≡ refuse (not b) 12 0 next
-    refused-by true next none = absurd (none refl)
-    refused-by false next none = refl
+module _ (ws : List ℕ) (k : ℕ) where
+  refused-by : (b : Bool) (next : Outcome (ℕ × ℕ)) → (b ≡ true → ⊥) → refused 12 0 ≡ refuse (not b) 12 0 next
+  refused-by true next none = absurd (none refl)
+  refused-by false next none = refl
 
-    pub part-none : (kind (getD ws (startPlace ws k) 0) ≡ 2 → ⊥) → refused 12 0 ≡ partIn ws k
-    part-none other = refused-by (eqb (kind (getD ws (startPlace ws k) 0)) 2) _ (λ e. other (eqb-true _ 2 e))
+  part-none : (kind (getD ws (startPlace ws k) 0) ≡ 2 → ⊥) → refused 12 0 ≡ partIn ws k
+  part-none other = refused-by (eqb (kind (getD ws (startPlace ws k) 0)) 2) _ (λ e. other (eqb-true _ 2 e))
 
-    pub part-some : kind (getD ws (startPlace ws k) 0) ≡ 2 → accepted (startPlace ws k, startPlace ws (suc k)) ≡ partIn ws k
-    part-some two = rw (eq-eqb (kind (getD ws (startPlace ws k) 0)) 2 two) refl
+  part-some : kind (getD ws (startPlace ws k) 0) ≡ 2 → accepted (startPlace ws k, startPlace ws (suc k)) ≡ partIn ws k
+  part-some two = rw (eq-eqb (kind (getD ws (startPlace ws k) 0)) 2 two) refl
 
 -- by the place and by the number of coefficients that the word there says
 module _ (ws : List ℕ) (k : ℕ) {at : ℕ} (reached : at ≡ startPlace ws k) where

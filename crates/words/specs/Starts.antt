@@ -1,5 +1,5 @@
 -- The polynomials that stand in words behind a head, by the words alone: a start word, of kind 2, says how many coefficients stand
--- behind it, and so where the next start word stands. What a loop over words finds that were read.
+-- behind it, and so where the next start word stands. What a loop finds in words that were read.
 use mathlib.Core.Path.{_≡_, refl, ap, _∙_}
 use mathlib.Core.Bool.{Bool, true, false}
 use mathlib.Core.List.{List, [], _∷_, _++_, map}
@@ -41,6 +41,10 @@ pub record HasEntries (limit count : ℕ) (ws : List ℕ) : Type 0 where
 
 -- ---- places
 
+behind-none : (b : Bool) (at size : ℕ) → (b ≡ true → ⊥) → behind b at size ≡ at
+behind-none true at size none = absurd (none refl)
+behind-none false at size none = refl
+
 module _ (ws : List ℕ) where
   pub start-first : startPlace ws 0 ≡ 1
   unfolding startPlace
@@ -51,10 +55,6 @@ module _ (ws : List ℕ) where
         → startPlace ws (suc k) ≡ startPlace ws k + 1 + payload (getD ws (startPlace ws k) 0)
     unfolding startPlace
     start-next two = rw (eq-eqb (kind (getD ws (startPlace ws k) 0)) 2 two) refl
-
-    behind-none : (b : Bool) (at size : ℕ) → (b ≡ true → ⊥) → behind b at size ≡ at
-    behind-none true at size none = absurd (none refl)
-    behind-none false at size none = refl
 
     pub start-stays : (kind (getD ws (startPlace ws k) 0) ≡ 2 → ⊥) → startPlace ws (suc k) ≡ startPlace ws k
     unfolding startPlace
