@@ -2,9 +2,9 @@
 use crate::solve;
 use answers::Counted;
 use answers::Refusal;
+use files::opening::open_file;
+use files::writing::write_bytes;
 use limits::Office;
-use reader::file::open_file;
-use writer::file::write_bytes;
 ghost use lib.ListN.{length};
 ghost use Prim.Native.Nat.{_*_};
 ghost use Rattle.words.specs.Limits.{office, longestCertificate};
@@ -29,8 +29,7 @@ fn solve_to_bytes(bytes: &mut [u8], system: &[u32]) -> Counted
                 let place: usize = 0;
                 return Counted::Refused(Refusal { number: 11, place });
             }
-            write_bytes(bytes, &words[..count]);
-            Counted::Count(4 * count)
+            Counted::Count(write_bytes(bytes, &words[..count]))
         }
         Counted::Refused(refusal) => Counted::Refused(refusal),
     }

@@ -31,7 +31,7 @@ use Rattle.check_conditions.specs.Areas.{numeratorsIn, certifyingDenominatorIn,
 use Rattle.check_conditions.specs.Areas.{Loaded}
 use Rattle.check_conditions.specs.AreaLaws.{system-is}
 use Rattle.verifier.proofs.Parts.{solution-is, absence-is}
-use Rattle.verifier.specs.BothRead.{BothRead}
+use Rattle.reader.specs.BothRead.{BothRead}
 
 module _ {h : Shape} {form : Form} {ws cs : List ℕ} (b : BothRead h form ws cs) where
   abbrev s : System

@@ -1,0 +1,5 @@
+pub mod Filling
+pub mod UnpackTurns
+pub mod WordBytes
+pub mod Opens
+pub mod OpensBoth

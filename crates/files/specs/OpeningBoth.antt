@@ -1,0 +1,27 @@
+-- Opening a system's file and a certificate's (document 01, "Turned back"): number 10 of either, or the words of both.
+use Prim.Native.Nat.{ℕ, _*_}
+use mathlib.Core.Path.{_≡_}
+use mathlib.Core.Bool.{Bool, true, _||_}
+use mathlib.Core.List.{List}
+use lib.ListN.{length}
+use Rattle.words.specs.Limits.{Limits, longestSystem}
+use Rattle.words.specs.Outcome.Outcome.{accepted}
+use Rattle.words.specs.Bytes.{broken, tooLong}
+use Rattle.files.specs.Opening.{Opened}
+use Rattle.files.specs.declared.opening.FilesOpened.{FilesOpened}
+use Rattle.files.specs.declared.opening.FilesOpened.the-variants.{Words, Refused}
+
+-- "10: file of bytes not a multiple of four, or over 4,904; 0". It is said of either file that is not whole words; the length limit
+-- is the system's alone, since a certificate's file may be longer.
+abbrev pub filesBroken : Limits → List ℕ → List ℕ → Bool
+filesBroken limits system certificate = (broken system || tooLong limits system) || broken certificate
+
+-- so many words of each
+pub record OpensWords (limits : Limits) (f g before before′ after after′ : List ℕ) (n m : ℕ) : Type 0 where
+  pub system : Opened (4 * longestSystem limits) f before after (accepted n)
+  pub certificate : Opened (length g) g before′ after′ (accepted m)
+
+-- where one is refused, nothing is said of the lent words
+abbrev pub OpensBoth : Limits → (f g before before′ after after′ : List ℕ) → FilesOpened → Type 0
+OpensBoth limits f g before before′ after after′ (Words n m) = OpensWords limits f g before before′ after after′ n m
+OpensBoth limits f g before before′ after after′ (Refused r) = (filesBroken limits f g ≡ true) × (r .number ≡ 10) × (r .place ≡ 0)
