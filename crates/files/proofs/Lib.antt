@@ -2,4 +2,3 @@ pub mod Filling
 pub mod UnpackTurns
 pub mod WordBytes
 pub mod Opens
-pub mod OpensBoth

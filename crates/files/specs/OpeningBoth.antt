@@ -21,7 +21,15 @@ pub record OpensWords (limits : Limits) (f g before before′ after after′ : L
   pub system : Opened (4 * longestSystem limits) f before after (accepted n)
   pub certificate : Opened (length g) g before′ after′ (accepted m)
 
--- where one is refused, nothing is said of the lent words
+-- 10 of one of them, and no lent word changes
+pub record OpensNone (limits : Limits) (f g before before′ after after′ : List ℕ) (number place : ℕ) : Type 0 where
+  pub either-broken : filesBroken limits f g ≡ true
+  pub number-ten : number ≡ 10
+  pub place-zero : place ≡ 0
+  pub system-stays : after ≡ before
+  pub certificate-stays : after′ ≡ before′
+
 abbrev pub OpensBoth : Limits → (f g before before′ after after′ : List ℕ) → FilesOpened → Type 0
 OpensBoth limits f g before before′ after after′ (Words n m) = OpensWords limits f g before before′ after after′ n m
-OpensBoth limits f g before before′ after after′ (Refused r) = (filesBroken limits f g ≡ true) × (r .number ≡ 10) × (r .place ≡ 0)
+OpensBoth limits f g before before′ after after′ (Refused r) =
+    OpensNone limits f g before before′ after after′ (r .number) (r .place)

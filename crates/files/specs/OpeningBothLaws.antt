@@ -1,6 +1,6 @@
 -- Two files that were opened: whatever is asked of their words behind number 10, the words that were left tell what the files tell.
 use mathlib.Core.Path.{_≡_, refl, sym, ap, ap₂, _∙_, subst}
-use mathlib.Core.Bool.{true, _||_}
+use mathlib.Core.Bool.{_||_}
 use mathlib.Core.List.{List}
 use Prim.Native.Nat.{ℕ, _≤_}
 use native.Mathlib.Omega.{arith}
@@ -12,7 +12,7 @@ use Rattle.words.specs.Bytes.{wordsOf}
 use Rattle.answers.specs.declared.answer.Refusal.{Refusal}
 use Rattle.files.specs.Opening.{firstWords}
 use Rattle.files.specs.OpeningLaws.{unlimited, opened-whole, opened-first, opened-all}
-use Rattle.files.specs.OpeningBoth.{filesBroken, OpensWords, OpensBoth}
+use Rattle.files.specs.OpeningBoth.{filesBroken, OpensWords, OpensNone, OpensBoth}
 use Rattle.files.specs.declared.opening.FilesOpened.{FilesOpened}
 use Rattle.files.specs.declared.opening.FilesOpened.the-variants.{Words, Refused}
 
@@ -22,14 +22,16 @@ module _ (limits : Limits) (f g before before′ after after′ : List ℕ) (fou
   pub both-are : {n m : ℕ} → found ≡ Words n m → OpensWords limits f g before before′ after after′ n m
   both-are e = subst (OpensBoth limits f g before before′ after after′) e opens
 
-  pub one-is-not : {r : Refusal} → found ≡ Refused r → (filesBroken limits f g ≡ true) × (r .number ≡ 10) × (r .place ≡ 0)
-  one-is-not e = subst (OpensBoth limits f g before before′ after after′) e opens
+  pub none-is : {r : Refusal} → found ≡ Refused r → OpensNone limits f g before before′ after after′ (r .number) (r .place)
+  none-is e = subst (OpensBoth limits f g before before′ after after′) e opens
 
 module _ (limits : Limits) (f g : List ℕ) {A : Type 0} where
   -- 10, before anything else
-  pub both-refused : {number place : ℕ} → (filesBroken limits f g ≡ true) × (number ≡ 10) × (place ≡ 0) → (next : Outcome A)
+  pub both-refused : {before before′ after after′ : List ℕ} {number place : ℕ}
+      → OpensNone limits f g before before′ after after′ number place → (next : Outcome A)
       → refuse (filesBroken limits f g) 10 0 next ≡ refused number place
-  both-refused h next = ap (λ b. refuse b 10 0 next) (h .0) ∙ ap₂ refused (sym (h .1)) (sym (h .2))
+  both-refused none next =
+      ap (λ b. refuse b 10 0 next) (none .either-broken) ∙ ap₂ refused (sym (none .number-ten)) (sym (none .place-zero))
 
   -- where there was room for every system, and the first words of the certificate's file, as many as there was room for, decide
   pub both-told : {before before′ after after′ : List ℕ} {n m : ℕ} → OpensWords limits f g before before′ after after′ n m

@@ -1,6 +1,5 @@
 -- The check on two files, from what is told when they are opened.
 use mathlib.Core.Path.{_≡_, sym, _∙_}
-use mathlib.Core.Bool.{true}
 use mathlib.Core.List.{List}
 use Prim.Native.Nat.{ℕ, _≤_, _<_}
 use lib.ListN.{length, take}
@@ -9,17 +8,18 @@ use Rattle.words.specs.LimitsLaws.{office-fits}
 use Rattle.words.specs.Outcome.{Outcome}
 use Rattle.words.specs.Outcome.Outcome.{refused}
 use Rattle.words.specs.Bytes.{wordsOf}
-use Rattle.files.specs.OpeningBoth.{filesBroken, OpensWords}
+use Rattle.files.specs.OpeningBoth.{OpensWords, OpensNone}
 use Rattle.files.specs.OpeningBothLaws.{both-refused, both-told}
 use Rattle.truth.specs.Verdict.{verdict}
 use Rattle.truth.specs.Prefix.{verdict-room}
 use Rattle.verifier.specs.File.{fileVerdict}
 
 -- 10 of either file
-pub none-opened : (f g : List ℕ) {number place : ℕ} → (filesBroken office f g ≡ true) × (number ≡ 10) × (place ≡ 0)
+pub none-opened : (f g : List ℕ) {before before′ after after′ : List ℕ} {number place : ℕ}
+    → OpensNone office f g before before′ after after′ number place
     → refused number place ≡ fileVerdict office f g
 unfolding fileVerdict
-none-opened f g h = sym (both-refused office f g h (verdict office (wordsOf f) (wordsOf g)))
+none-opened f g none = sym (both-refused office f g none (verdict office (wordsOf f) (wordsOf g)))
 
 -- the words of the certificate's file for which there was room tell what all tell
 pub both-opened : (f g : List ℕ) {before before′ after after′ : List ℕ} {n m : ℕ}

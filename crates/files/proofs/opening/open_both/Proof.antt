@@ -1,53 +1,43 @@
--- Number 10 of either file, or what is told when each is opened.
-use mathlib.Core.Path.{ap, subst}
+-- Number 10 of either file, or what was unpacked of each.
+use mathlib.Core.Path.{sym, _∙_}
 use Rattle.words.specs.Limits.{office}
-use Rattle.answers.specs.Answer.{countedOutcome}
-use Rattle.files.specs.Opening.{Opened}
-use Rattle.files.proofs.OpensBoth.{first-refused, second-refused}
+use Rattle.files.proofs.Opens.{opens-unpacked, first-refused, second-refused}
 use borrow.Author.Needs.{needs}
 use Rattle.files.proofs.opening.open_both.Statement.{statement}
 use Rattle.files.proofs.opening.open_both.Tie as tie
 
 returns : tie.Need-returns
-returns c =
-    let second = c .before .before .before .before .before in
-    let told = second .before .before .before in
-    let first = told .before .before .before .before in
-    record {
-      system = subst (Opened _ _ _ _) (ap countedOutcome (told .opened .given .1)) (first .open-file .ensures);
-      certificate = subst (Opened _ _ _ _) (ap countedOutcome (c .before .opened2 .given .1)) (second .open-file2 .ensures);
-    }
+returns c = first-refused office _ _ _ _ (sym (c .before .turned-back .ensures) ∙ c .if1 .taken)
 
 returns-2 : tie.Need-returns-2
 returns-2 c =
-    let second = c .before .before .before .before .before in
-    let told = second .before .before .before in
-    let first = told .before .before .before .before in
-    second-refused office _ _ (first .open-file .ensures) (ap countedOutcome (told .opened .given .1))
-    (second .open-file2 .ensures) (ap countedOutcome (c .before .opened3 .given .1))
+    let first = c .before .before in
+    second-refused office _ _ _ _ (sym (first .before .turned-back .ensures) ∙ first .if1 .left)
+    (sym (c .before .turned-back2 .ensures) ∙ c .if2 .taken)
 
 returns-3 : tie.Need-returns-3
 returns-3 c =
-    let first = c .before .before .before .before .before in
-    let S = first .before .before .before .before .before .before in
-    first-refused office _ (S .args .certificate .now) (first .open-file .ensures)
-    (ap countedOutcome (c .before .opened4 .given .1))
+    let second-unpacked = c .before .before in
+    let first-unpacked = second-unpacked .before .before .before .before in
+    let second = first-unpacked .before .before in
+    let first = second .before .before in
+    let whole-system = sym (first .before .turned-back .ensures) ∙ first .if1 .left in
+    let whole-certificate = sym (second .before .turned-back2 .ensures) ∙ second .if2 .left in
+    record {
+      system = opens-unpacked _ _ _ whole-system (first-unpacked .unpack .ensures);
+      certificate = opens-unpacked _ _ _ whole-certificate (second-unpacked .unpack2 .ensures);
+    }
 
 pub open-both-spec : {M : Type 1} → statement M
 open-both-spec =
     tie.close
     (tie.spec
     (λ c κs. search needs)
-    (λ c. search needs)
+    returns
+    (λ c κs. search needs)
+    returns-2
+    (λ c κs. search needs)
     (λ c κs. search needs)
     (λ c. search needs)
-    (λ c. search needs)
-    (λ c. search needs)
-    (λ c. search needs)
-    (λ c. search needs)
-    returns
-    (λ c. search needs)
-    (λ c. search needs)
-    returns-2
     (λ c. search needs)
     returns-3)

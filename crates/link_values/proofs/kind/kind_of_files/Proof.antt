@@ -6,7 +6,7 @@ use native.Mathlib.Omega.{arith}
 use lib.ListN.{take}
 use Rattle.words.specs.Limits.{office}
 use Rattle.files.specs.OpeningLaws.{opened-room, opened-length}
-use Rattle.files.specs.OpeningBothLaws.{both-are, one-is-not}
+use Rattle.files.specs.OpeningBothLaws.{both-are, none-is}
 use Rattle.answers.specs.Answer.{refusedBy}
 use Rattle.answers.specs.Packed.{packed, packedMost, AnswerMost}
 use Rattle.link_values.specs.Files.{kindOf, readBoth, fileKind}
@@ -38,7 +38,7 @@ module _ (c : tie.After-opened2) where
 
   stops : fileKind office (files call2 .0) (files call2 .1) ≡ refusedBy (c .opened2 .given .0 .0)
   stops = ap kindOf (none-opened (files call2 .0) (files call2 .1)
-      (one-is-not office _ _ _ _ _ _ _ (call2 .open-both .ensures) (c .opened2 .given .1)))
+      (none-is office _ _ _ _ _ _ _ (call2 .open-both .ensures) (c .opened2 .given .1)))
 
 array-share-prefix-system-words : tie.Need-array-share-prefix-system-words
 array-share-prefix-system-words c =

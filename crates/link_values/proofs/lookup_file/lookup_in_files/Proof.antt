@@ -7,7 +7,7 @@ use lib.ListN.{length}
 use Rattle.words.specs.Limits.{office}
 use Rattle.words.specs.Outcome.{Outcome, mapped}
 use Rattle.files.specs.OpeningLaws.{opened-room, opened-length}
-use Rattle.files.specs.OpeningBothLaws.{both-are, one-is-not}
+use Rattle.files.specs.OpeningBothLaws.{both-are, none-is}
 use Rattle.answers.specs.Answer.{refusedBy, countedOutcome}
 use Rattle.answers.specs.Packed.{packedMost, AnswerMost}
 use Rattle.link_values.specs.Files.{sideNumbered, lookupOf, fileLookup}
@@ -62,7 +62,7 @@ module _ (c : tie.After-opened2) where
   stops : sought call2 ≡ refusedBy (c .opened2 .given .0 .0)
   stops =
       ap (lookupOf (sideNumbered (start call2 .args .side)) (start call2 .args .number))
-      (none-opened (f call2) (g call2) (one-is-not office _ _ _ _ _ _ _ (call2 .open-both .ensures) (c .opened2 .given .1)))
+      (none-opened (f call2) (g call2) (none-is office _ _ _ _ _ _ _ (call2 .open-both .ensures) (c .opened2 .given .1)))
 
 array-share-prefix-system-words : tie.Need-array-share-prefix-system-words
 array-share-prefix-system-words c =

@@ -3,7 +3,7 @@ use mathlib.Core.Path.{refl}
 use native.Mathlib.Omega.{arith}
 use Rattle.words.specs.Limits.{office}
 use Rattle.files.specs.OpeningLaws.{opened-room, opened-length}
-use Rattle.files.specs.OpeningBothLaws.{both-are, one-is-not}
+use Rattle.files.specs.OpeningBothLaws.{both-are, none-is}
 use Rattle.verifier.proofs.Files.{both-opened, none-opened}
 use borrow.Author.Needs.{needs}
 use Rattle.verifier.proofs.file.check_files.Statement.{statement}
@@ -45,7 +45,7 @@ returns-2 c =
     let call = o .before .before .before .before in
     let a = call .before .before .before .before .before .args in
     none-opened (a .system .now) (a .certificate .now)
-    (one-is-not office _ _ _ _ _ _ _ (call .open-both .ensures) (o .opened2 .given .1))
+    (none-is office _ _ _ _ _ _ _ (call .open-both .ensures) (o .opened2 .given .1))
 
 pub check-files-spec : {M : Type 1} → statement M
 check-files-spec =
