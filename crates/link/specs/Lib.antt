@@ -5,6 +5,6 @@ pub mod Packed
 pub mod PackedLaws
 pub mod Checked
 pub mod Together
--- inside: the numbers of refusals; the solver and the check on files
+-- interface: the numbers of refusals; the solver and the check on files
 pub mod NumberLaws
 pub mod FileLaws

@@ -1,5 +1,5 @@
 -- The solver's answer to a file, and the report, as one number (`answers`, `Packed`).
-use Prim.Native.Nat.{ℕ, _*_}
+use Prim.Native.Nat.{ℕ}
 use mathlib.Core.Path.{_≡_}
 use mathlib.Core.List.{List}
 use Rattle.words.specs.Limits.{Limits}

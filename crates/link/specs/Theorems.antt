@@ -35,8 +35,8 @@ use Rattle.truth.specs.TurnedBack.{Fault}
 use Rattle.truth.specs.RefusedWords.{words-refused-iff}
 use Rattle.truth.specs.DemandLaws.{Says, Agree, accepted-says, verdicts-agree}
 use Rattle.truth.specs.Chosen.{Chosen}
-use Rattle.reader.specs.Opening.{Opened}
-use Rattle.reader.specs.OpeningLaws.{opened-unchanged}
+use Rattle.files.specs.Opening.{Opened}
+use Rattle.files.specs.OpeningLaws.{opened-unchanged}
 use Rattle.verifier.specs.Checked.{CertifiedFiles}
 use Rattle.verifier.specs.FilesRefused.{FilesRefused}
 use Rattle.lookup.specs.Lookup.{Side, polynomialLookup}

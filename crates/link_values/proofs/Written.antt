@@ -1,16 +1,14 @@
 -- A system that was written on words of one's own.
 use Prim.Native.Nat.{ℕ, _≤_}
-use mathlib.Core.Path.{_≡_, sym, ap, _∙_, subst}
+use mathlib.Core.Path.{_≡_, sym, ap, _∙_}
 use mathlib.Core.List.{List}
 use native.Mathlib.Nat.{min-le-right}
 use native.Mathlib.Omega.{arith}
 use lib.ListN.{length, take, length-take}
 use Rattle.words.specs.Outcome.{Outcome, mapped}
-use Rattle.words.specs.Outcome.Outcome.{accepted, refused}
+use Rattle.words.specs.Outcome.Outcome.{refused}
 use Rattle.words.specs.OutcomeLaws.{mapped-refused}
-use Rattle.answers.specs.Answer.{countedOutcome}
 use Rattle.answers.specs.declared.answer.Refusal.{Refusal}
-use Rattle.answers.specs.declared.answer.Counted.{Counted}
 use Rattle.answers.specs.declared.answer.Counted.the-variants.{Count, Refused}
 use Rattle.writer.specs.Writing.{Writes}
 use Rattle.writer.specs.WrittenLaws.{count-words}

@@ -1,5 +1,5 @@
 -- What is told of the values in files, for every list of bytes: a value, or a refusal of document 01's table.
-use Prim.Native.Nat.{ℕ, zero, suc, _+_, _*_, _/_}
+use Prim.Native.Nat.{ℕ, zero, suc, _/_}
 use mathlib.Core.List.{List, []}
 use lib.ListN.{length, getD}
 use lib.Dec.{leb}
@@ -9,10 +9,10 @@ use Rattle.words.specs.Outcome.Outcome.{accepted}
 use Rattle.words.specs.System.{System, shape, readSystem}
 use Rattle.words.specs.Certificate.{Certificate, certificateForm, readCertificate}
 use Rattle.words.specs.Bytes.{wordsOf, bytesOf, readSystemFile, wordBytes}
+use Rattle.files.specs.OpeningBoth.{filesBroken}
 use Rattle.answers.specs.Heads.{shapeNumber, kindNumber}
 use Rattle.lookup.specs.Lookup.{Side, entriesOn}
 use Rattle.lookup.specs.Lookup.Side.{system, certificate}
-use Rattle.verifier.specs.File.{filesBroken}
 use Rattle.writer.specs.Writing.{writeSystem}
 
 -- ---- a system's file

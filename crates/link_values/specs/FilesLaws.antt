@@ -1,12 +1,12 @@
 -- Laws of what is told of files: what is asked of the values comes last; the first words of a certificate's decide; numbers and
 -- places of refusals; sizes.
-use Prim.Native.Nat.{ℕ, suc, _+_, _*_, _≤_, _<_, min}
-use native.Mathlib.Nat.{min-eq-left, min-eq-right, min-le-left, min-le-right}
+use Prim.Native.Nat.{ℕ, suc, _+_, _*_, _≤_, _<_}
+use native.Mathlib.Nat.{min-eq-left, min-eq-right}
 use mathlib.Core.Path.{_≡_, refl, sym, ap, _∙_, subst}
 use mathlib.Core.Bool.{Bool, true, false, _||_}
 use mathlib.Core.List.{List, []}
 use native.Mathlib.Omega.{arith}
-use lib.ListN.{length, getD, take, length-take}
+use lib.ListN.{length, getD, take}
 use lib.Seq.{take-length}
 use lib.Dec.{leb}
 use borrow.Author.Tests.{leb-true, leb-false, ltb-false}
@@ -25,12 +25,15 @@ use Rattle.words.specs.Rows.{systemRows, certificateRows, fileRows}
 use Rattle.words.specs.RowLaws.{numbers-between, places-below}
 use Rattle.words.specs.RefusedLaws.{system-rows, certificate-rows, file-rows, file-place}
 use Rattle.words.specs.Bytes.{wordsOf, broken, tooLong, readSystemFile, wordBytes}
-use Rattle.words.specs.BytesLaws.{length-wordsOf}
+use Rattle.words.specs.BytesLaws.{length-wordsOf, or-left, or-right}
 use Rattle.lookup.specs.Lookup.{Side, entriesOn}
 use Rattle.lookup.specs.Lookup.Side.{system, certificate}
 use Rattle.words.specs.FramedLaws.{system-framed, certificate-framed, framed-size}
 use Rattle.truth.specs.Verdict.{verdict, certificateVerdict}
-use Rattle.verifier.specs.File.{filesBroken, fileVerdict}
+use Rattle.files.specs.Opening.{firstWords}
+use Rattle.files.specs.OpeningLaws.{few-words}
+use Rattle.files.specs.OpeningBoth.{filesBroken}
+use Rattle.verifier.specs.File.{fileVerdict}
 use Rattle.link_values.specs.Refusals.{Numbers, Places, refusals-row, refusals-followed, refusals-mapped}
 use Rattle.link_values.specs.Refusals.{refusals-accepted, refusals-same, numbers-wider}
 use Rattle.answers.specs.Heads.{shapeNumber}
@@ -79,15 +82,6 @@ unfolding fileVerdict verdict
 verdict-of-files limits f g = sym (files-then limits certificateVerdict f g)
 
 -- ---- the first words of a certificate decide, so many that none has as many
-
--- at most so many
-abbrev pub firstWords : ℕ → List ℕ → List ℕ
-firstWords count cs = take (min (length cs) count) cs
-
-few-words : (count : ℕ) (cs : List ℕ) → length (firstWords count cs) ≤ count
-few-words count cs =
-    let n = min (length cs) count in
-    omega (arith, length-take n cs, min-le-right (length cs) count, min-le-left n (length cs))
 
 module _ (limits : Limits) (fit : LimitsFit limits) (cs : List ℕ) (count : ℕ) (long : longestCertificate limits < count) where
   certificate-room : (h : Shape) → ShapeWithin limits h
@@ -218,10 +212,6 @@ module _ (limits : Limits) where
 
 -- ---- places of refusals
 
-not-either : (a b : Bool) → a || b ≡ false → (a ≡ false) × (b ≡ false)
-not-either true b e = absurd (let z : _≡_ {A = ℕ} 0 1 = cc in omega arith)
-not-either false b e = (refl, e)
-
 -- no place is behind the words
 system-place : (limits : Limits) (ws : List ℕ) {number place : ℕ} → readSystem limits ws ≡ refused number place
     → place < suc (length ws)
@@ -242,8 +232,8 @@ module _ (limits : Limits) (fit : LimitsFit limits) (most : ℕ) (system-words :
   words-places : (f g : List ℕ) → filesBroken limits f g ≡ false → Places most (readBoth limits (wordsOf f) (wordsOf g))
   unfolding readBoth
   words-places f g e =
-      let whole = not-either (broken f || tooLong limits f) (broken g) e .0 in
-      let short = ltb-false (wordBytes * longestSystem limits) (length f) (not-either (broken f) (tooLong limits f) whole .1) in
+      let whole = or-left (broken f || tooLong limits f) (broken g) e in
+      let short = ltb-false (wordBytes * longestSystem limits) (length f) (or-right (broken f) (tooLong limits f) whole) in
       let count = longestCertificate limits + 1 in
       let cs = firstWords count (wordsOf g) in
       refusals-same (sym (both-room limits fit (wordsOf g) count (omega arith) (wordsOf f)))

@@ -4,12 +4,12 @@ pub mod Giving
 -- interface: an answer as one number, taken apart
 pub mod Refusals
 pub mod Unpacked
--- interface: what they refuse; what is told in the terms of the words
+-- interface: what they refuse; what is told in the terms of the words; numbers and places of refusals; what is written
 pub mod RefusedLaws
 pub mod ToldLaws
-pub mod Examples
 pub mod FilesLaws
-pub mod GivingLaws
 pub mod WritingLaws
--- inside
-pub mod Opening
+-- interface: a case that PROVED.md cites
+pub mod Examples
+-- inside: what a call leaves, case by case
+pub mod GivingLaws

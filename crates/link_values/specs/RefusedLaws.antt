@@ -20,7 +20,7 @@ use Rattle.words.specs.PairLaws.{pair-refused-iff}
 use Rattle.words.specs.RefusedLaws.{ten-first-iff, file-refused-iff}
 use Rattle.lookup.specs.Lookup.{Side, entriesOn}
 use Rattle.lookup.specs.RefusedLaws.{NoPolynomial, no-polynomial-iff}
-use Rattle.verifier.specs.File.{filesBroken}
+use Rattle.files.specs.OpeningBoth.{filesBroken}
 use Rattle.answers.specs.Packed.{packed, placeUnit, numberMost}
 use Rattle.writer.specs.Writing.{writeSystem}
 use Rattle.writer.specs.Values.{systemInArrays}

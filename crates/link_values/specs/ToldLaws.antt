@@ -23,8 +23,8 @@ use Rattle.words.specs.Certificate.{Certificate, CertificateWithin, certificate
 use Rattle.words.specs.CertificateLaws.{certificate-written-of-read}
 use Rattle.words.specs.Bytes.{wordsOf, bytesOf, broken, tooLong, readSystemFile}
 use Rattle.words.specs.PairLaws.{pair-accepted-iff}
+use Rattle.files.specs.OpeningBoth.{filesBroken}
 use Rattle.lookup.specs.Lookup.{Side, Part, entriesOn, partOf, shown, polynomialLookup}
-use Rattle.verifier.specs.File.{filesBroken}
 use Rattle.verifier.specs.Checked.{words-of-files, files-of-words}
 use Rattle.answers.specs.Heads.{shapeNumber, kindNumber, shape-written, form-written}
 use Rattle.link_values.specs.Files.{Pair, readFiles, polynomialLooked, fileLookup}

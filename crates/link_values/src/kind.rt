@@ -1,12 +1,12 @@
 // The kind of the certificate in a file.
-use crate::opening::CERTIFICATE_SPACE;
-use crate::opening::FilesOpened;
-use crate::opening::open_both;
 use answers::CertificateRead;
 use answers::Counted;
 use answers::SystemRead;
 use answers::head::number_of;
 use answers::packed::pack_counted;
+use files::opening::CERTIFICATE_SPACE;
+use files::opening::FilesOpened;
+use files::opening::open_both;
 use limits::Office;
 use reader::certificate::read_certificate;
 use reader::system::read_system;

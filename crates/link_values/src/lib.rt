@@ -2,6 +2,5 @@
 // refusal (`answers::packed`). `link` exports them.
 pub mod kind;
 pub mod lookup_file;
-mod opening;
 pub mod shape;
 pub mod writing;

@@ -1,10 +1,10 @@
 // One polynomial of the system or of the certificate in two files.
-use crate::opening::CERTIFICATE_SPACE;
-use crate::opening::FilesOpened;
-use crate::opening::open_both;
 use answers::Counted;
 use answers::Verdict;
 use answers::packed::pack_counted;
+use files::opening::CERTIFICATE_SPACE;
+use files::opening::FilesOpened;
+use files::opening::open_both;
 use limits::Office;
 use loader::copy_payloads;
 use lookup::Side;

@@ -2,9 +2,8 @@
 use answers::Counted;
 use answers::Refusal;
 use answers::packed::pack_counted;
-use answers::word::WORD_BYTES;
+use files::writing::write_bytes;
 use limits::Office;
-use writer::file::write_bytes;
 use writer::format::SYSTEM_VALUES;
 use writer::system::write_system;
 ghost use lib.ListN.{length};
@@ -37,8 +36,7 @@ fn write_to_bytes(
                 let place: usize = 0;
                 return Counted::Refused(Refusal { number: 11, place });
             }
-            write_bytes(bytes, &words[..count]);
-            Counted::Count(WORD_BYTES * count)
+            Counted::Count(write_bytes(bytes, &words[..count]))
         }
         Counted::Refused(refusal) => Counted::Refused(refusal),
     }

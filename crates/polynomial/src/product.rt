@@ -6,7 +6,6 @@ use vector::add_rows;
 ghost use Prim.Native.Nat.{_+_, _≤_};
 ghost use Rattle.algebra.specs.Coefficients.{add, mul};
 ghost use Rattle.modular.specs.Modulo.{modulo};
-ghost use Rattle.modular.specs.Bits.{most16};
 ghost use Rattle.residue.specs.Modulus.{ValidModulus};
 ghost use Rattle.polynomial.specs.Value.{polynomialRoom, coefficientsOf, ValidPolynomial, Represents};
 

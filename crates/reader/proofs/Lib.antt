@@ -1,5 +1,3 @@
-pub mod UnpackTurns
-pub mod Opens
 pub mod SystemHead
 pub mod CertificateHead
 pub mod FrameSteps

@@ -1,5 +1,3 @@
--- inside: the words of a file's bytes, four bytes to a word, lowest first
-pub mod Unpacking
--- interface: opening a file, and what is then said of a reading of its words
-pub mod Opening
-pub mod OpeningLaws
+-- interface: both were read; what the readers tell, in the terms of the readings
+pub mod BothRead
+pub mod ReadLaws

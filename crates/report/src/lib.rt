@@ -2,8 +2,8 @@
 use answers::Counted;
 use answers::Shape;
 use answers::SystemRead;
+use files::opening::open_file;
 use limits::Office;
-use reader::file::open_file;
 use reader::system::read_system;
 pub use report_text::SPACE;
 use report_text::write_none;

@@ -1,14 +1,13 @@
 -- A certificate's words written as bytes: what `solve_to_bytes` gives.
 use mathlib.Core.Path.{_≡_, sym, ap, ap₂, _∙_, subst}
 use mathlib.Core.List.{List}
-use Prim.Native.Nat.{ℕ, _*_, _≤_}
+use Prim.Native.Nat.{ℕ, _≤_}
 use lib.ListN.{length, take}
 use Rattle.words.specs.Limits.{office, longestCertificate}
 use Rattle.words.specs.Outcome.{Outcome}
 use Rattle.words.specs.Outcome.Outcome.{accepted, refused}
 use Rattle.words.specs.OutcomeLaws.{refused-accepted}
-use Rattle.words.specs.Bytes.{bytesOf, wordBytes}
-use Rattle.words.specs.BytesLaws.{length-bytesOf}
+use Rattle.words.specs.Bytes.{bytesOf}
 use Rattle.words.specs.System.{System, readSystem}
 use Rattle.words.specs.Certificate.{certificateWords}
 use Rattle.write_frame.specs.Overwriting.{overwritten}
@@ -19,17 +18,17 @@ module _ {s : System} {count : ℕ} {entry exit : List ℕ} (G : Gives office ce
   abbrev C : GivesRight office certificateWords s entry exit count
   C = G .given
 
-  pub gives-bytes : (lent after : List ℕ) → after ≡ overwritten (bytesOf (take count exit)) lent
-      → Gives office certificateBytes s lent after (wordBytes * count)
+  pub gives-bytes : (lent after : List ℕ) {bytes : ℕ} → bytes ≡ length (bytesOf (take count exit))
+      → after ≡ overwritten (bytesOf (take count exit)) lent → Gives office certificateBytes s lent after bytes
   unfolding certificateBytes
-  gives-bytes lent after is = record {
+  gives-bytes lent after size is = record {
     given = record {
       certificate = C .certificate;
       within = C .within;
       right = C .right;
       answers = C .answers;
       words = is ∙ ap (λ l. overwritten (bytesOf l) lent) (gives-words C);
-      same-count = ap (λ n. wordBytes * n) (C .same-count) ∙ sym (length-bytesOf (certificateWords (C .certificate)));
+      same-count = size ∙ ap (λ l. length (bytesOf l)) (gives-words C);
     };
     chosen = G .chosen;
   }

@@ -6,9 +6,9 @@ use lib.ListN.{length}
 use Rattle.words.specs.Limits.{Limits, office}
 use Rattle.words.specs.Outcome.{Outcome, mapped}
 use Rattle.words.specs.Outcome.Outcome.{accepted, refused}
-use Rattle.words.specs.OutcomeLaws.{mapped-accepted, mapped-refused}
 use Rattle.words.specs.System.{System, Shape, shape, readSystem}
 use Rattle.words.specs.Certificate.{Certificate}
+use Rattle.reader.specs.ReadLaws.{system-read}
 use Rattle.solver.specs.Solving.{withRoom, Gives, SolvesOr}
 use Rattle.solver.specs.SolvingLaws.{room-short, room-enough}
 use Rattle.solver.specs.Certified.{Read}
@@ -17,11 +17,8 @@ module _ (ws : List ℕ) (limits : Limits) (is : limits ≡ office) {told : Outc
     (tells : told ≡ mapped shape (readSystem limits ws)) where
   pub was-read : {h : Shape} → told ≡ accepted h → Read h ws
   was-read e =
-      let found = mapped-accepted shape _ (ap (λ (l : Limits). mapped shape (readSystem l ws)) (sym is) ∙ sym tells ∙ e) in
+      let found = system-read ws limits is tells e in
       record { system = found .0; read = found .1; same-shape = sym (found .2) }
-
-  pub was-refused : {number place : ℕ} → told ≡ refused number place → readSystem office ws ≡ refused number place
-  was-refused e = mapped-refused shape _ (ap (λ (l : Limits). mapped shape (readSystem l ws)) (sym is) ∙ sym tells ∙ e)
 
 -- what the solver gives, by what was read
 module _ (longest : ℕ) (write : Certificate → List ℕ) (entry exit : List ℕ) (answer : Outcome ℕ) (read : Outcome System) where

@@ -3,9 +3,9 @@ use crate::solve;
 use answers::Counted;
 use answers::Refusal;
 use answers::word::WORD_BYTES;
+use files::opening::open_file;
+use files::writing::write_bytes;
 use limits::Office;
-use reader::file::open_file;
-use writer::file::write_bytes;
 ghost use lib.ListN.{length};
 ghost use Prim.Native.Nat.{_*_};
 ghost use Rattle.words.specs.Limits.{office, longestCertificate};
@@ -31,8 +31,7 @@ fn solve_to_bytes(bytes: &mut [u8], system: &[u32]) -> Counted
                 let place: usize = 0;
                 return Counted::Refused(Refusal { number: 11, place });
             }
-            write_bytes(bytes, &words[..count]);
-            Counted::Count(WORD_BYTES * count)
+            Counted::Count(write_bytes(bytes, &words[..count]))
         }
         Counted::Refused(refusal) => Counted::Refused(refusal),
     }

@@ -1,7 +1,7 @@
 // What is read from standard input: numbers, each as four bytes lowest first, and lists, each as its number of bytes and these
 // bytes.
+use files::unpacking::unpack;
 use libc::STDIN_FILENO;
-use reader::unpacking::unpack;
 ghost use mathlib.Core.Path.{_≡_};
 ghost use Prim.Native.Nat.{_≤_};
 ghost use lib.ListN.{length, getD};

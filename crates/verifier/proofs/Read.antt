@@ -33,7 +33,7 @@ use Rattle.check_conditions.specs.Areas.{numeratorsIn, certifyingDenominatorIn,
 use Rattle.check_conditions.specs.Areas.{Loaded}
 use Rattle.check_conditions.specs.AreaLaws.{system-is}
 use Rattle.verifier.proofs.Parts.{solution-is, absence-is}
-use Rattle.verifier.specs.BothRead.{BothRead}
+use Rattle.reader.specs.BothRead.{BothRead}
 
 entries-count : {limit count : ℕ} {ws : List ℕ} {fs : List (List ℕ)} → EntriesRead limit count ws fs → length fs ≡ count
 entries-count {count = count} {ws = ws} r = ap length (sym (r .same)) ∙ length-firstEntries ws count

@@ -26,7 +26,8 @@ use Rattle.truth.specs.Demand.{True}
 use Rattle.truth.specs.Certified.{Certified}
 use Rattle.truth.specs.CertifiedWords.{accepted-iff-certified}
 use Rattle.truth.specs.DemandLaws.{Says, Agree, certified-true, true-says, true-agree, same-head}
-use Rattle.verifier.specs.File.{filesBroken, fileVerdict}
+use Rattle.files.specs.OpeningBoth.{filesBroken}
+use Rattle.verifier.specs.File.{fileVerdict}
 
 -- the files are the bytes of the written forms of a system within the limits and of a certificate of which the conditions hold
 abbrev pub CertifiedFiles : Limits → (f g : List ℕ) → Type 0

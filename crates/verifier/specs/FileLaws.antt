@@ -1,11 +1,10 @@
 -- Places of what is said of two files: at most one more than the number of words of the longest certificate.
-use Prim.Native.Nat.{ℕ, suc, _+_, _*_, _/_, _≤_, min}
-use native.Mathlib.Nat.{min-le-left, min-le-right}
+use Prim.Native.Nat.{ℕ, suc, _+_, _*_, _/_, _≤_}
 use mathlib.Core.Path.{_≡_, refl, _∙_}
 use mathlib.Core.Bool.{Bool, true, false, _||_}
 use mathlib.Core.List.{List}
 use native.Mathlib.Omega.{arith}
-use lib.ListN.{length, take, length-take}
+use lib.ListN.{length}
 use lib.Dec.{ltb}
 use borrow.Author.Tests.{ltb-false}
 use Rattle.words.specs.Limits.{Limits, longestSystem, longestCertificate}
@@ -20,6 +19,8 @@ use Rattle.words.specs.System.{countMost}
 use Rattle.truth.specs.Verdict.{verdict}
 use Rattle.truth.specs.RefusedWords.{words-rows}
 use Rattle.truth.specs.Prefix.{verdict-room}
+use Rattle.files.specs.Opening.{firstWords}
+use Rattle.files.specs.OpeningLaws.{few-words}
 use Rattle.answers.specs.Packed.{VerdictMost}
 use Rattle.verifier.specs.File.{fileVerdict}
 
@@ -33,29 +34,20 @@ module _ (limits : Limits) (fit : LimitsFit limits) (system certificate : List �
     (longest-system : longestSystem limits ≤ b) (longest-certificate : longestCertificate limits + 1 ≤ b)
     (heads : countMost ≤ b) where
   -- as many of the certificate's words as decide
-  first-words : List ℕ
-  first-words = take (min (length (wordsOf certificate)) (longestCertificate limits + 1)) (wordsOf certificate)
-
-  few-words : length first-words ≤ longestCertificate limits + 1
-  unfolding first-words
-  few-words = omega (
-    arith,
-    length-take (min (length (wordsOf certificate)) (longestCertificate limits + 1)) (wordsOf certificate),
-    min-le-right (length (wordsOf certificate)) (longestCertificate limits + 1),
-    min-le-left (min (length (wordsOf certificate)) (longestCertificate limits + 1)) (length (wordsOf certificate)),
-  )
+  abbrev first-words : List ℕ
+  first-words = firstWords (longestCertificate limits + 1) (wordsOf certificate)
 
   by-tests : (x y : Bool) {number place : ℕ} → broken system || tooLong limits system ≡ x
       → refuse (x || y) 10 0 (verdict limits (wordsOf system) (wordsOf certificate)) ≡ refused number place → place ≤ b
-  unfolding first-words
   by-tests true y {place = place} long e = let same : place ≡ 0 = cc in omega arith
   by-tests false true {place = place} long e = let same : place ≡ 0 = cc in omega arith
   by-tests false false {number} {place} long words =
       let short = passed-short (broken system) (tooLong limits system) (longestSystem limits) (length system) refl long in
       let refused = verdict-room limits fit (wordsOf system) (wordsOf certificate) (longestCertificate limits + 1) (omega arith)
       ∙ words in
+      let few = few-words (longestCertificate limits + 1) (wordsOf certificate) in
       let below = places-below number place (suc b) (checkRows (wordsOf system) first-words)
-      (check-below (wordsOf system) first-words (omega (arith, length-wordsOf system, short)) (omega (arith, few-words)) heads)
+      (check-below (wordsOf system) first-words (omega (arith, length-wordsOf system, short)) (omega arith) heads)
       (words-rows limits fit (wordsOf system) first-words .in-rows number place refused) in
       omega arith
 

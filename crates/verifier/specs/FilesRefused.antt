@@ -16,7 +16,8 @@ use Rattle.words.specs.Pair.{PairRefused}
 use Rattle.truth.specs.Verdict.{verdict}
 use Rattle.truth.specs.TurnedBack.{Fault}
 use Rattle.truth.specs.RefusedWords.{words-refused-iff, words-rows}
-use Rattle.verifier.specs.File.{filesBroken, fileVerdict}
+use Rattle.files.specs.OpeningBoth.{filesBroken}
+use Rattle.verifier.specs.File.{fileVerdict}
 
 abbrev pub FilesRefused : Limits → (f g : List ℕ) (number place : ℕ) → Type 0
 FilesRefused limits f g = TenFirst (filesBroken limits f g) (PairRefused limits Fault (wordsOf f) (wordsOf g))

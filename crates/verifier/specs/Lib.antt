@@ -1,5 +1,4 @@
--- interface, what contracts, other crates and PROVED.md cite: BothRead, File, FileLaws, Checked, FilesRefused
-pub mod BothRead
+-- interface, what contracts, other crates and PROVED.md cite: File, FileLaws, Checked, FilesRefused
 pub mod File
 pub mod FileLaws
 pub mod Checked

@@ -20,8 +20,8 @@ use residue::modulus::Modulus;
 ghost use mathlib.Core.Path.{_≡_};
 ghost use Rattle.words.specs.Limits.{office};
 ghost use Rattle.answers.specs.Answer.{shapeOf, formOf, verdictOutcome};
+ghost use Rattle.reader.specs.BothRead.{BothRead};
 ghost use Rattle.truth.specs.Verdict.{verdict};
-ghost use Rattle.verifier.specs.BothRead.{BothRead};
 
 // Tries 31 to 36 on a system and a certificate that were read.
 fn check_read(system: &[u32], certificate: &[u32], shape: Shape, form: Form) -> Verdict

@@ -16,6 +16,7 @@ use Rattle.words.specs.Outcome.Outcome.{accepted, refused}
 use Rattle.words.specs.OutcomeLaws.{refused-accepted, refuse-refused-iff, mapped-refused}
 use Rattle.words.specs.System.{System, Shape, ShapeWithin, shape, oneTo, systemEntries, systemWords}
 use Rattle.words.specs.Certificate.{Certificate, certificateEntries, certificateWords}
+use Rattle.words.specs.BytesLaws.{or-left, or-right}
 use Rattle.words.specs.ReadingLaws.{and-passed}
 use Rattle.words.specs.SystemHeadLaws.{oneTo-true, oneTo-from}
 use Rattle.answers.specs.declared.answer.Refusal.{Refusal}
@@ -26,7 +27,7 @@ use Rattle.write_frame.specs.Fault.CoefficientFault.{large, last-zero}
 use Rattle.write_frame.specs.Fault.PolynomialFault.{many, coefficient}
 use Rattle.write_frame.specs.FaultLaws.{polynomials-refused-iff, value-place}
 use Rattle.writer.specs.Writing.{refuseShape, refuseRoom, writeSystem, writeCertificate, lentAfter, Writes}
-use Rattle.writer.specs.WritingLaws.{or-passed, shape-within}
+use Rattle.writer.specs.WritingLaws.{shape-within}
 use Rattle.writer.specs.Refused.{MayBeModulus, MayBeSizes, WriterFault, SystemFault, CertificateFault}
 use Rattle.writer.specs.Refused.WriterFault.{modulus, sizes, value, room}
 
@@ -39,8 +40,10 @@ failed-iff false good = (λ e g. let z′ : _≡_ {A = ℕ} 0 1 = cc in omega ar
 
 pub modulus-iff : (p : ℕ) → (not (prime? p) || ltb largestModulus p ≡ false) ↔ MayBeModulus p
 modulus-iff p = (
-  λ e. let t = or-passed (not (prime? p)) (ltb largestModulus p) e in
-      (prime-of-true p (not-false _ (t .0)), ltb-false largestModulus p (t .1)),
+  λ e. (
+    prime-of-true p (not-false _ (or-left (not (prime? p)) (ltb largestModulus p) e)),
+    ltb-false largestModulus p (or-right (not (prime? p)) (ltb largestModulus p) e),
+  ),
   λ good. simp (true-of-prime p (good .0), le-ltb largestModulus p (good .1)),
 )
 

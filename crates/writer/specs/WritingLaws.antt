@@ -1,8 +1,6 @@
 -- The trial of p, n and m: it is made first, whatever comes next; and it refuses nothing exactly where they keep the limits.
 use mathlib.Core.Path.{_≡_, refl}
-use mathlib.Core.Bool.{Bool, true, false, not, _&&_, _||_}
-use Prim.Native.Nat.{ℕ}
-use native.Mathlib.Omega.{arith}
+use mathlib.Core.Bool.{Bool, not, _&&_, _||_}
 use lib.Dec.{ltb}
 use borrow.Author.Tests.{le-ltb, ltb-false, not-false}
 use Rattle.modular.specs.Prime.{prime?}
@@ -12,16 +10,12 @@ use Rattle.words.specs.Outcome.{Outcome, refuse}
 use Rattle.words.specs.Outcome.Outcome.{accepted}
 use Rattle.words.specs.OutcomeLaws.{refuse-passed}
 use Rattle.words.specs.System.{Shape, ShapeWithin, oneTo}
+use Rattle.words.specs.BytesLaws.{or-left, or-right}
 use Rattle.words.specs.ReadingLaws.{and-passed}
 use Rattle.words.specs.SystemHeadLaws.{oneTo-true, oneTo-from}
 use Rattle.write_frame.specs.Trial.{passed}
 use Rattle.write_frame.specs.TrialLaws.{nextAfter, refuse-after}
 use Rattle.writer.specs.Writing.{refuseShape}
-
-pub or-passed : (a b : Bool) → a || b ≡ false → (a ≡ false) × (b ≡ false)
-or-passed false false e = (refl, refl)
-or-passed false true e = absurd (let z : _≡_ {A = ℕ} 0 1 = cc in omega arith)
-or-passed true b e = absurd (let z : _≡_ {A = ℕ} 0 1 = cc in omega arith)
 
 module _ {A : Type 0} (limits : Limits) (h : Shape) (next : Outcome A) where
   abbrev notPrime : Bool
@@ -37,11 +31,12 @@ module _ {A : Type 0} (limits : Limits) (h : Shape) (next : Outcome A) where
   shape-passed e =
       let t = refuse-passed notPrime 2 0 (refuse outside 3 0 next) e in
       let u = refuse-passed outside 3 0 next (t .1) in
-      let p = or-passed (not (prime? (h .modulus))) (ltb largestModulus (h .modulus)) (t .0) in
       let n = and-passed (oneTo (limits .rows) (h .rows)) (oneTo (limits .columns) (h .columns)) (u .0) in (
         record {
-          prime = prime-of-true (h .modulus) (not-false _ (p .0));
-          modulus = ltb-false largestModulus (h .modulus) (p .1);
+          prime = prime-of-true (h .modulus)
+              (not-false _ (or-left (not (prime? (h .modulus))) (ltb largestModulus (h .modulus)) (t .0)));
+          modulus = ltb-false largestModulus (h .modulus)
+              (or-right (not (prime? (h .modulus))) (ltb largestModulus (h .modulus)) (t .0));
           rows = oneTo-from _ _ (n .0);
           columns = oneTo-from _ _ (n .1);
         },

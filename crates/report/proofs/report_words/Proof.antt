@@ -2,7 +2,8 @@
 use mathlib.Core.Path.{ap}
 use borrow.Author.Needs.{needs}
 use Rattle.answers.specs.Answer.{systemOutcome}
-use Rattle.solver.proofs.Reading.{was-read, was-refused}
+use Rattle.reader.specs.ReadLaws.{system-refused}
+use Rattle.solver.proofs.Reading.{was-read}
 use Rattle.report.proofs.Giving.{given-refused}
 use Rattle.report.proofs.report_words.Statement.{statement}
 use Rattle.report.proofs.report_words.Tie as tie
@@ -20,7 +21,7 @@ returns-2 c =
     let read = refuses .before .before .before in
     let told = read .before .before in
     let tells = ap systemOutcome (read .read2 .given .1) in
-    given-refused _ _ (was-refused _ _ (told .before .limits .ensures) (told .read-system .ensures) tells)
+    given-refused _ _ (system-refused _ _ (told .before .limits .ensures) (told .read-system .ensures) tells)
     (refuses .write-refusal .ensures)
 
 pub report-words-spec : {M : Type 1} → statement M

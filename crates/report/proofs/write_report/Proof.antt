@@ -4,7 +4,7 @@ use native.Mathlib.Omega.{arith}
 use borrow.Author.Needs.{needs}
 use Rattle.words.specs.Limits.{office}
 use Rattle.answers.specs.Answer.{countedOutcome}
-use Rattle.reader.specs.OpeningLaws.{opened-room, opened-length, system-file-refused, system-file-read}
+use Rattle.files.specs.OpeningLaws.{opened-room, opened-length, system-file-refused, system-file-read}
 use Rattle.report.proofs.Giving.{file-short, file-refused, file-words}
 use Rattle.report.proofs.write_report.Statement.{statement}
 use Rattle.report.proofs.write_report.Tie as tie

@@ -5,7 +5,8 @@ use native.Mathlib.Omega.{arith}
 use Rattle.words.specs.Limits.{office, longestCertificate}
 use Rattle.words.specs.Certificate.{certificateWords}
 use Rattle.answers.specs.Answer.{systemOutcome}
-use Rattle.solver.proofs.Reading.{was-read, was-refused, solves-refused, solves-short, solves-given}
+use Rattle.reader.specs.ReadLaws.{system-refused}
+use Rattle.solver.proofs.Reading.{was-read, solves-refused, solves-short, solves-given}
 use borrow.Author.Needs.{needs}
 use Rattle.solver.proofs.solve.Statement.{statement}
 use Rattle.solver.proofs.solve.Tie as tie
@@ -43,7 +44,8 @@ returns-3 c =
     let told = c .before .before .before in
     let lent = told .before .before .before .before .args .words .now in
     solves-refused longest certificateWords lent lent _ _
-    (was-refused _ _ (told .before .limits .ensures) (told .read-system .ensures) (ap systemOutcome (c .before .read2 .given .1)))
+    (system-refused _ _ (told .before .limits .ensures) (told .read-system .ensures)
+    (ap systemOutcome (c .before .read2 .given .1)))
     refl refl
 
 pub solve-spec : {M : Type 1} → statement M

@@ -1,15 +1,16 @@
 -- What is told of the words that are left is told of the files.
-use mathlib.Core.Path.{_≡_, sym, ap, _∙_, subst}
+use mathlib.Core.Path.{_≡_, refl, sym, ap, _∙_, subst}
 use mathlib.Core.List.{List}
-use Prim.Native.Nat.{ℕ, _+_}
+use Prim.Native.Nat.{ℕ}
 use native.Mathlib.Omega.{arith}
-use lib.ListN.{length}
-use lib.Seq.{length-take-le}
-use Rattle.words.specs.Limits.{office, longestSystem, longestCertificate}
+use lib.ListN.{take}
+use Rattle.words.specs.Limits.{office}
+use Rattle.files.specs.OpeningLaws.{opened-room, opened-length}
+use Rattle.files.specs.OpeningBothLaws.{both-are, none-is}
 use Rattle.answers.specs.Answer.{refusedBy}
 use Rattle.answers.specs.Packed.{packed, packedMost, AnswerMost}
-use Rattle.link_values.specs.Files.{kindOf, fileKind}
-use Rattle.link_values.specs.Opening.{OpensWords, OpensBoth}
+use Rattle.link_values.specs.Files.{kindOf, readBoth, fileKind}
+use Rattle.link_values.proofs.Opens.{none-opened, both-opened}
 use Rattle.link_values.proofs.Small.{kind-small}
 use borrow.Author.Needs.{needs}
 use Rattle.link_values.proofs.kind.kind_of_files.Statement.{statement}
@@ -24,41 +25,49 @@ module _ (c : tie.After-opened) where
   abbrev call : tie.After-open-both
   call = c .before .before .before .before
 
-  opens : OpensWords office (files call .0) (files call .1) (call .open-both .last .0) (call .open-both .last .1 .0)
-      (c .opened .given .0 .0) (c .opened .given .0 .1 .0)
-  opens = subst (OpensBoth office _ _ _ _) (c .opened .given .1) (call .open-both .ensures)
+  kind-read : fileKind office (files call .0) (files call .1) ≡ kindOf (readBoth office
+      (take (c .opened .given .0 .0) (call .open-both .last .0)) (take (c .opened .given .0 .1 .0) (call .open-both .last .1 .0)))
+  kind-read =
+      let opens = both-are office _ _ _ _ _ _ _ (call .open-both .ensures) (c .opened .given .1) in
+      ap kindOf (both-opened _ _ opens (omega arith) (omega arith))
 
 -- one of them is not
 module _ (c : tie.After-opened2) where
-  stops : fileKind office (files (c .before .before .before .before) .0) (files (c .before .before .before .before) .1)
-      ≡ refusedBy (c .opened2 .given .0 .0)
-  stops = ap kindOf (subst (OpensBoth office _ _ _ _) (c .opened2 .given .1)
-      (c .before .before .before .before .open-both .ensures))
+  abbrev call2 : tie.After-open-both
+  call2 = c .before .before .before .before
+
+  stops : fileKind office (files call2 .0) (files call2 .1) ≡ refusedBy (c .opened2 .given .0 .0)
+  stops = ap kindOf (none-opened (files call2 .0) (files call2 .1)
+      (none-is office _ _ _ _ _ _ _ (call2 .open-both .ensures) (c .opened2 .given .1)))
 
 array-share-prefix-system-words : tie.Need-array-share-prefix-system-words
 array-share-prefix-system-words c =
     let o = c .before in
-    let room : length (call o .open-both .last .0) ≡ longestSystem office = search needs in
-    omega (arith, opens o .system-room)
+    let opens = both-are office _ _ _ _ _ _ _ (call o .open-both .ensures) (o .opened .given .1) in
+    omega (arith, opened-room (opens .system) refl)
 
 slice-aggregate-kind-of-words : tie.Need-slice-aggregate-kind-of-words
-slice-aggregate-kind-of-words c = sym (length-take-le _ _ (opens (c .before .before) .system-room))
+slice-aggregate-kind-of-words c =
+    let o = c .before .before in
+    let opens = both-are office _ _ _ _ _ _ _ (call o .open-both .ensures) (o .opened .given .1) in
+    opened-length (opens .system) refl
 
 array-share-prefix-certificate-words : tie.Need-array-share-prefix-certificate-words
 array-share-prefix-certificate-words c =
     let o = c .before .before in
-    let room : length (call o .open-both .last .1 .0) ≡ longestCertificate office + 1 = search needs in
-    omega (arith, opens o .certificate-room)
+    let opens = both-are office _ _ _ _ _ _ _ (call o .open-both .ensures) (o .opened .given .1) in
+    omega (arith, opened-room (opens .certificate) refl)
 
 slice-aggregate-kind-of-words-2 : tie.Need-slice-aggregate-kind-of-words-2
-slice-aggregate-kind-of-words-2 c = sym (length-take-le _ _ (opens (c .before .before .before) .certificate-room))
+slice-aggregate-kind-of-words-2 c =
+    let o = c .before .before .before in
+    let opens = both-are office _ _ _ _ _ _ _ (call o .open-both .ensures) (o .opened .given .1) in
+    opened-length (opens .certificate) refl
 
 pack-counted-requires : tie.Need-pack-counted-requires
 pack-counted-requires c κs =
     let o = c .before .before .before .before in
-    subst (AnswerMost packedMost packedMost)
-    (ap kindOf (opens o .read) ∙ sym (c .kind-of-words .ensures))
-    (kind-small _ _)
+    subst (AnswerMost packedMost packedMost) (kind-read o ∙ sym (c .kind-of-words .ensures)) (kind-small _ _)
 
 pack-counted-requires-2 : tie.Need-pack-counted-requires-2
 pack-counted-requires-2 c κs = subst (AnswerMost packedMost packedMost) (stops (c .before)) (kind-small _ _)
@@ -66,7 +75,7 @@ pack-counted-requires-2 c κs = subst (AnswerMost packedMost packedMost) (stops 
 returns : tie.Need-returns
 returns c =
     let o = c .before .before .before .before .before in
-    c .pack-counted .ensures ∙ ap packed (c .before .kind-of-words .ensures ∙ sym (ap kindOf (opens o .read)))
+    c .pack-counted .ensures ∙ ap packed (c .before .kind-of-words .ensures ∙ sym (kind-read o))
 
 returns-2 : tie.Need-returns-2
 returns-2 c = c .pack-counted2 .ensures ∙ ap packed (sym (stops (c .before .before)))

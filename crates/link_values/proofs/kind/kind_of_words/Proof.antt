@@ -1,7 +1,8 @@
 -- What the readers tell decides (`Reading`).
 use mathlib.Core.Path.{ap}
 use Rattle.answers.specs.Answer.{systemOutcome, certificateOutcome}
-use Rattle.link_values.proofs.Reading.{system-refused, certificate-refused, kind-read}
+use Rattle.reader.specs.ReadLaws.{system-refused, system-read, certificate-refused, both-read}
+use Rattle.link_values.proofs.Reading.{refused-system, refused-certificate, kind-read}
 use borrow.Author.Needs.{needs}
 use Rattle.link_values.proofs.kind.kind_of_words.Statement.{statement}
 use Rattle.link_values.proofs.kind.kind_of_words.Tie as tie
@@ -12,10 +13,12 @@ returns c =
     let certificate-part = found .before .before in
     let read = certificate-part .before .before .before in
     let system-part = read .before .before in
-    kind-read _ _ _ (system-part .before .limits .ensures) (system-part .read-system .ensures)
+    kind-read _ _
+    (both-read _ _ (system-part .before .limits .ensures) (system-part .read-system .ensures)
     (ap systemOutcome (read .read .given .1))
-    _ (certificate-part .before .limits2 .ensures) (certificate-part .read-certificate .ensures)
-    (ap certificateOutcome (found .found .given .1)) (c .number-of .ensures)
+    _ _ (certificate-part .before .limits2 .ensures) (certificate-part .read-certificate .ensures)
+    (ap certificateOutcome (found .found .given .1)))
+    (c .number-of .ensures)
 
 returns-2 : tie.Need-returns-2
 returns-2 c =
@@ -23,16 +26,17 @@ returns-2 c =
     let certificate-part = found .before .before in
     let read = certificate-part .before .before .before in
     let system-part = read .before .before in
-    certificate-refused _ _ _ (system-part .before .limits .ensures) (system-part .read-system .ensures)
-    (ap systemOutcome (read .read .given .1))
-    _ (certificate-part .before .limits2 .ensures) (certificate-part .read-certificate .ensures)
-    (ap certificateOutcome (found .found2 .given .1))
+    let told = ap systemOutcome (read .read .given .1) in
+    refused-certificate _ _ (system-read _ _ (system-part .before .limits .ensures) (system-part .read-system .ensures) told .1)
+    (certificate-refused _ _ (system-part .before .limits .ensures) (system-part .read-system .ensures) told
+    _ _ (certificate-part .before .limits2 .ensures) (certificate-part .read-certificate .ensures)
+    (ap certificateOutcome (found .found2 .given .1)))
 
 returns-3 : tie.Need-returns-3
 returns-3 c =
     let system-part = c .before .before .before in
-    system-refused _ _ _ (system-part .before .limits .ensures) (system-part .read-system .ensures)
-    (ap systemOutcome (c .before .read2 .given .1))
+    refused-system _ _ (system-refused _ _ (system-part .before .limits .ensures) (system-part .read-system .ensures)
+    (ap systemOutcome (c .before .read2 .given .1)))
 
 pub kind-of-words-spec : {M : Type 1} → statement M
 kind-of-words-spec =

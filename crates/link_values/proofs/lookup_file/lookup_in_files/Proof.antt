@@ -1,18 +1,19 @@
 -- What is told of the words that are left is told of the files.
-use mathlib.Core.Path.{_≡_, sym, ap, ap₂, _∙_, subst}
+use mathlib.Core.Path.{_≡_, refl, sym, ap, ap₂, subst}
 use mathlib.Core.List.{List}
-use Prim.Native.Nat.{ℕ, _+_}
+use Prim.Native.Nat.{ℕ}
 use native.Mathlib.Omega.{arith}
 use lib.ListN.{length}
-use lib.Seq.{length-take-le}
-use Rattle.words.specs.Limits.{office, longestSystem, longestCertificate}
+use Rattle.words.specs.Limits.{office}
 use Rattle.words.specs.Outcome.{Outcome, mapped}
+use Rattle.files.specs.OpeningLaws.{opened-room, opened-length}
+use Rattle.files.specs.OpeningBothLaws.{both-are, none-is}
 use Rattle.answers.specs.Answer.{refusedBy, countedOutcome}
-use Rattle.answers.specs.Packed.{packed, packedMost, AnswerMost}
+use Rattle.answers.specs.Packed.{packedMost, AnswerMost}
 use Rattle.link_values.specs.Files.{sideNumbered, lookupOf, fileLookup}
 use Rattle.link_values.specs.Giving.{GivesList}
 use Rattle.link_values.specs.GivingLaws.{gives-as, gives-refusal, gives-packed}
-use Rattle.link_values.specs.Opening.{OpensWords, OpensBoth}
+use Rattle.link_values.proofs.Opens.{none-opened, both-opened}
 use Rattle.link_values.proofs.Small.{lookup-small}
 use borrow.Author.Needs.{needs}
 use Rattle.link_values.proofs.lookup_file.lookup_in_files.Statement.{statement}
@@ -36,13 +37,8 @@ module _ (call : tie.After-open-both) where
   small = lookup-small f g (sideNumbered (start .args .side)) (start .args .number)
 
 -- both files are opened
-module _ (c : tie.After-opened) where
-  abbrev call : tie.After-open-both
-  call = c .before .before .before .before
-
-  opens : OpensWords office (f call) (g call) (call .open-both .last .0) (call .open-both .last .1 .0)
-      (c .opened .given .0 .0) (c .opened .given .0 .1 .0)
-  opens = subst (OpensBoth office _ _ _ _) (c .opened .given .1) (call .open-both .ensures)
+abbrev call : tie.After-opened → tie.After-open-both
+call c = c .before .before .before .before
 
 -- the words are asked
 module _ (c : tie.After-lookup-words) where
@@ -51,8 +47,11 @@ module _ (c : tie.After-lookup-words) where
 
   given : GivesList (sought (call told)) (start (call told) .args .coefficients .now) (c .lookup-words .last .0)
       (countedOutcome (c .lookup-words .result))
-  given = gives-as
-      (ap₂ (λ s o. lookupOf s (start (call told) .args .number) o) (sym (c .before .side-of .ensures)) (opens told .read))
+  given =
+      let opens = both-are office _ _ _ _ _ _ _ (call told .open-both .ensures) (told .opened .given .1) in
+      gives-as
+      (ap₂ (λ s o. lookupOf s (start (call told) .args .number) o) (sym (c .before .side-of .ensures))
+      (both-opened _ _ opens (omega arith) (omega arith)))
       (c .lookup-words .ensures)
 
 -- one of the files is not opened
@@ -63,25 +62,31 @@ module _ (c : tie.After-opened2) where
   stops : sought call2 ≡ refusedBy (c .opened2 .given .0 .0)
   stops =
       ap (lookupOf (sideNumbered (start call2 .args .side)) (start call2 .args .number))
-      (subst (OpensBoth office _ _ _ _) (c .opened2 .given .1) (call2 .open-both .ensures))
+      (none-opened (f call2) (g call2) (none-is office _ _ _ _ _ _ _ (call2 .open-both .ensures) (c .opened2 .given .1)))
 
 array-share-prefix-system-words : tie.Need-array-share-prefix-system-words
 array-share-prefix-system-words c =
     let o = c .before .before in
-    let room : length (call o .open-both .last .0) ≡ longestSystem office = search needs in
-    omega (arith, opens o .system-room)
+    let opens = both-are office _ _ _ _ _ _ _ (call o .open-both .ensures) (o .opened .given .1) in
+    omega (arith, opened-room (opens .system) refl)
 
 slice-aggregate-lookup-words : tie.Need-slice-aggregate-lookup-words
-slice-aggregate-lookup-words c = sym (length-take-le _ _ (opens (c .before .before .before) .system-room))
+slice-aggregate-lookup-words c =
+    let o = c .before .before .before in
+    let opens = both-are office _ _ _ _ _ _ _ (call o .open-both .ensures) (o .opened .given .1) in
+    opened-length (opens .system) refl
 
 array-share-prefix-certificate-words : tie.Need-array-share-prefix-certificate-words
 array-share-prefix-certificate-words c =
     let o = c .before .before .before in
-    let room : length (call o .open-both .last .1 .0) ≡ longestCertificate office + 1 = search needs in
-    omega (arith, opens o .certificate-room)
+    let opens = both-are office _ _ _ _ _ _ _ (call o .open-both .ensures) (o .opened .given .1) in
+    omega (arith, opened-room (opens .certificate) refl)
 
 slice-aggregate-lookup-words-2 : tie.Need-slice-aggregate-lookup-words-2
-slice-aggregate-lookup-words-2 c = sym (length-take-le _ _ (opens (c .before .before .before .before) .certificate-room))
+slice-aggregate-lookup-words-2 c =
+    let o = c .before .before .before .before in
+    let opens = both-are office _ _ _ _ _ _ _ (call o .open-both .ensures) (o .opened .given .1) in
+    opened-length (opens .certificate) refl
 
 pack-counted-requires : tie.Need-pack-counted-requires
 pack-counted-requires c κs = subst (AnswerMost packedMost packedMost) (sym (given c .told)) (small (call (told c)))

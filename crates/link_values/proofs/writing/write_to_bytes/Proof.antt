@@ -1,5 +1,5 @@
 -- What `write_system` gave on words of its own is written as bytes.
-use mathlib.Core.Path.{_≡_, sym, ap, _∙_, subst}
+use mathlib.Core.Path.{_≡_, subst}
 use mathlib.Core.List.{List}
 use Prim.Native.Nat.{ℕ}
 use native.Mathlib.Omega.{arith}
@@ -8,13 +8,12 @@ use borrow.Author.Needs.{needs}
 use Rattle.words.specs.Limits.{office, longestSystem}
 use Rattle.words.specs.Outcome.Outcome.{accepted}
 use Rattle.words.specs.System.{System}
-use Rattle.words.specs.BytesLaws.{length-bytesOf}
+use Rattle.files.specs.FileBytesLaws.{written-count, written-all}
 use Rattle.answers.specs.declared.answer.Counted.{Counted}
 use Rattle.answers.specs.declared.answer.Counted.the-variants.{Count}
 use Rattle.writer.specs.Writing.{writeSystem, Writes}
 use Rattle.writer.specs.Values.{shapeWith, systemInArrays}
 use Rattle.writer.specs.WrittenLaws.{count-words}
-use Rattle.writer.specs.PackingLaws.{packed-all}
 use Rattle.link_values.specs.GivingLaws.{gives-refusal, gives-list}
 use Rattle.link_values.specs.WritingLaws.{write-refused, write-short, write-whole}
 use Rattle.link_values.proofs.Written.{was-refused, counted-length, counted-fits}
@@ -66,25 +65,17 @@ array-share-prefix-words c =
 slice-aggregate-write-bytes : tie.Need-slice-aggregate-write-bytes
 slice-aggregate-write-bytes c = counted-length (counted (c .before .before .before .before))
 
-mul-t15 : tie.Need-mul-t15
-mul-t15 c =
-    let w = c .before .before .before .before .before .before .before in
-    omega (arith, counted-fits (counted w), room w)
-
 returns-2 : tie.Need-returns-2
 returns-2 c =
-    let w = c .before .before .before .before .before .before .before in
-    gives-list (write-whole office (system (call w)) _ (are w) (c .before .before .before .before .before .if1 .left))
-    (omega (arith, length-bytesOf (take (w .written .given .0 .0) (words (call w))), counted-length (counted w)))
-    (packed-all (c .before .before .write-bytes .ensures)
-    (omega (
-      arith,
-      counted-length (counted w),
-      counted-fits (counted w),
-      room w,
-      c .before .before .before .before .before .if1
-          .left,
-    )))
+    let test = c .before .before .before .before .before in
+    let w = test .before .before in
+    let written = c .before .before .write-bytes .ensures in
+    let size = counted-length (counted w) in
+    let fits = counted-fits (counted w) in
+    let all = room w in
+    let enough = test .if1 .left in
+    gives-list (write-whole office (system (call w)) _ (are w) enough) (written-count written (omega arith))
+    (written-all written (omega arith))
 
 returns-3 : tie.Need-returns-3
 returns-3 c =
@@ -103,7 +94,6 @@ write-to-bytes-spec =
     array-share-prefix-words
     slice-aggregate-write-bytes
     (λ c κs. search needs)
-    mul-t15
     (λ c. search needs)
     (λ c. search needs)
     returns-2

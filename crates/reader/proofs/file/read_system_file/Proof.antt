@@ -1,12 +1,12 @@
 -- `reader::file::read_system_file` meets its contract: number 10, or what the words that were left tell.
-use mathlib.Core.Path.{sym, ap}
+use mathlib.Core.Path.{sym, ap, _∙_}
 use native.Mathlib.Omega.{arith}
 use Rattle.words.specs.Limits.{office}
 use Rattle.words.specs.Outcome.{mapped}
 use Rattle.words.specs.System.{shape}
 use Rattle.answers.specs.Answer.{countedOutcome}
-use Rattle.reader.specs.OpeningLaws.{opened-room, opened-length, system-file-refused, system-file-read}
-use Rattle.reader.proofs.Opens.{file-read}
+use Rattle.files.specs.OpeningLaws.{opened-room, opened-length, system-file-refused, system-file-read}
+use Rattle.reader.specs.ReadLaws.{system-told}
 use borrow.Author.Needs.{needs}
 use Rattle.reader.proofs.file.read_system_file.Statement.{statement}
 use Rattle.reader.proofs.file.read_system_file.Tie as tie
@@ -24,10 +24,9 @@ slice-aggregate-read-system c =
 returns : tie.Need-returns
 returns c =
     let opened = c .before .before .before .before in
-    file-read _ _ (c .before .limits .ensures)
-    (system-file-read office (opened .before .before .before .open-file .ensures) (omega arith)
-    (ap countedOutcome (opened .opened .given .1)))
-    (c .read-system .ensures)
+    system-told _ _ (c .before .limits .ensures) (c .read-system .ensures)
+    ∙ ap (mapped shape) (sym (system-file-read office (opened .before .before .before .open-file .ensures) (omega arith)
+    (ap countedOutcome (opened .opened .given .1))))
 
 returns-2 : tie.Need-returns-2
 returns-2 c =

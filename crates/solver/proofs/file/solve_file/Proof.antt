@@ -7,7 +7,7 @@ use lib.ListN.{length}
 use Rattle.words.specs.Limits.{office, longestCertificate}
 use Rattle.words.specs.Bytes.{wordBytes}
 use Rattle.answers.specs.Answer.{countedOutcome}
-use Rattle.reader.specs.OpeningLaws.{opened-room, opened-length, system-file-refused, system-file-read}
+use Rattle.files.specs.OpeningLaws.{opened-room, opened-length, system-file-refused, system-file-read}
 use Rattle.solver.specs.Solving.{withRoom, certificateBytes, SolvesOr}
 use Rattle.solver.proofs.Reading.{solves-refused}
 use Rattle.solver.proofs.file.solve_file.Statement.{statement}

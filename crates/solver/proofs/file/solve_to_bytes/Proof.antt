@@ -8,7 +8,7 @@ use borrow.Author.Needs.{needs}
 use Rattle.words.specs.Limits.{office, longestCertificate}
 use Rattle.words.specs.Bytes.{wordBytes}
 use Rattle.answers.specs.Answer.{countedOutcome}
-use Rattle.writer.specs.PackingLaws.{packed-all}
+use Rattle.files.specs.FileBytesLaws.{written-count, written-all}
 use Rattle.solver.specs.Solving.{certificateBytes}
 use Rattle.solver.specs.SolvingLaws.{gives-fits}
 use Rattle.solver.proofs.Reading.{solves-refused, solves-short, solves-given}
@@ -39,12 +39,6 @@ returns c =
     (ap countedOutcome (counted .solved .given .1)) in
     solves-short (wordBytes * longest) certificateBytes lent lent _ _ (given .1) (c .if1 .taken) refl refl
 
-mul-t11 : tie.Need-mul-t11
-mul-t11 c =
-    let counted = c .before .before .before .before .before .before .before in
-    let room : length (call counted .solve .last .0) ≡ longest = search needs in
-    omega (arith, fits counted, room)
-
 returns-2 : tie.Need-returns-2
 returns-2 c =
     let counted = c .before .before .before .before .before .before .before in
@@ -54,8 +48,9 @@ returns-2 c =
     let few = fits counted in
     let room : length (call counted .solve .last .0) ≡ longest = search needs in
     let short = length-take-le _ (call counted .solve .last .0) few in
+    let written = c .before .before .write-bytes .ensures in
     solves-given (wordBytes * longest) certificateBytes _ _ _ _ (given .1) (search needs) _ refl
-    (gives-bytes (given .2) _ _ (packed-all (c .before .before .write-bytes .ensures) (omega arith)))
+    (gives-bytes (given .2) _ _ (written-count written (omega arith)) (written-all written (omega arith)))
 
 returns-3 : tie.Need-returns-3
 returns-3 c =
@@ -77,7 +72,6 @@ solve-to-bytes-spec =
     (λ c. omega (arith, fits (c .before .before .before)))
     (λ c. sym (length-take-le _ _ (fits (c .before .before .before .before))))
     (λ c κs. search needs)
-    mul-t11
     (λ c. search needs)
     (λ c. search needs)
     returns-2

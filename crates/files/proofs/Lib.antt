@@ -1,0 +1,4 @@
+pub mod Filling
+pub mod UnpackTurns
+pub mod WordBytes
+pub mod Opens

@@ -1,0 +1,10 @@
+-- interface: words of bytes, bytes of words
+pub mod FileWords
+pub mod FileBytes
+pub mod FileBytesLaws
+-- interface: opening a file, and what is then said of a reading of its words
+pub mod Opening
+pub mod OpeningLaws
+-- interface: the same of a system's file and a certificate's
+pub mod OpeningBoth
+pub mod OpeningBothLaws
