@@ -1,5 +1,6 @@
 -- p - 1 times g is -g.
 use native.Mathlib.Omega.{arith}
+use borrow.Author.Needs.{needs}
 use Rattle.polynomial.specs.Value.{represents-is}
 use Rattle.polynomial.proofs.Multiple.{subtract-is}
 use Rattle.polynomial.proofs.value.Polynomial.subtract.Statement.{statement}
