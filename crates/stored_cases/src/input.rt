@@ -3,8 +3,9 @@
 use libc::STDIN_FILENO;
 use reader::unpacking::unpack;
 ghost use mathlib.Core.Path.{_≡_};
-ghost use Prim.Native.Nat.{_≤_};
+ghost use Prim.Native.Nat.{ℕ, _<_, _≤_};
 ghost use lib.ListN.{length, getD};
+ghost use Rattle.stored_cases.specs.Places.{caseWords};
 
 // No stored set has more cases.
 pub const CASES: usize = 65536;
@@ -19,12 +20,41 @@ pub fn word(words: &[u32], place: usize) -> u32
     if place < words.len() { words[place] } else { 0 }
 }
 
+// Gives the word at a place where it is below a bound, else 0.
+pub fn word_below(words: &[u32], place: usize, bound: u64) -> u64
+    requires { ⌜ 0 < bound ⌝ }
+    ensures { λ r. ⌜ r < bound ⌝ }
+{
+    let x = word(words, place) as u64;
+    if x < bound { x } else { 0 }
+}
+
+// Gives the number of coefficients that the word at a place says; 0 where these are more than `most`.
+pub fn size_at(words: &[u32], place: usize, most: usize) -> usize
+    ensures { λ r. ⌜ r ≤ most ⌝ }
+{
+    let n = word(words, place) as usize;
+    if most < n { 0 } else { n }
+}
+
+// Fills f with the words from a place on, those below a bound.
+pub fn unpack_coefficients(f: &mut [u64], words: &[u32], place: usize, bound: u64)
+    requires { ⌜ (place ≤ caseWords) × (length (now f) ≤ caseWords) × (0 < bound) ⌝ }
+    ensures { λ _. ⌜ ((i : ℕ) → i < length (now (f .exit)) → getD (now (f .exit)) i 0 < bound) ⌝ }
+{
+    let mut i: usize = 0;
+    while i < f.len() {
+        f[i] = word_below(words, place + i, bound);
+        i += 1;
+    }
+}
+
 // Reads a number; 0 where the input has ended.
 pub fn read_number() -> u32 {
     let mut bytes = [0u8; 4];
     let mut words = [0u32; 1];
-    let n = io::read_full(STDIN_FILENO, &mut bytes);
-    unpack(&mut words, &bytes[0..n]);
+    io::read_full(STDIN_FILENO, &mut bytes);
+    unpack(&mut words, &bytes);
     word(&words, 0)
 }
 
