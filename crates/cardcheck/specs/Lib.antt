@@ -1,7 +1,4 @@
--- interface, what contracts and PROVED.md cite: Name, Line, Seen, SeenLaws
--- inside: LineLaws
+-- interface, what contracts and PROVED.md cite: Name, End, SeenLaws
 pub mod Name
-pub mod Line
-pub mod LineLaws
-pub mod Seen
+pub mod End
 pub mod SeenLaws

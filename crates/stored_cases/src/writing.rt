@@ -1,5 +1,4 @@
-// The writers. A case is its kind, p, n, m, the number of lent words, and the polynomials. Where it would lend too many, there is no
-// line.
+// The writers. A case is its kind, p, n, m, the number of lent words, and the polynomials. Where it lends too many, there is no line.
 use crate::input::word;
 use crate::output::print;
 use crate::output::refused;

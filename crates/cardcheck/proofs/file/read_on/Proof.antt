@@ -5,21 +5,22 @@ use native.Mathlib.Omega.{arith}
 use borrow.Author.Needs.{needs}
 use borrow.Author.Tests.{leb-true}
 use Rattle.streams.specs.Reading.{ReadWithin}
+use Rattle.cardcheck.specs.End.{turnBytes, mostBytes}
 use Rattle.cardcheck.proofs.file.read_on.Statement.{statement}
 use Rattle.cardcheck.proofs.file.read_on.Tie as tie
 
 abbrev Inv-loop : tie.InvT-loop
-Inv-loop fd count length₀ last₀ length last = last ≤ 65536
+Inv-loop fd count length₀ last₀ length last = last ≤ turnBytes
 
 abbrev μ-loop : tie.MeasureT-loop
-μ-loop fd count length₀ last₀ length last = (16777217 - length) + last
+μ-loop fd count length₀ last₀ length last = (mostBytes + 1 - length) + last
 
 module _ (c : tie.After-known-told Inv-loop μ-loop) where
   -- what a turn reads
-  within : c .before .input .given .0 .0 ≤ 65536
-  within = subst (ReadWithin 65536) (c .before .input .given .1) (c .before .before .before .read-more .ensures)
+  within : c .before .input .given .0 .0 ≤ turnBytes
+  within = subst (ReadWithin turnBytes) (c .before .input .given .1) (c .before .before .before .read-more .ensures)
 
-  more : c .before .before .before .before .before .before .loop .length ≤ 16777216
+  more : c .before .before .before .before .before .before .loop .length ≤ mostBytes
   more = leb-true _ _ (c .before .before .before .before .if1 .taken)
 
 add-length : tie.Need-add-length Inv-loop μ-loop
