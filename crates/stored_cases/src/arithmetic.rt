@@ -1,4 +1,5 @@
 // The arithmetic of residues and polynomials: operations by their codes. Of what cannot be tried there is no line.
+use crate::input::WORDS;
 use crate::input::word;
 use crate::operand::next_operand;
 use crate::operand::read_operand;
@@ -31,7 +32,7 @@ fn tell(holds: bool, yes: &[u8], no: &[u8]) {
 }
 
 // Answers a case: its code, p and operands.
-pub fn answer(case: &[u32]) {
+pub fn answer(case: &[u32; WORDS]) {
     let p = word(case, 1);
     if LARGEST < p {
         return;
@@ -46,7 +47,7 @@ pub fn answer(case: &[u32]) {
 }
 
 // Tries the operation that the code names, modulo a prime.
-fn modulo(case: &[u32], code: u32, modulus: Modulus)
+fn modulo(case: &[u32; WORDS], code: u32, modulus: Modulus)
     requires { ⌜ ValidModulus modulus ⌝ }
 {
     match code {
@@ -89,7 +90,7 @@ fn inverse(a: u64, modulus: Modulus)
 }
 
 // Prints c f.
-fn multiple(case: &[u32], modulus: Modulus)
+fn multiple(case: &[u32; WORDS], modulus: Modulus)
     requires { ⌜ ValidModulus modulus ⌝ }
 {
     let f = read_operand(case, 3, modulus);

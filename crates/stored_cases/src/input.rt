@@ -3,7 +3,9 @@
 use libc::STDIN_FILENO;
 use reader::unpacking::unpack;
 ghost use mathlib.Core.Path.{_≡_};
+ghost use mathlib.Core.Bool.{cond};
 ghost use Prim.Native.Nat.{ℕ, _<_, _≤_};
+ghost use lib.Dec.{ltb};
 ghost use lib.ListN.{length, getD};
 ghost use Rattle.stored_cases.specs.Places.{caseWords};
 
@@ -14,14 +16,14 @@ pub const CASES: usize = 65536;
 pub const WORDS: usize = 16384;
 
 // Gives the word at a place, 0 behind the last.
-pub fn word(words: &[u32], place: usize) -> u32
-    ensures { λ r. ⌜ r ≡ getD (now (words .entry)) place 0 ⌝ }
+pub fn word(words: &[u32; WORDS], place: usize) -> u32
+    ensures { λ r. ⌜ r ≡ cond (ltb place caseWords) (getD (now (words .entry)) place 0) 0 ⌝ }
 {
-    if place < words.len() { words[place] } else { 0 }
+    if place < WORDS { words[place] } else { 0 }
 }
 
 // Gives the word at a place where it is below a bound, else 0.
-pub fn word_below(words: &[u32], place: usize, bound: u64) -> u64
+pub fn word_below(words: &[u32; WORDS], place: usize, bound: u64) -> u64
     requires { ⌜ 0 < bound ⌝ }
     ensures { λ r. ⌜ r < bound ⌝ }
 {
@@ -30,7 +32,7 @@ pub fn word_below(words: &[u32], place: usize, bound: u64) -> u64
 }
 
 // Gives the number of coefficients that the word at a place says; 0 where these are more than `most`.
-pub fn size_at(words: &[u32], place: usize, most: usize) -> usize
+pub fn size_at(words: &[u32; WORDS], place: usize, most: usize) -> usize
     ensures { λ r. ⌜ r ≤ most ⌝ }
 {
     let n = word(words, place) as usize;
@@ -38,7 +40,7 @@ pub fn size_at(words: &[u32], place: usize, most: usize) -> usize
 }
 
 // Fills f with the words from a place on, those below a bound.
-pub fn unpack_coefficients(f: &mut [u64], words: &[u32], place: usize, bound: u64)
+pub fn unpack_coefficients(f: &mut [u64], words: &[u32; WORDS], place: usize, bound: u64)
     requires { ⌜ (place ≤ caseWords) × (length (now f) ≤ caseWords) × (0 < bound) ⌝ }
     ensures { λ _. ⌜ ((i : ℕ) → i < length (now (f .exit)) → getD (now (f .exit)) i 0 < bound) ⌝ }
 {
@@ -55,7 +57,7 @@ pub fn read_number() -> u32 {
     let mut words = [0u32; 1];
     io::read_full(STDIN_FILENO, &mut bytes);
     unpack(&mut words, &bytes);
-    word(&words, 0)
+    words[0]
 }
 
 // Reads a list to the first of the lent bytes and gives their number; 0 where too few are lent.

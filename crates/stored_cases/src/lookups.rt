@@ -1,7 +1,6 @@
 // The lookup. What is asked for is one more list of two words: the side, 0 for the system and 1 for the certificate, and the number
 // of the polynomial.
 use crate::input::read_words;
-use crate::input::word;
 use crate::output::print;
 use crate::output::refused;
 use crate::output::text;
@@ -35,7 +34,8 @@ fn show<'a>(system: &'a [u32], certificate: &'a [u32], side: Side, number: usize
 }
 
 // Looks up a polynomial.
-fn look_up<'a>(system: &'a [u32], certificate: &'a [u32], side: Side, number: usize) {
+fn look_up<'a>(system: &'a [u32], certificate: &'a [u32], side: Side, number: u32) {
+    let number = number as usize;
     let found = lookup_refusal(system, certificate, side, number, Office::limits());
     match found {
         Verdict::Accepted => show(system, certificate, side, number),
@@ -47,10 +47,5 @@ fn look_up<'a>(system: &'a [u32], certificate: &'a [u32], side: Side, number: us
 pub fn answer<'a>(system: &'a [u32], certificate: &'a [u32]) {
     let mut asked = [0u32; 2];
     read_words(&mut asked);
-    look_up(
-        system,
-        certificate,
-        side_of(word(&asked, 0)),
-        word(&asked, 1) as usize,
-    );
+    look_up(system, certificate, side_of(asked[0]), asked[1]);
 }

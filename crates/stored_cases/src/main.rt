@@ -43,8 +43,6 @@ fn with_second(call: u32, first: &[u32]) {
 // Tries a call on words.
 fn try_words(call: u32, words: &[u32]) {
     match call {
-        1 => arithmetic::answer(words),
-        2 => writing::answer(words),
         3 => describe(read_system(words, Office::limits())),
         4 => describe(read_system(words, Panel::limits())),
         _ => with_second(call, words),
@@ -65,7 +63,11 @@ fn try_bytes(call: u32, bytes: &[u8]) {
 fn with_words(call: u32) {
     let mut words = [0u32; WORDS];
     let n = read_words(&mut words);
-    try_words(call, &words[0..n]);
+    match call {
+        1 => arithmetic::answer(&words),
+        2 => writing::answer(&words),
+        _ => try_words(call, &words[0..n]),
+    }
 }
 
 // Reads one list of bytes, and tries a call on it.

@@ -1,4 +1,5 @@
 // The operands of arithmetic.
+use crate::input::WORDS;
 use crate::input::size_at;
 use crate::input::unpack_coefficients;
 use crate::input::word_below;
@@ -12,7 +13,7 @@ ghost use Rattle.polynomial.specs.Value.{polynomialRoom, ValidPolynomial};
 ghost use Rattle.stored_cases.specs.Places.{caseWords};
 
 // Gives the residue at a place, 0 where there is none.
-pub fn residue_at(case: &[u32], place: usize, modulus: Modulus) -> u64
+pub fn residue_at(case: &[u32; WORDS], place: usize, modulus: Modulus) -> u64
     requires { ⌜ ValidModulus modulus ⌝ }
     ensures { λ r. ⌜ r < modulus .p ⌝ }
 {
@@ -20,7 +21,7 @@ pub fn residue_at(case: &[u32], place: usize, modulus: Modulus) -> u64
 }
 
 // Reads the polynomial at a place: its number of coefficients, then these. Where there can be none, it is zero.
-pub fn read_operand(case: &[u32], place: usize, modulus: Modulus) -> Polynomial
+pub fn read_operand(case: &[u32; WORDS], place: usize, modulus: Modulus) -> Polynomial
     requires { ⌜ ValidModulus modulus × (place < caseWords) ⌝ }
     ensures { λ r. ⌜ ValidPolynomial (modulus .p) r ⌝ }
 {
@@ -31,7 +32,7 @@ pub fn read_operand(case: &[u32], place: usize, modulus: Modulus) -> Polynomial
 }
 
 // Gives the place behind the polynomial at a place.
-pub fn next_operand(case: &[u32], place: usize) -> usize
+pub fn next_operand(case: &[u32; WORDS], place: usize) -> usize
     requires { ⌜ place < caseWords ⌝ }
     ensures { λ r. ⌜ r ≤ place + 1 + polynomialRoom ⌝ }
 {

@@ -1,4 +1,5 @@
 // The polynomials that a writer is given.
+use crate::input::WORDS;
 use crate::input::size_at;
 use crate::input::unpack_coefficients;
 use crate::input::word;
@@ -18,7 +19,7 @@ const BOUND: u64 = 4294967296;
 pub fn unpack(
     sizes: &mut [usize],
     coefficients: &mut [u64],
-    case: &[u32],
+    case: &[u32; WORDS],
     stride: usize,
     limit: usize,
 )

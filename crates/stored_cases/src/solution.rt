@@ -41,15 +41,20 @@ fn show_solved(file: &[u8]) {
     }
 }
 
-// Prints a report as one line without its end: `; ` stands for every line end but the last.
+// Prints a byte of a report: `; ` for a line end.
+fn put(byte: u8) {
+    if byte == b'\n' {
+        text(b"; ");
+    } else {
+        text(&[byte]);
+    }
+}
+
+// Prints a report as one line without its end.
 fn show(report: &[u8]) {
     let mut i: usize = 0;
-    while i < report.len() {
-        if report[i] != b'\n' {
-            text(&report[i..i + 1]);
-        } else if i + 1 < report.len() {
-            text(b"; ");
-        }
+    while i + 1 < report.len() {
+        put(report[i]);
         i += 1;
     }
 }

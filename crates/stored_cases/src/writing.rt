@@ -1,4 +1,6 @@
-// The writers. A case is its kind, p, n, m, the number of lent words, and the polynomials. Where it lends too many, there is no line.
+// The writers. A case is its kind, p, n, m, the number of lent words, and the polynomials. Of one that lends too many there is no
+// line.
+use crate::input::WORDS;
 use crate::input::word;
 use crate::output::print;
 use crate::output::refused;
@@ -18,7 +20,7 @@ use writer::system::write_system;
 const MOST: usize = 4096;
 
 // Lends as many words as the case says, and has them written.
-pub fn answer(case: &[u32]) {
+pub fn answer(case: &[u32; WORDS]) {
     let lent = word(case, 4) as usize;
     if MOST < lent {
         return;
@@ -28,7 +30,7 @@ pub fn answer(case: &[u32]) {
 }
 
 // Writes to the lent words what the case is of, and prints it.
-fn answer_lent(words: &mut [u32], case: &[u32]) {
+fn answer_lent(words: &mut [u32], case: &[u32; WORDS]) {
     let answer = write(words, case);
     match answer {
         Counted::Count(count) => show(words, count),
@@ -37,8 +39,8 @@ fn answer_lent(words: &mut [u32], case: &[u32]) {
 }
 
 // Writes what the case is of.
-fn write(words: &mut [u32], case: &[u32]) -> Counted {
-    match word(case, 0) {
+fn write(words: &mut [u32], case: &[u32; WORDS]) -> Counted {
+    match case[0] {
         0 => system(words, case),
         1 => certificate(words, case, Form::Solution),
         _ => certificate(words, case, Form::Absence),
@@ -46,23 +48,16 @@ fn write(words: &mut [u32], case: &[u32]) -> Counted {
 }
 
 // Writes a system.
-fn system(words: &mut [u32], case: &[u32]) -> Counted {
+fn system(words: &mut [u32], case: &[u32; WORDS]) -> Counted {
     let mut sizes = [0usize; Office::SYSTEM_POLYNOMIALS];
     let mut coefficients = [0u64; SYSTEM_VALUES];
     let limit = Office::COEFFICIENTS as usize;
     unpack(&mut sizes, &mut coefficients, case, limit, limit);
-    write_system(
-        words,
-        &sizes,
-        &coefficients,
-        word(case, 2),
-        word(case, 3),
-        word(case, 1),
-    )
+    write_system(words, &sizes, &coefficients, case[2], case[3], case[1])
 }
 
 // Writes a certificate.
-fn certificate(words: &mut [u32], case: &[u32], form: Form) -> Counted {
+fn certificate(words: &mut [u32], case: &[u32; WORDS], form: Form) -> Counted {
     let mut sizes = [0usize; Office::CERTIFICATE_POLYNOMIALS];
     let mut coefficients = [0u64; CERTIFICATE_VALUES];
     let limit = Office::CERTIFICATE_COEFFICIENTS as usize;
@@ -72,9 +67,9 @@ fn certificate(words: &mut [u32], case: &[u32], form: Form) -> Counted {
         &sizes,
         &coefficients,
         form,
-        word(case, 2),
-        word(case, 3),
-        word(case, 1),
+        case[2],
+        case[3],
+        case[1],
     )
 }
 

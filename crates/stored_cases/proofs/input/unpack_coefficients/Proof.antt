@@ -16,7 +16,7 @@ abbrev μ-loop : tie.MeasureT-loop
 
 loop-again : tie.Need-loop-again Inv-loop μ-loop
 loop-again c =
-    let S = c .before .before .before .before .before in
+    let S = c .before .before .before .before in
     let L = c .before .before .loop in
     let x = c .word-below .result in
     let same = length-set (L .f) (L .i) x in (

@@ -11,7 +11,7 @@ use Rattle.stored_cases.proofs.operand.read_operand.Tie as tie
 
 from-words-requires : tie.Need-from-words-requires
 from-words-requires c κs =
-    let S = c .before .before .before .before .before .before .before in
+    let S = c .before .before .before .before .before .before in
     let p = S .args .modulus .p in
     let positive : 0 < p = omega (arith, S .pre .0 .prime .large) in
     let unpacked = c .before .before .before .unpack-coefficients in

@@ -1,5 +1,5 @@
 -- The loop keeps the lengths of both slices, and the place stays within a case.
-use mathlib.Core.Path.{_≡_, _∙_}
+use mathlib.Core.Path.{_≡_}
 use Prim.Native.Nat.{_+_, _-_, _*_, _≤_}
 use native.Mathlib.Nat.{mul-le-mul-left}
 use native.Mathlib.Omega.{arith}
@@ -20,11 +20,11 @@ abbrev μ-loop : tie.MeasureT-loop
 -- there is room for polynomial k
 roomy : (c : tie.After-size-at Inv-loop μ-loop) →
     let l = c .before .before .before in
-    let stride = l .before .before .before .before .args .stride in
+    let stride = l .before .before .before .args .stride in
     stride * l .loop .k + stride ≤ length (l .loop .coefficients)
 roomy c =
     let l = c .before .before .before in
-    let s = l .before .before .before .before in
+    let s = l .before .before .before in
     let i = l .loop .inv in
     let h = c .before .before .loop-test .taken in
     let n : l .loop .k + 1 ≤ length (s .args .sizes .now) = omega arith in
@@ -35,7 +35,7 @@ loop-again c =
     let l = c .before .before .before .before .before .before .before in
     let i = l .loop .inv in
     let size = c .before .before .before .before .size-at .ensures in
-    (simp length-set (omega arith), simp length-set (i .1), c .before .coefficients .given .1 ∙ i .2, omega arith)
+    (simp length-set (omega arith), simp length-set (i .1), omega (arith, c .before .coefficients .given .1), omega arith)
 
 pub unpack-spec : {M : Type 1} → statement M
 unpack-spec =
