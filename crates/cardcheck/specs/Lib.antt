@@ -1,8 +1,4 @@
--- interface, what contracts and PROVED.md cite: Name, Most, Line, Seen, SeenLaws
--- inside: LineLaws
+-- interface, what contracts and PROVED.md cite: Name, End, SeenLaws
 pub mod Name
-pub mod Most
-pub mod Line
-pub mod LineLaws
-pub mod Seen
+pub mod End
 pub mod SeenLaws

@@ -18,14 +18,7 @@ use Rattle.words.specs.BytesLaws.{length-wordsOf, wordsOf-at}
 use Rattle.truth.specs.Verdict.{verdict}
 use Rattle.truth.specs.Prefix.{verdict-prefix}
 use Rattle.verifier.specs.File.{fileVerdict}
-use Rattle.cardcheck.specs.Seen.{fileSpace, bytesSeen}
-
-pub seen-most : (n : ℕ) → bytesSeen n < fileSpace
-seen-most n = by (decLt n fileSpace)
-  where
-    by : Dec (n < fileSpace) → bytesSeen n < fileSpace
-    by (yes h) = rw (lt-ltb n fileSpace h) h
-    by (no h) = rw (le-ltb n fileSpace (omega arith)) (omega arith)
+use Rattle.streams.specs.Seen.{fileSpace, bytesSeen}
 
 -- the words of a file's start are the first of its words
 words-of-start : (k : ℕ) (bytes : List ℕ) → k ≤ length bytes → wordsOf (take k bytes) ≡ take (k / wordBytes) (wordsOf bytes)

@@ -2,12 +2,11 @@
 use crate::name::mask;
 use libc::SEEK_END;
 use libc::STDERR_FILENO;
-use streams::Input;
+use streams::StreamRead;
 use streams::read_start;
 ghost use mathlib.Core.Path.{_≡_};
 ghost use Rattle.streams.specs.Reading.{ReadWithin};
-ghost use Rattle.cardcheck.specs.Seen.{lengthTold};
-ghost use Rattle.cardcheck.specs.Most.{turnBytes};
+ghost use Rattle.cardcheck.specs.End.{turnBytes, lengthTold};
 
 // What is known of a file.
 pub enum File {
@@ -41,7 +40,7 @@ fn length_told(answer: i64) -> usize
 }
 
 // Reads up to `TURN` bytes more.
-fn read_more(fd: i32) -> Input
+fn read_more(fd: i32) -> StreamRead
     ensures { λ r. ⌜ ReadWithin turnBytes r ⌝ }
 {
     let mut space = io::large_buffer();
@@ -54,7 +53,7 @@ fn read_on(fd: i32, count: usize) -> End {
     let mut last = TURN;
     while last == TURN && length <= MOST {
         let input = read_more(fd);
-        let Input::Bytes(more) = input else {
+        let StreamRead::Bytes(more) = input else {
             return End::Failed;
         };
         last = more;
@@ -79,7 +78,7 @@ fn find_end(fd: i32, count: usize) -> End {
 // Reads as much of a file as `bytes` have room for, and finds its end.
 fn read_whole(bytes: &mut [u8], fd: i32) -> End {
     let input = read_start(bytes, fd);
-    let Input::Bytes(count) = input else {
+    let StreamRead::Bytes(count) = input else {
         return End::Failed;
     };
     if count < bytes.len() {

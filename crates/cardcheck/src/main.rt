@@ -8,9 +8,9 @@ mod name;
 use file::File;
 use file::read_file;
 use libc::STDERR_FILENO;
-use line::SPACE;
 use line::judge;
-use report_text::SPACE as LINE;
+use report_text::SPACE;
+use streams::FILE_SPACE;
 use streams::print;
 
 // Reads the file that an argument names. Where the name has more than 4,096 bytes, says so of `what`.
@@ -29,17 +29,17 @@ fn main() {
         io::write_all(STDERR_FILENO, b"usage: cardcheck SHEET CARD\n");
         return;
     }
-    let mut system = [0u8; SPACE];
+    let mut system = [0u8; FILE_SPACE];
     let first = read_named(&mut system, 1, b"cardcheck: SHEET");
     let File::Length(n) = first else {
         return;
     };
-    let mut certificate = [0u8; SPACE];
+    let mut certificate = [0u8; FILE_SPACE];
     let second = read_named(&mut certificate, 2, b"cardcheck: CARD");
     let File::Length(m) = second else {
         return;
     };
-    let mut line = [0u8; LINE];
+    let mut line = [0u8; SPACE];
     let count = judge(&mut line, &system, &certificate, n, m);
     print(&line[0..count], b"cardcheck: standard output");
 }

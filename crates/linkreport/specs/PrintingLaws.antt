@@ -5,8 +5,8 @@ use mathlib.Core.Path.{_≡_, sym, ap, subst}
 use mathlib.Core.List.{List}
 use lib.ListN.{length, take, drop, length-append}
 use borrow.Author.Tests.{le-ltb}
-use Rattle.streams.specs.declared.Input.{Input}
-use Rattle.streams.specs.declared.Input.the-variants as input
+use Rattle.streams.specs.declared.StreamRead.{StreamRead}
+use Rattle.streams.specs.declared.StreamRead.the-variants as input
 use Rattle.words.specs.Limits.{office}
 use Rattle.words.specs.Bytes.{readSystemFile}
 use Rattle.report_text.specs.Longest.{reportSpace}
@@ -15,7 +15,7 @@ use Rattle.linkreport.specs.Printing.{Prints}
 
 module _ (file entry exit : List ℕ) (count : ℕ) where
   -- where bytes enough are lent, there is a report
-  pub prints-report : {i : Input} {n : ℕ} → i ≡ input.Bytes n → reportSpace ≤ length entry
+  pub prints-report : {i : StreamRead} {n : ℕ} → i ≡ input.Bytes n → reportSpace ≤ length entry
       → ReportsFile office (take n file) entry exit count → Prints i file entry exit count
   unfolding Prints GivenUnless
   prints-report {n = n} e room report =
@@ -25,12 +25,12 @@ module _ (file entry exit : List ℕ) (count : ℕ) where
       (le-ltb (length entry) reportSpace room)
       report)
 
-  pub prints-nothing : {i : Input} → i ≡ input.Failed → count ≡ 0 → exit ≡ entry → Prints i file entry exit count
+  pub prints-nothing : {i : StreamRead} → i ≡ input.Failed → count ≡ 0 → exit ≡ entry → Prints i file entry exit count
   unfolding Prints
   prints-nothing e none same = subst (λ read. Prints read file entry exit count) (sym e) (none, same)
 
   -- what is printed is among the lent bytes
-  pub prints-most : (i : Input) → Prints i file entry exit count → count ≤ length exit
+  pub prints-most : (i : StreamRead) → Prints i file entry exit count → count ≤ length exit
   unfolding Prints
   prints-most (input.Bytes n) given =
       let length-of = length-append (given .text) (drop (length (given .text)) entry) in

@@ -2,8 +2,8 @@
 use libc::STDERR_FILENO;
 use report::SPACE;
 use report::write_report;
-use streams::Input;
 use streams::SYSTEM_SPACE;
+use streams::StreamRead;
 use streams::print;
 use streams::read_input;
 ghost use Prim.Native.Nat.{_≤_};
@@ -15,13 +15,13 @@ ghost use Rattle.linkreport.specs.Printing.{Prints};
 
 // Writes what is to be printed: the report of the bytes read, or nothing where they could not be read. Returns the number of its
 // bytes.
-fn reply(text: &mut [u8], file: &[u8], input: Input) -> usize
+fn reply(text: &mut [u8], file: &[u8], input: StreamRead) -> usize
     requires { ⌜ (reportSpace ≤ length (now text)) × (systemSpace ≤ length (now file)) × ReadWithin (length (now file)) input ⌝ }
     ensures { λ r. ⌜ Prints input (now (file .entry)) (now (text .entry)) (now (text .exit)) r ⌝ }
 {
     match input {
-        Input::Bytes(n) => write_report(text, &file[..n]),
-        Input::Failed => 0,
+        StreamRead::Bytes(n) => write_report(text, &file[..n]),
+        StreamRead::Failed => 0,
     }
 }
 

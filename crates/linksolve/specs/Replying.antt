@@ -1,24 +1,20 @@
 -- What is handed on of a system: its certificate to standard output, or a refusal to standard error.
-use Prim.Native.Nat.{ℕ, _*_}
+use Prim.Native.Nat.{ℕ}
 use mathlib.Core.Path.{_≡_}
 use mathlib.Core.List.{List}
 use lib.ListN.{take}
-use Rattle.streams.specs.declared.Input.{Input}
-use Rattle.streams.specs.declared.Input.the-variants as input
-use Rattle.words.specs.Limits.{office, longestCertificate}
+use Rattle.streams.specs.declared.StreamRead.{StreamRead}
+use Rattle.streams.specs.declared.StreamRead.the-variants as input
+use Rattle.words.specs.Limits.{office}
 use Rattle.words.specs.Outcome.Outcome.{accepted}
-use Rattle.words.specs.Bytes.{readSystemFile, wordBytes}
+use Rattle.words.specs.Bytes.{readSystemFile}
 use Rattle.answers.specs.Answer.{refusedBy}
 use Rattle.solver.specs.Solving.{certificateBytes, SolvesOr}
 use Rattle.linksolve.specs.declared.Replied.{Replied}
 use Rattle.linksolve.specs.declared.Replied.the-variants as replied
 
--- the bytes of the longest certificate's file: with so many lent, 11 is never said
-abbrev pub certificateSpace : ℕ
-certificateSpace = wordBytes * longestCertificate office
-
 -- the answer to the bytes read; nothing where they could not be read, which is no refusal
-unfoldable pub Replies : Input → (file entry exit : List ℕ) → Replied → Type 0
+unfoldable pub Replies : StreamRead → (file entry exit : List ℕ) → Replied → Type 0
 Replies (input.Bytes n) file entry exit (replied.Certificate count) =
     SolvesOr office certificateBytes (readSystemFile office (take n file)) entry exit (accepted count)
 Replies (input.Bytes n) file entry exit (replied.Refused refusal) =

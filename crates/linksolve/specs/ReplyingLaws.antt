@@ -4,8 +4,9 @@ use mathlib.Core.Path.{_≡_, refl, sym, ap, subst}
 use mathlib.Core.List.{List}
 use lib.ListN.{length, take}
 use borrow.Author.Tests.{le-ltb}
-use Rattle.streams.specs.declared.Input.{Input}
-use Rattle.streams.specs.declared.Input.the-variants as input
+use Rattle.streams.specs.declared.StreamRead.{StreamRead}
+use Rattle.streams.specs.declared.StreamRead.the-variants as input
+use Rattle.streams.specs.Seen.{certificateSpace}
 use Rattle.words.specs.Limits.{office}
 use Rattle.words.specs.Outcome.{Outcome, refuse}
 use Rattle.words.specs.Outcome.Outcome.{accepted, refused}
@@ -19,7 +20,7 @@ use Rattle.solver.specs.Solving.{withRoom, certificateBytes, SolvesOr, SolvesFi
 use Rattle.solver.specs.SolvingLaws.{solves-fits}
 use Rattle.linksolve.specs.declared.Replied.{Replied}
 use Rattle.linksolve.specs.declared.Replied.the-variants as replied
-use Rattle.linksolve.specs.Replying.{certificateSpace, Replies}
+use Rattle.linksolve.specs.Replying.{Replies}
 
 -- with bytes enough lent, what was read is the system to solve
 room-enough : (lent : ℕ) → certificateSpace ≤ lent → (read : Outcome System) → withRoom certificateSpace lent read ≡ read
@@ -27,7 +28,7 @@ room-enough lent h (accepted s) = ap (λ b. refuse b 11 0 (accepted s)) (le-ltb 
 room-enough lent h (refused number place) = refl
 
 module _ (file entry exit : List ℕ) where
-  pub replies-nothing : {i : Input} → i ≡ input.Failed → exit ≡ entry → Replies i file entry exit replied.Nothing
+  pub replies-nothing : {i : StreamRead} → i ≡ input.Failed → exit ≡ entry → Replies i file entry exit replied.Nothing
   unfolding Replies
   replies-nothing e same = subst (λ read. Replies read file entry exit replied.Nothing) (sym e) same
 
@@ -43,7 +44,7 @@ module _ (file entry exit : List ℕ) where
   by-answer n (counted.Count count) solved = solved
   by-answer n (counted.Refused refusal) solved = solved
 
-  module _ {i : Input} {n : ℕ} (e : i ≡ input.Bytes n) (room : certificateSpace ≤ length entry) (answer : Counted)
+  module _ {i : StreamRead} {n : ℕ} (e : i ≡ input.Bytes n) (room : certificateSpace ≤ length entry) (answer : Counted)
       (solved : SolvesFile office (take n file) entry exit (countedOutcome answer)) where
     replies-answer : Replies i file entry exit (handed-on answer)
     replies-answer =
@@ -62,11 +63,11 @@ module _ (file entry exit : List ℕ) where
     replies-refusal a = subst (λ o. Replies i file entry exit (handed-on o)) a replies-answer
 
   -- a certificate is among the lent bytes
-  by-input : (i : Input) (count : ℕ) → Replies i file entry exit (replied.Certificate count) → count ≤ length exit
+  by-input : (i : StreamRead) (count : ℕ) → Replies i file entry exit (replied.Certificate count) → count ≤ length exit
   unfolding Replies
   by-input (input.Bytes n) count solved = solves-fits office _ _ entry exit (accepted count) solved count refl
   by-input input.Failed count none = absurd none
 
-  pub certificate-most : (i : Input) (r : Replied) {count : ℕ} → Replies i file entry exit r → r ≡ replied.Certificate count
+  pub certificate-most : (i : StreamRead) (r : Replied) {count : ℕ} → Replies i file entry exit r → r ≡ replied.Certificate count
       → count ≤ length exit
   certificate-most i r {count} replies e = by-input i count (subst (Replies i file entry exit) e replies)

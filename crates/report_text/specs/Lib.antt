@@ -1,5 +1,5 @@
 -- interface, what contracts, other crates and PROVED.md cite: Ascii, Decimal, DecimalLaws, Text, Longest, Examples, Written,
---   WrittenLaws
+--   WrittenLaws, Verdict
 pub mod Ascii
 pub mod Decimal
 pub mod DecimalLaws
@@ -8,3 +8,4 @@ pub mod Longest
 pub mod Examples
 pub mod Written
 pub mod WrittenLaws
+pub mod Verdict

@@ -41,3 +41,8 @@ appended-whole {s} {before} h f = record {
   bytes = f .bytes ∙ sets-eq s before 0 (rw zero-add h) ∙ ap (λ k. s ++ drop k before) (zero-add (length s));
   count = f .place ∙ zero-add (length s);
 }
+
+-- what is written is among the lent bytes
+pub written-most : {text before after : List ℕ} {n : ℕ} → Written text before after n → n ≤ length after
+written-most {text} {before} written =
+    omega (arith, written .count, ap length (written .bytes), length-append text (drop (length text) before))

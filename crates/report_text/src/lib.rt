@@ -1,17 +1,20 @@
-// The report, written into lent bytes (document 01, "The report"): of a solution, of none, and of a refusal.
+// The report, written into lent bytes (document 01, "The report"): of a solution, of none, and of a refusal. And the line of a
+// verdict.
 use crate::line::append_denominator;
 use crate::line::append_feedback;
 use crate::text::append;
 use crate::text::append_labelled;
 use answers::Refusal;
+use answers::Verdict;
 ghost use Prim.Native.Nat.{_≤_};
 ghost use lib.ListN.{length};
 ghost use Rattle.words.specs.Limits.{office};
 ghost use Rattle.words.specs.Outcome.Outcome.{accepted};
-ghost use Rattle.answers.specs.Answer.{refusedBy};
+ghost use Rattle.answers.specs.Answer.{refusedBy, verdictOutcome};
 ghost use Rattle.truth.specs.Solution.Answer.{none, least};
 ghost use Rattle.report_text.specs.Text.{reportText};
 ghost use Rattle.report_text.specs.Longest.{DenominatorWithin, reportSpace};
+ghost use Rattle.report_text.specs.Verdict.{verdictLine};
 ghost use Rattle.report_text.specs.Written.{Written};
 
 mod line;
@@ -48,4 +51,15 @@ pub fn write_refusal(out: &mut [u8], refusal: Refusal) -> usize
     let numbered = append_labelled(out, 0, b"refused", number);
     let placed = append_labelled(out, numbered, b" at", place);
     append(out, placed, b"\n")
+}
+
+// Writes the line of a verdict. Returns the number of its bytes.
+pub fn write_verdict(out: &mut [u8], verdict: Verdict) -> usize
+    requires { ⌜ reportSpace ≤ length (now out) ⌝ }
+    ensures { λ r. ⌜ Written (verdictLine (verdictOutcome verdict)) (now (out .entry)) (now (out .exit)) r ⌝ }
+{
+    match verdict {
+        Verdict::Accepted => append(out, 0, b"accepted\n"),
+        Verdict::Refused(refusal) => write_refusal(out, refusal),
+    }
 }

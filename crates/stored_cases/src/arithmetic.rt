@@ -1,10 +1,12 @@
-// The arithmetic of residues and polynomials: operations by their codes. What cannot be tried is answered by `skipped`.
+// The arithmetic of residues and polynomials: operations by their codes. Of what cannot be tried there is no line.
+use crate::input::WORDS;
 use crate::input::word;
+use crate::operand::next_operand;
 use crate::operand::read_operand;
 use crate::operand::residue_at;
-use crate::output::line;
 use crate::output::number;
-use crate::output::skipped;
+use crate::output::print;
+use crate::output::separate;
 use crate::output::text;
 use division::gcd;
 use division::quotient;
@@ -17,32 +19,35 @@ ghost use Prim.Native.Nat.{_<_, _≤_};
 ghost use Rattle.residue.specs.Modulus.{ValidModulus};
 ghost use Rattle.polynomial.specs.Value.{polynomialRoom, ValidPolynomial};
 
+// No modulus is greater: it has 16 bits.
+const LARGEST: u32 = 65535;
+
+// Prints one of two lines.
+fn tell(holds: bool, yes: &[u8], no: &[u8]) {
+    if holds {
+        text(yes);
+    } else {
+        text(no);
+    }
+}
+
 // Answers a case: its code, p and operands.
-pub fn answer(case: &[u32]) {
-    let code = word(case, 0);
+pub fn answer(case: &[u32; WORDS]) {
     let p = word(case, 1);
-    if 65535 < p {
-        skipped();
+    if LARGEST < p {
         return;
     }
     let prime = is_prime(p as u16);
+    let code = word(case, 0);
     if code == 1 {
-        if prime {
-            line(b"prime");
-        } else {
-            line(b"not prime");
-        }
-        return;
-    }
-    if prime {
+        tell(prime, b"prime\n", b"not prime\n");
+    } else if prime {
         modulo(case, code, Modulus::new(p as u64));
-    } else {
-        skipped();
     }
 }
 
 // Tries the operation that the code names, modulo a prime.
-fn modulo(case: &[u32], code: u32, modulus: Modulus)
+fn modulo(case: &[u32; WORDS], code: u32, modulus: Modulus)
     requires { ⌜ ValidModulus modulus ⌝ }
 {
     match code {
@@ -52,8 +57,12 @@ fn modulo(case: &[u32], code: u32, modulus: Modulus)
             modulus,
         ),
         5 => multiple(case, modulus),
-        9 => associate(case, modulus),
-        _ => two(case, code, modulus),
+        _ => together(
+            code,
+            read_operand(case, 2, modulus),
+            read_operand(case, next_operand(case, 2), modulus),
+            modulus,
+        ),
     }
 }
 
@@ -61,49 +70,34 @@ fn modulo(case: &[u32], code: u32, modulus: Modulus)
 fn residues(a: u64, b: u64, modulus: Modulus)
     requires { ⌜ ValidModulus modulus × (a < modulus .p) × (b < modulus .p) ⌝ }
 {
-    number(b"", modulus.add(a, b));
-    number(b" ", modulus.sub(a, b));
-    number(b" ", modulus.mul(a, b));
-    number(b" ", modulus.neg(a));
-    if a == 0 {
-        text(b" -");
-    } else {
-        number(b" ", modulus.inverse(a));
-    }
+    let sum = modulus.add(a, b);
+    let difference = modulus.sub(a, b);
+    let product = modulus.mul(a, b);
+    print(b"0 1 2 3 ", [sum, difference, product, modulus.neg(a)]);
+    inverse(a, modulus);
     text(b"\n");
 }
 
+// Prints the inverse of a, `-` for that of 0.
+fn inverse(a: u64, modulus: Modulus)
+    requires { ⌜ ValidModulus modulus × (a < modulus .p) ⌝ }
+{
+    if a == 0 {
+        text(b"-");
+    } else {
+        number(modulus.inverse(a));
+    }
+}
+
 // Prints c f.
-fn multiple(case: &[u32], modulus: Modulus)
+fn multiple(case: &[u32; WORDS], modulus: Modulus)
     requires { ⌜ ValidModulus modulus ⌝ }
 {
-    let c = residue_at(case, 2, modulus);
-    let operand = read_operand(case, 3, modulus);
-    let f = operand.value;
-    show(f.scale(c, modulus));
+    let f = read_operand(case, 3, modulus);
+    show(f.scale(residue_at(case, 2, modulus), modulus));
 }
 
-// Prints f made monic.
-fn associate(case: &[u32], modulus: Modulus)
-    requires { ⌜ ValidModulus modulus ⌝ }
-{
-    let operand = read_operand(case, 2, modulus);
-    let f = operand.value;
-    show(f.monic(modulus));
-}
-
-// Tries an operation on two polynomials.
-fn two(case: &[u32], code: u32, modulus: Modulus)
-    requires { ⌜ ValidModulus modulus ⌝ }
-{
-    let first = read_operand(case, 2, modulus);
-    let second = read_operand(case, first.next, modulus);
-    let f = first.value;
-    let g = second.value;
-    together(code, f, g, modulus);
-}
-
-// Tries the operation that the code names on f and g.
+// Tries the operation that the code names on f and g, or on f alone.
 fn together(code: u32, f: Polynomial, g: Polynomial, modulus: Modulus)
     requires { ⌜ ValidModulus modulus × ValidPolynomial (modulus .p) f × ValidPolynomial (modulus .p) g ⌝ }
 {
@@ -111,8 +105,9 @@ fn together(code: u32, f: Polynomial, g: Polynomial, modulus: Modulus)
         3 => show(f.add(g, modulus)),
         4 => show(f.subtract(g, modulus)),
         6 => product(f, g, modulus),
+        9 => show(f.monic(modulus)),
         10 => show(gcd(f, g, modulus)),
-        11 => compare(f, g),
+        11 => tell(f.equal(g), b"equal\n", b"different\n"),
         _ => by_divisor(code, f, g, modulus),
     }
 }
@@ -123,19 +118,6 @@ fn product(f: Polynomial, g: Polynomial, modulus: Modulus)
 {
     if f.size + g.size <= POLYNOMIAL_ROOM + 1 {
         show(f.multiply(g, modulus));
-    } else {
-        skipped();
-    }
-}
-
-// Prints whether f and g are equal.
-fn compare(f: Polynomial, g: Polynomial)
-    requires { ⌜ (f .size ≤ polynomialRoom) × (g .size ≤ polynomialRoom) ⌝ }
-{
-    if f.equal(g) {
-        line(b"equal");
-    } else {
-        line(b"different");
     }
 }
 
@@ -144,13 +126,12 @@ fn by_divisor(code: u32, f: Polynomial, d: Polynomial, modulus: Modulus)
     requires { ⌜ ValidModulus modulus × ValidPolynomial (modulus .p) f × ValidPolynomial (modulus .p) d ⌝ }
 {
     if d.size == 0 {
-        skipped();
         return;
     }
-    match code {
-        7 => show(remainder(f, d, modulus)),
-        8 => show(quotient(f, d, modulus)),
-        _ => skipped(),
+    if code == 7 {
+        show(remainder(f, d, modulus));
+    } else {
+        show(quotient(f, d, modulus));
     }
 }
 
@@ -158,16 +139,14 @@ fn by_divisor(code: u32, f: Polynomial, d: Polynomial, modulus: Modulus)
 fn show(f: Polynomial)
     requires { ⌜ f .size ≤ polynomialRoom ⌝ }
 {
-    let n = f.size;
-    if n == 0 {
-        text(b"zero");
+    if f.size == 0 {
+        text(b"zero\n");
+        return;
     }
     let mut i = 0;
-    while i < n {
-        if 0 < i {
-            text(b" ");
-        }
-        number(b"", f.coefficients[i]);
+    while i < f.size {
+        separate(i);
+        number(f.coefficients[i]);
         i += 1;
     }
     text(b"\n");

@@ -1,8 +1,7 @@
 // The lookup. What is asked for is one more list of two words: the side, 0 for the system and 1 for the certificate, and the number
 // of the polynomial.
 use crate::input::read_words;
-use crate::input::word;
-use crate::output::number;
+use crate::output::print;
 use crate::output::refused;
 use crate::output::text;
 use crate::output::words;
@@ -14,6 +13,7 @@ use lookup::lookup_part;
 use lookup::lookup_refusal;
 use lookup::part::Part;
 
+// Gives the side that a word asks for.
 fn side_of(n: u32) -> Side {
     if n == 0 {
         Side::System
@@ -22,28 +22,23 @@ fn side_of(n: u32) -> Side {
     }
 }
 
-// Prints from where to where, before the words.
-fn show(part: Part) {
-    match part {
-        Part::Words(from, to) => {
-            number(b"", from as u64);
-            number(b" to ", to as u64);
-            text(b": ");
-        }
-        Part::Refused(_) => {}
-    }
+// Prints from where to where a polynomial stands, and its words.
+fn show<'a>(system: &'a [u32], certificate: &'a [u32], side: Side, number: usize) {
+    let part = lookup_part(system, certificate, side, number, Office::limits());
+    let Part::Words(from, to) = part else {
+        return;
+    };
+    print(b"0 to 1: ", [from as u64, to as u64, 0, 0]);
+    words(lookup(system, certificate, side, number, Office::limits()));
+    text(b"\n");
 }
 
 // Looks up a polynomial.
-fn answer_asked<'a>(system: &'a [u32], certificate: &'a [u32], side: Side, number: usize) {
-    let limits = Office::limits();
-    let found = lookup_refusal(system, certificate, side, number, limits);
+fn look_up<'a>(system: &'a [u32], certificate: &'a [u32], side: Side, number: u32) {
+    let number = number as usize;
+    let found = lookup_refusal(system, certificate, side, number, Office::limits());
     match found {
-        Verdict::Accepted => {
-            show(lookup_part(system, certificate, side, number, limits));
-            words(lookup(system, certificate, side, number, limits));
-            text(b"\n");
-        }
+        Verdict::Accepted => show(system, certificate, side, number),
         Verdict::Refused(refusal) => refused(refusal),
     }
 }
@@ -52,10 +47,5 @@ fn answer_asked<'a>(system: &'a [u32], certificate: &'a [u32], side: Side, numbe
 pub fn answer<'a>(system: &'a [u32], certificate: &'a [u32]) {
     let mut asked = [0u32; 2];
     read_words(&mut asked);
-    answer_asked(
-        system,
-        certificate,
-        side_of(word(&asked, 0)),
-        word(&asked, 1) as usize,
-    );
+    look_up(system, certificate, side_of(asked[0]), asked[1]);
 }

@@ -3,66 +3,60 @@
 use crate::output::text;
 use crate::output::words;
 use answers::Counted;
-use answers::SystemRead;
 use answers::Verdict;
+use answers::word::WORD_BYTES;
 use files::unpacking::unpack;
 use limits::Office;
-use reader::file::read_system_file;
 use report::SPACE;
 use report::write_report;
-use solver::solve;
-use verifier::check;
+use solver::file::solve_file;
+use verifier::file::check_files;
 
-fn is_accepted(verdict: Verdict) -> bool {
+// The bytes of the longest certificate's file.
+const CERTIFICATE_BYTES: usize = WORD_BYTES * Office::CERTIFICATE_WORDS;
+
+// Prints the words of a certificate's file.
+fn show_words(certificate: &[u8]) {
+    let mut ws = [0u32; Office::CERTIFICATE_WORDS];
+    let n = unpack(&mut ws, certificate);
+    words(&ws[0..n]);
+}
+
+// Prints a certificate for a file, if the check accepts it.
+fn show_accepted(file: &[u8], certificate: &[u8]) {
+    text(b"; ");
+    let verdict = check_files(file, certificate);
     match verdict {
-        Verdict::Accepted => true,
-        Verdict::Refused(_) => false,
+        Verdict::Accepted => show_words(certificate),
+        Verdict::Refused(_) => text(b"not accepted"),
     }
 }
 
-// Prints a certificate for these words, if the check accepts it.
-fn show_accepted(system: &[u32], certificate: &[u32]) {
-    if is_accepted(check(system, certificate)) {
-        words(certificate);
-    } else {
-        text(b"not accepted");
-    }
-}
-
-// Prints the certificate that the solver gives for these words.
-fn show_certificate(system: &[u32]) {
-    let mut certificate = [0u32; Office::CERTIFICATE_WORDS];
-    let solved = solve(&mut certificate, system);
-    match solved {
-        Counted::Count(n) => show_accepted(system, &certificate[0..n]),
-        Counted::Refused(_) => text(b"not accepted"),
-    }
-}
-
-// Prints the certificate of the system that the file holds, if it holds one.
+// Prints the certificate that the solver gives for a file, if this holds a system.
 fn show_solved(file: &[u8]) {
-    let read = read_system_file(file);
-    match read {
-        SystemRead::Accepted(_) => {
-            let mut system = [0u32; Office::SYSTEM_WORDS];
-            let n = unpack(&mut system, file);
-            text(b"; ");
-            show_certificate(&system[0..n]);
-        }
-        SystemRead::Refused(_) => {}
+    let mut certificate = [0u8; CERTIFICATE_BYTES];
+    let solved = solve_file(&mut certificate, file);
+    match solved {
+        Counted::Count(n) => show_accepted(file, &certificate[0..n]),
+        Counted::Refused(_) => {}
     }
 }
 
-// Prints a report as one line without its end: `; ` stands for every line end but the last.
+// Prints a byte of a report: `; ` for a line end.
+fn put(byte: u8) {
+    if byte == b'\n' {
+        text(b"; ");
+    } else {
+        text(&[byte]);
+    }
+}
+
+// Prints a report as one line without its end.
 fn show(report: &[u8]) {
     let mut i: usize = 0;
-    while i < report.len() {
-        if report[i] != 10 {
-            text(&report[i..i + 1]);
-        } else if i + 1 < report.len() {
-            text(b"; ");
-        }
-        i = i + 1;
+    while i + 1 < report.len() {
+        put(report[i]);
+        i += 1;
     }
 }
 

@@ -1,11 +1,11 @@
 -- The line is among the bytes lent for it.
 use borrow.Author.Needs.{needs}
-use Rattle.cardcheck.specs.LineLaws.{line-most}
+use Rattle.report_text.specs.WrittenLaws.{written-most}
 use Rattle.cardcheck.proofs.main.Statement.{statement}
 use Rattle.cardcheck.proofs.main.Tie as tie
 
 part-print-end : tie.Need-part-print-end
-part-print-end c = line-most (c .before .before .judge .ensures)
+part-print-end c = written-most (c .before .before .judge .ensures)
 
 pub main-spec : {M : Type 1} → statement M
 main-spec =

@@ -10,7 +10,7 @@ use borrow.Author.Tests.{ltb-false}
 use mir.Syntax.{w64}
 use mir.Val.{Fits, SFits}
 use mir.Facts.{toZ-ofZ}
-use Rattle.cardcheck.specs.Seen.{lengthTold}
+use Rattle.cardcheck.specs.End.{lengthTold}
 use Rattle.cardcheck.proofs.file.length_told.Statement.{statement}
 use Rattle.cardcheck.proofs.file.length_told.Tie as tie
 

@@ -5,7 +5,7 @@ use native.Mathlib.Omega.{arith}
 use borrow.Author.Needs.{needs}
 use borrow.Author.Tests.{leb-true}
 use Rattle.streams.specs.Reading.{ReadWithin}
-use Rattle.cardcheck.specs.Most.{mostBytes, turnBytes}
+use Rattle.cardcheck.specs.End.{turnBytes, mostBytes}
 use Rattle.cardcheck.proofs.file.read_on.Statement.{statement}
 use Rattle.cardcheck.proofs.file.read_on.Tie as tie
 
@@ -13,7 +13,7 @@ abbrev Inv-loop : tie.InvT-loop
 Inv-loop fd count length₀ last₀ length last = last ≤ turnBytes
 
 abbrev μ-loop : tie.MeasureT-loop
-μ-loop fd count length₀ last₀ length last = (1 + mostBytes - length) + last
+μ-loop fd count length₀ last₀ length last = (mostBytes + 1 - length) + last
 
 module _ (c : tie.After-known-told Inv-loop μ-loop) where
   -- what a turn reads

@@ -6,8 +6,8 @@ use lib.Seq.{length-take-le}
 use borrow.Author.Needs.{needs}
 use Rattle.words.specs.Limits.{office}
 use Rattle.verifier.specs.File.{fileVerdict}
-use Rattle.cardcheck.specs.LineLaws.{same-line}
-use Rattle.cardcheck.specs.SeenLaws.{seen-most}
+use Rattle.report_text.specs.Verdict.{same-line}
+use Rattle.streams.specs.Seen.{seen-most}
 use Rattle.cardcheck.proofs.line.judge.Statement.{statement}
 use Rattle.cardcheck.proofs.line.judge.Tie as tie
 

@@ -6,10 +6,10 @@ use Rattle.stored_cases.proofs.output.words.Statement.{statement}
 use Rattle.stored_cases.proofs.output.words.Tie as tie
 
 abbrev Inv-loop : tie.InvT-loop
-Inv-loop ws i₀ t3 i = Unit {0}
+Inv-loop ws i₀ i = Unit {0}
 
 abbrev μ-loop : tie.MeasureT-loop
-μ-loop ws i₀ t3 i = length ws - i
+μ-loop ws i₀ i = length ws - i
 
 pub words-spec : {M : Type 1} → statement M
 words-spec =
@@ -17,7 +17,6 @@ words-spec =
     (tie.spec
     Inv-loop
     μ-loop
-    (λ c. search needs)
     (λ c. search needs)
     (λ c κs. search needs)
     (λ c. search needs)

@@ -1,17 +1,19 @@
 -- By the verdict.
 use mathlib.Core.Path.{sym, ap}
+use native.Mathlib.Omega.{arith}
 use borrow.Author.Needs.{needs}
 use Rattle.answers.specs.Answer.{verdictOutcome}
-use Rattle.cardcheck.specs.Line.{verdictLine}
-use Rattle.cardcheck.specs.LineLaws.{same-line}
-use Rattle.cardcheck.proofs.line.write_verdict.Statement.{statement}
-use Rattle.cardcheck.proofs.line.write_verdict.Tie as tie
+use Rattle.report_text.specs.Verdict.{verdictLine, same-line}
+use Rattle.report_text.specs.WrittenLaws.{appended-whole}
+use Rattle.report_text.proofs.write_verdict.Statement.{statement}
+use Rattle.report_text.proofs.write_verdict.Tie as tie
 
 returns : tie.Need-returns
 unfolding verdictLine
 returns c =
-    same-line (sym (ap verdictOutcome (c .before .before .before .before .before .enum-told .given .1)))
-    (c .before .before .put .ensures)
+    let told = c .before .before .before .before .before in
+    same-line (sym (ap verdictOutcome (told .enum-told .given .1)))
+    (appended-whole (omega (arith, told .before .before .before .pre)) (c .before .before .append .ensures))
 
 returns-2 : tie.Need-returns-2
 unfolding verdictLine

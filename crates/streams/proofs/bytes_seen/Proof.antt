@@ -1,8 +1,8 @@
 -- By whether the file would fill the space.
 use borrow.Author.Needs.{needs}
 use borrow.Author.Tests.{lt-ltb, le-ltb}
-use Rattle.cardcheck.proofs.line.bytes_seen.Statement.{statement}
-use Rattle.cardcheck.proofs.line.bytes_seen.Tie as tie
+use Rattle.streams.proofs.bytes_seen.Statement.{statement}
+use Rattle.streams.proofs.bytes_seen.Tie as tie
 
 returns : tie.Need-returns
 returns c = simp (lt-ltb _ _ (c .if1 .taken))

@@ -1,0 +1,2 @@
+-- inside: Places
+pub mod Places
