@@ -1,7 +1,6 @@
--- interface, what contracts, other crates and PROVED.md cite: Operations, Coefficients, Transfer, Field, Series, Pullback,
+-- interface, what contracts, other crates and documents cite: Operations, Coefficients, Transfer, Field, Series, Pullback,
 --   Coefficient, Canonical, Polynomial, Expressions, Sized, Size, Cancellation, Division, Divides, Exact, Monic, Bezout, Gcd,
 --   Coprime, Lcm
--- what contracts cite
 pub mod Operations
 pub mod Coefficients
 -- the same over other coefficients

@@ -1,4 +1,5 @@
--- interface: what the answers of the code say; answers, heads and the version as one number
+-- interface, what contracts, other crates and documents cite: Answer, Packed, Heads, Version
+-- what the answers of the code say; answers, heads and the version as one number
 pub mod Answer
 pub mod Packed
 pub mod Heads

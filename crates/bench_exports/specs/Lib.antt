@@ -1,2 +1,2 @@
--- interface, what contracts, other crates and PROVED.md cite: Rounds
+-- interface, what contracts, other crates and documents cite: Rounds
 pub mod Rounds

@@ -1,4 +1,4 @@
--- interface, what contracts and PROVED.md cite: Name, End, SeenLaws
+-- interface, what contracts, other crates and documents cite: Name, End, SeenLaws
 pub mod Name
 pub mod End
 pub mod SeenLaws

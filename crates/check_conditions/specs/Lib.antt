@@ -1,7 +1,8 @@
--- interface: the areas of the check, the values that they hold, and what follows for what was loaded
+-- interface, what contracts, other crates and documents cite: Areas, AreaLaws, Products, Table
+-- the areas of the check, the values that they hold, and what follows for what was loaded
 pub mod Areas
 pub mod AreaLaws
--- inside: products of two slots
+-- products of two slots
 pub mod Products
--- interface: the rows 31 to 36 one by one, and that the verdict is these in their order
+-- the rows 31 to 36 one by one, and that the verdict is these in their order
 pub mod Table

@@ -1,3 +1,3 @@
--- interface, what contracts, other crates and PROVED.md cite: Value, Counts
+-- interface, what contracts, other crates and documents cite: Value, Counts
 pub mod Value
 pub mod Counts

@@ -1,15 +1,18 @@
--- interface: what is told of files and values, and what calls leave of it
+-- interface, what contracts, other crates and documents cite: Files, Giving, Refusals, Unpacked, RefusedLaws, ToldLaws, FilesLaws,
+--   WritingLaws, Examples
+-- inside: GivingLaws
+-- what is told of files and values, and what calls leave of it
 pub mod Files
 pub mod Giving
--- interface: an answer as one number, taken apart
+-- an answer as one number, taken apart
 pub mod Refusals
 pub mod Unpacked
--- interface: what they refuse; what is told in the terms of the words; numbers and places of refusals; what is written
+-- what they refuse; what is told in the terms of the words; numbers and places of refusals; what is written
 pub mod RefusedLaws
 pub mod ToldLaws
 pub mod FilesLaws
 pub mod WritingLaws
--- interface: a case that PROVED.md cites
+-- a case that PROVED.md cites
 pub mod Examples
--- inside: what a call leaves, case by case
+-- what a call leaves, case by case
 pub mod GivingLaws

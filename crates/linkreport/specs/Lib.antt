@@ -1,4 +1,4 @@
--- interface, what contracts and PROVED.md cite: Printing
+-- interface, what contracts, other crates and documents cite: Printing
 -- inside: PrintingLaws
 pub mod Printing
 pub mod PrintingLaws

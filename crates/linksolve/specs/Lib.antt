@@ -1,4 +1,4 @@
--- interface, what contracts and PROVED.md cite: Replying
+-- interface, what contracts, other crates and documents cite: Replying
 -- inside: ReplyingLaws
 pub mod Replying
 pub mod ReplyingLaws

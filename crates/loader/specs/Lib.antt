@@ -1,4 +1,4 @@
--- interface, what contracts, other crates and PROVED.md cite: Widths, Slot, SlotLaws, StoredLaws
+-- interface, what contracts, other crates and documents cite: Widths, Slot, SlotLaws, StoredLaws
 pub mod Widths
 pub mod Slot
 pub mod SlotLaws

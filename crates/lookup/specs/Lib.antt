@@ -1,4 +1,4 @@
--- interface, what contracts, other crates and PROVED.md cite: Lookup, Answer, Examples, Standing, LookupLaws, RefusedLaws
+-- interface, what contracts, other crates and documents cite: Lookup, Answer, Examples, Standing, LookupLaws, RefusedLaws
 pub mod Lookup
 pub mod Answer
 pub mod Examples

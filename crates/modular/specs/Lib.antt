@@ -1,6 +1,6 @@
--- interface, what contracts, other crates and PROVED.md cite: Bits, Prime, Primality, LargestPrime, Remainder, Modulo,
---   Inverse, Residue, Canonical, Closed, Coefficientwise, Product, Values, Arithmetic, Numbers, Carried, SizeLaws, DivisionLaws,
---   MonicLaws, GcdLaws, Lists
+-- interface, what contracts, other crates and documents cite: Bits, Prime, Primality, LargestPrime, Remainder, Modulo, Inverse,
+--   Residue, Canonical, Closed, Coefficientwise, Product, Values, Arithmetic, Numbers, Carried, SizeLaws, DivisionLaws, MonicLaws,
+--   GcdLaws, Lists
 -- inside: Total, Entries, Length, Step, LcmLaws, Examples
 pub mod Bits
 pub mod Prime

@@ -1,2 +1,2 @@
--- interface, what contracts, other crates and PROVED.md cite: Value
+-- interface, what contracts, other crates and documents cite: Value
 pub mod Value

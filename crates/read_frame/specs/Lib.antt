@@ -1,2 +1,3 @@
--- interface: what is due behind a head
+-- interface, what contracts, other crates and documents cite: Due
+-- what is due behind a head
 pub mod Due

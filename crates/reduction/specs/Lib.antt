@@ -1,9 +1,9 @@
--- interface, what contracts, other crates and PROVED.md cite: Replace, Total, Pivot, Slots, Span, Independence, Euclidean,
---   Moves, Tails, Trace, Kept, Insert, Inserting, Division, System, Link, Column, Filling, Levels, Descent, Numerators,
---   Reduced, Dual, Transpose, Second, Popov, Certificate, Certifying, Killing, Solution, Unfinished, Absence, Existence,
---   Polynomials, Holds, Flat, Held
--- inside: Step, Row, Least, Dependence, Lowering, Reducing, Clearing, LowerBounds, Run, RunSecond, RunLevels, RunDescent,
---   RunPopov, Square, Joint, Lines, Units, Gathering
+-- interface, what contracts, other crates and documents cite: Replace, Total, Pivot, Slots, Span, Independence, Euclidean, Moves,
+--   Tails, Trace, Kept, Insert, Inserting, Division, System, Link, Column, Filling, Levels, Descent, Numerators, Reduced, Dual,
+--   Transpose, Second, Popov, Certificate, Certifying, Killing, Solution, Unfinished, Absence, Existence, Polynomials, Holds, Flat,
+--   Held
+-- inside: Step, Row, Least, Dependence, Lowering, Reducing, Clearing, LowerBounds, Run, RunSecond, RunLevels, RunDescent, RunPopov,
+--   Square, Joint, Lines, Units, Gathering
 -- Beside mathematics.md, from the bottom up.
 -- functions of an index, sums of numbers
 pub mod Replace

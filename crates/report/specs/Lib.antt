@@ -1,4 +1,4 @@
--- interface, what contracts, other crates and PROVED.md cite: Reporting, ReportingLaws, Cases
+-- interface, what contracts, other crates and documents cite: Reporting, ReportingLaws, Cases
 pub mod Reporting
 pub mod ReportingLaws
 pub mod Cases

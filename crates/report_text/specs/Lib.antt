@@ -1,4 +1,4 @@
--- interface, what contracts, other crates and PROVED.md cite: Ascii, Decimal, DecimalLaws, Text, Longest, Examples, Written,
+-- interface, what contracts, other crates and documents cite: Ascii, Decimal, DecimalLaws, Text, Longest, Examples, Written,
 --   WrittenLaws, Verdict
 pub mod Ascii
 pub mod Decimal

@@ -1,4 +1,4 @@
--- interface, what contracts, other crates and PROVED.md cite: Modulus, Barrett, Below, Sum
+-- interface, what contracts, other crates and documents cite: Modulus, Barrett, Below, Sum
 -- inside: Primality
 pub mod Modulus
 pub mod Barrett

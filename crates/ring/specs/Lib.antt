@@ -1,4 +1,4 @@
--- interface, what contracts, other crates and PROVED.md cite: Ring, Identity, Combination, Sum, Total
+-- interface, what contracts, other crates and documents cite: Ring, Identity, Combination, Sum, Total
 -- inside: Solver, Examples
 pub mod Ring
 pub mod Solver

@@ -1,18 +1,21 @@
--- inside: the right side at the top; what is asked of it
+-- interface, what contracts, other crates and documents cite: Witnessed, Inserted, Denominator, Solution, Absence, Certifies,
+--   Ready, Dropping, Filling, Rising, Falling
+-- inside: Words, Found, Ascended, Extending, Undoing, Top, Empty, Bottom
+-- the right side at the top; what is asked of it
 pub mod Witnessed
--- inside: laws on words
+-- laws on words
 pub mod Words
--- inside: the right side inserted
+-- the right side inserted
 pub mod Inserted
--- inside: its two ends
+-- its two ends
 pub mod Denominator
 pub mod Solution
 pub mod Absence
--- inside: that both are what is asked
+-- that both are what is asked
 pub mod Found
--- interface: what the solver's loops do as a whole
+-- what the solver's loops do as a whole
 pub mod Certifies
--- inside: the columns from one on
+-- the columns from one on
 pub mod Ascended
 pub mod Ready
 -- up and down, whatever the column does

@@ -1,4 +1,4 @@
--- interface, what contracts, other crates and PROVED.md cite: Held, Product, Degrees, Combination, Kernel, Coordinate, Blocks,
+-- interface, what contracts, other crates and documents cite: Held, Product, Degrees, Combination, Kernel, Coordinate, Blocks,
 --   Column, Turn, Multiple, Lowering
 -- inside: Read
 -- Words in lanes, one lane or eight: a product taken off them, one lane taken out, and negatives.

@@ -1,5 +1,5 @@
--- interface, what contracts, other crates and PROVED.md cite: Room, Word, Memory, Holding, Range, LaneStored, Sums, Found,
---   Reading, SameBlocks, Step, Monomial, Quotients, Coefficients, Remainder, Moves, Lanes, Insertion, Stage, Input, Output
+-- interface, what contracts, other crates and documents cite: Room, Word, Memory, Holding, Range, LaneStored, Sums, Found, Reading,
+--   SameBlocks, Step, Monomial, Quotients, Coefficients, Remainder, Moves, Lanes, Insertion, Stage, Input, Output
 -- inside: Noted, Leading
 -- what stands in memory
 pub mod Room

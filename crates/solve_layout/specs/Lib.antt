@@ -1,4 +1,4 @@
--- interface, what contracts, other crates and PROVED.md cite: Column, Matrix
+-- interface, what contracts, other crates and documents cite: Column, Matrix
 -- inside: Laying
 pub mod Column
 pub mod Matrix

@@ -1,4 +1,4 @@
--- interface, what contracts, other crates and PROVED.md cite: Copied, Settled, Linked, Begun, Started, Next, Column, Filled
+-- interface, what contracts, other crates and documents cite: Copied, Settled, Linked, Begun, Started, Next, Column, Filled
 -- inside: Cleared
 -- The levels of the solver in memory: a column that is inserted makes the next one.
 pub mod Copied

@@ -1,5 +1,5 @@
--- interface, what contracts, other crates and PROVED.md cite: SystemIn, Laid, Taken, Equations, LaidLaws, SystemInLaws,
---   TakenLaws, TakenChosen, Answers, Existence, ChosenUnique
+-- interface, what contracts, other crates and documents cite: SystemIn, Laid, Taken, Equations, LaidLaws, SystemInLaws, TakenLaws,
+--   TakenChosen, Answers, ChosenUnique, Existence
 -- inside: Listed, Lists, Vectors, RightLists, PivotLists, ChosenLists
 -- the system in the input area, and the certificate in the output area
 pub mod Listed

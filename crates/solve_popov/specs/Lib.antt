@@ -1,4 +1,4 @@
--- interface, what contracts, other crates and PROVED.md cite: Words, Rework, Short
+-- interface, what contracts, other crates and documents cite: Words, Rework, Short
 -- inside: Reduced, SlotStored
 -- words that are copied, and how many hold a polynomial
 pub mod Words

@@ -1,6 +1,6 @@
--- interface, what contracts, other crates and PROVED.md cite: Monic, Product, ProductLaws, Greatest, Words, Laid,
---   TransposeFilling, SideFilling, WithRow, Side, Solved, Denominator, QuotientRows
--- inside: Same, OtherTails, Negated, Reduced, MonicLaws, Cells, Transposed, ValidTransposed, Spread, Filling, RowLaid,
+-- interface, what contracts, other crates and documents cite: Monic, Product, ProductLaws, Greatest, Words, Laid, TransposeFilling,
+--   SideFilling, WithRow, Side, Solved, Denominator, QuotientRows
+-- inside: Negated, Reduced, MonicLaws, Cells, Transposed, ValidTransposed, Spread, Filling, Same, OtherTails, RowLaid,
 --   SideInserted, SecondDual, Scaled, DividedSecond, SecondEnds
 -- what the products ensure
 pub mod Monic

@@ -1,2 +1,2 @@
--- inside: Places
+-- interface, what contracts, other crates and documents cite: Places
 pub mod Places

@@ -1,4 +1,4 @@
--- interface, what contracts, other crates and PROVED.md cite: Reading, SystemSpace, Seen
+-- interface, what contracts, other crates and documents cite: Reading, SystemSpace, Seen
 pub mod Reading
 pub mod SystemSpace
 pub mod Seen

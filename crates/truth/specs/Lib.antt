@@ -1,4 +1,4 @@
--- interface, what contracts, other crates and PROVED.md cite: Solution, Listed, Right, Chosen, Verdict, Lift, Truth, RefusalLaws,
+-- interface, what contracts, other crates and documents cite: Solution, Listed, Right, Chosen, Verdict, Lift, Truth, RefusalLaws,
 --   Accepted, Demand, Denominators, Cases, ChosenCases, RowExamples, Prefix, Fractions, Certified, CertifiedLaws, CertifiedWords,
 --   TurnedBack, DemandLaws, RefusedWords, CertifiedTruth
 -- inside: Witness, TurnedBackLaws

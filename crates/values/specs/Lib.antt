@@ -1,4 +1,4 @@
--- interface, what contracts, other crates and PROVED.md cite: Laid, Loading, HeldLaws, LoadedLaws, RefusedLaws, RoundTrip, Examples
+-- interface, what contracts, other crates and documents cite: Laid, Loading, HeldLaws, LoadedLaws, RefusedLaws, RoundTrip, Examples
 -- inside: LaidLaws
 pub mod Laid
 pub mod LaidLaws

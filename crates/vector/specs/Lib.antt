@@ -1,6 +1,6 @@
--- interface, what contracts, other crates and PROVED.md cite: Or, Sum, RowStored, Stored, Reduced, Multiple, Bound, Size, Moved,
--- Decides, Product, Long
--- inside: Row, Examples
+-- interface, what contracts, other crates and documents cite: Or, Sum, RowStored, Stored, Reduced, Multiple, Bound, Size, Decides,
+--   Product, Long
+-- inside: Row, Moved, Examples
 -- Eight words at once: what the loops on long ranges do in one turn.
 pub mod Or
 pub mod Sum

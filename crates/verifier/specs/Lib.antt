@@ -1,4 +1,4 @@
--- interface, what contracts, other crates and PROVED.md cite: File, FileLaws, Checked, FilesRefused
+-- interface, what contracts, other crates and documents cite: File, FileLaws, Checked, FilesRefused
 pub mod File
 pub mod FileLaws
 pub mod Checked

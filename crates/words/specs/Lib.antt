@@ -1,8 +1,8 @@
--- interface, what contracts, other crates and PROVED.md cite: Limits, Word, Outcome, OutcomeLaws, Reading, Polynomial, Frame,
+-- interface, what contracts, other crates and documents cite: Limits, Word, Outcome, OutcomeLaws, Reading, Polynomial, Frame,
 --   System, Certificate, Bytes, Examples, WordLaws, ReadingLaws, PolynomialLaws, FrameLaws, FormatLaws, LimitsLaws, VectorLaws,
---   SystemHeadLaws, SystemLaws, CertificateLaws, LongestLaws, WidthLaws, BytesLaws, ForwardLaws, PlaceLaws, PrefixLaws,
---   Table, FirstFault, TenFirst, RefusedLaws, Rows, RowLaws, PolynomialRows, PolynomialsRefused, TableExamples, Pair, PairLaws,
---   Starts, FramedLaws
+--   SystemHeadLaws, SystemLaws, CertificateLaws, LongestLaws, WidthLaws, BytesLaws, ForwardLaws, PlaceLaws, PrefixLaws, Rows,
+--   RowLaws, PolynomialRows, Table, FirstFault, TenFirst, PolynomialsRefused, RefusedLaws, TableExamples, Pair, PairLaws, Starts,
+--   FramedLaws
 -- inside: TableLaws, PassLaws, CompleteLaws, OnTableLaws, FirstFaultLaws
 pub mod Limits
 pub mod Word

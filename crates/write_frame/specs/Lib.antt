@@ -1,13 +1,15 @@
--- interface: how polynomials lie in arrays, what code can write of them, and the lent words afterwards
+-- interface, what contracts, other crates and documents cite: Values, Framing, Overwriting, ValuesLaws, Trial, TrialLaws, Fault,
+--   FaultLaws
+-- how polynomials lie in arrays, what code can write of them, and the lent words afterwards
 pub mod Values
 pub mod Framing
 pub mod Overwriting
--- interface: laws of these
+-- laws of these
 pub mod ValuesLaws
--- interface: what trying polynomials gives
+-- what trying polynomials gives
 pub mod Trial
--- interface: laws of it
+-- laws of it
 pub mod TrialLaws
--- interface: the first value at fault, and that trials refuse just it
+-- the first value at fault, and that trials refuse just it
 pub mod Fault
 pub mod FaultLaws
