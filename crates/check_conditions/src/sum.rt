@@ -34,7 +34,8 @@ pub fn sum_of_products(
     requires system { ⌜ ((k : ℕ) → k < count → SlotFilled (modulus .p) systemWidth (now system) (first + k * step)) ⌝ }
     requires certificate { ⌜ ((k : ℕ) → k < count → SlotFilled (modulus .p) certificateWidth (now certificate) (start + k)) ⌝ }
     ensures { λ r. ⌜ Represents (modulus .p) r
-        (totalModulo (modulus .p) count (product (modulus .p) (now (system .entry)) first step (now (certificate .entry)) start)) ⌝ }
+        (totalModulo (modulus .p) count
+        (product (modulus .p) (now (system .entry)) first step (now (certificate .entry)) start)) ⌝ }
 {
     let mut h = zeros();
     let mut k = 0;

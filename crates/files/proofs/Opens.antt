@@ -30,7 +30,8 @@ module _ (limits : Limits) (f g before before′ : List ℕ) where
   none-opened : filesBroken limits f g ≡ true → OpensNone limits f g before before′ before before′ 10 0
   none-opened e = record { either-broken = e; number-ten = refl; place-zero = refl; system-stays = refl; certificate-stays = refl }
 
-  pub first-refused : turnedBack (wordBytes * longestSystem limits) f ≡ true → OpensNone limits f g before before′ before before′ 10 0
+  pub first-refused : turnedBack (wordBytes * longestSystem limits) f ≡ true
+      → OpensNone limits f g before before′ before before′ 10 0
   first-refused h = none-opened (ap (λ b. b || broken g) h)
 
   -- a certificate's file has no limit

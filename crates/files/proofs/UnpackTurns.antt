@@ -36,7 +36,8 @@ module _ (bytes before : List ℕ) (count : ℕ) (words : List ℕ) (i : ℕ) (h
       let k = h .reached in
       ap length (h .words) ∙ filled-length (wordsOf bytes) before i (omega (arith, length-wordsOf bytes)) (omega arith)
 
-  pub unpack-next : (w : ℕ) → i < count → w ≡ wordAt bytes (wordBytes * i) → WordsUnpacked bytes before count (set words i w) (i + 1)
+  pub unpack-next : (w : ℕ) → i < count → w ≡ wordAt bytes (wordBytes * i)
+      → WordsUnpacked bytes before count (set words i w) (i + 1)
   unpack-next w more e =
       let r = unpack-room in
       record {

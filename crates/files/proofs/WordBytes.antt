@@ -51,8 +51,10 @@ module _ (ws lent : List ℕ) (count : ℕ) (few : count ≡ min (length ws) (le
       (omega arith, omega arith)
 
   pub bytes-next : (now : List ℕ) (i : ℕ) → BytesWritten ws lent count now i → i < count → (after : List ℕ)
-      → after ≡ set (set (set (set now (wordBytes * i) (getD ws i 0 % bound8)) (wordBytes * i + 1) (getD ws i 0 / secondByte % bound8))
-      (wordBytes * i + 2) (getD ws i 0 / thirdByte % bound8)) (wordBytes * i + 3) (getD ws i 0 / fourthByte) → BytesWritten ws lent count after (i + 1)
+      → after ≡ set (set (set (set now (wordBytes * i) (getD ws i 0 % bound8))
+      (wordBytes * i + 1) (getD ws i 0 / secondByte % bound8))
+      (wordBytes * i + 2) (getD ws i 0 / thirdByte % bound8))
+      (wordBytes * i + 3) (getD ws i 0 / fourthByte) → BytesWritten ws lent count after (i + 1)
   bytes-next now i t more after is =
       let r = count-room in
       let n = length-bytesOf ws in

@@ -14,7 +14,8 @@ module _ {ws before after : List ℕ} {count : ℕ} (written : WritesBytes ws be
     (room : wordBytes * length ws ≤ length before) where
   pub written-count : count ≡ length (bytesOf ws)
   written-count =
-      written .number ∙ ap (λ n. wordBytes * n) (min-eq-left {m = length before / wordBytes} (omega arith)) ∙ sym (length-bytesOf ws)
+      written .number ∙ ap (λ n. wordBytes * n) (min-eq-left {m = length before / wordBytes} (omega arith))
+      ∙ sym (length-bytesOf ws)
 
   pub written-all : after ≡ bytesOf ws ++ drop (length (bytesOf ws)) before
   written-all =

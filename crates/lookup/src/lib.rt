@@ -45,7 +45,8 @@ pub fn lookup_part(
     limits: Limits,
 ) -> Part
     ensures { λ r. ⌜ partOutcome r ≡
-        boundsShown (polynomialLookup (limitsOf limits) (now (system .entry)) (now (certificate .entry)) (sideAsked side) number) ⌝ }
+        boundsShown
+        (polynomialLookup (limitsOf limits) (now (system .entry)) (now (certificate .entry)) (sideAsked side) number) ⌝ }
 {
     let read = read_system(system, limits);
     match read {
