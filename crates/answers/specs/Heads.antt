@@ -3,10 +3,11 @@ use Prim.Native.Nat.{ℕ, _+_, _*_, _/_, _%_, _≤_}
 use mathlib.Core.Path.{_≡_, refl, ap, _∙_}
 use native.Mathlib.Omega.{arith}
 use lib.ListN.{getD}
+use Rattle.modular.specs.Bits.{bound4, most4}
 use Rattle.words.specs.Limits.{Limits}
 use Rattle.words.specs.LimitsLaws.{LimitsFit}
 use Rattle.words.specs.Word.{payload}
-use Rattle.words.specs.System.{System, Shape, ShapeWithin, shape, systemWords, rowUnit, columnUnit, countBound, countMost}
+use Rattle.words.specs.System.{System, Shape, ShapeWithin, shape, systemWords, rowUnit, columnUnit}
 use Rattle.words.specs.Certificate.{Certificate, Form, certificateForm, certificateWords}
 use Rattle.words.specs.Certificate.Form.{solving, absent}
 use Rattle.words.specs.Certificate.Certificate.{solution, absence}
@@ -21,21 +22,21 @@ kindNumber absent = 2
 module _ (limits : Limits) (fit : LimitsFit limits) where
   -- p, n and m can be taken out of the number
   pub shape-apart : (h : Shape) → ShapeWithin limits h
-      → (shapeNumber h % rowUnit ≡ h .modulus) × (shapeNumber h / rowUnit % countBound ≡ h .rows)
-      × (shapeNumber h / columnUnit % countBound ≡ h .columns)
+      → (shapeNumber h % rowUnit ≡ h .modulus) × (shapeNumber h / rowUnit % bound4 ≡ h .rows)
+      × (shapeNumber h / columnUnit % bound4 ≡ h .columns)
   shape-apart h within =
-      let rows : h .rows ≤ countMost = omega (arith, within .rows .1, fit .rows) in
-      let columns : h .columns ≤ countMost = omega (arith, within .columns .1, fit .columns) in
+      let rows : h .rows ≤ most4 = omega (arith, within .rows .1, fit .rows) in
+      let columns : h .columns ≤ most4 = omega (arith, within .columns .1, fit .columns) in
       let p = within .modulus in
-      let above : shapeNumber h / rowUnit ≡ h .rows + h .columns * countBound = omega arith in
-      (omega arith, ap (λ (q : ℕ). q % countBound) above ∙ omega arith, omega arith)
+      let above : shapeNumber h / rowUnit ≡ h .rows + h .columns * bound4 = omega arith in
+      (omega arith, ap (λ (q : ℕ). q % bound4) above ∙ omega arith, omega arith)
 
   -- and it is what the head has beside its kind
   pub shape-written : (s : System) → ShapeWithin limits (shape s) → shapeNumber (shape s) ≡ payload (getD (systemWords s) 0 0)
   unfolding systemWords
   shape-written s within =
-      let rows : s .rows ≤ countMost = omega (arith, within .rows .1, fit .rows) in
-      let columns : s .columns ≤ countMost = omega (arith, within .columns .1, fit .columns) in
+      let rows : s .rows ≤ most4 = omega (arith, within .rows .1, fit .rows) in
+      let columns : s .columns ≤ most4 = omega (arith, within .columns .1, fit .columns) in
       let p = within .modulus in
       omega arith
 

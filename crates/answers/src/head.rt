@@ -16,7 +16,7 @@ pub const COLUMN_UNIT: u32 = 1048576;
 pub const ZERO_UNIT: u32 = 16777216;
 
 // Rows, columns and the zeros have four bits each: they are below this.
-pub const COUNT_BOUND: u32 = 16;
+pub const BOUND_4: u32 = 16;
 
 // Packs modulus, rows and columns as a count is packed.
 pub fn pack_shape(shape: Shape) -> u64

@@ -21,8 +21,8 @@ pub const WORD_BYTES: usize = 4;
 pub const BYTE_BOUND: u32 = 256;
 
 // One more in the second, the third and the fourth byte is so much more.
-pub const SECOND_BYTE: u32 = 256;
+pub const SECOND_BYTE_UNIT: u32 = 256;
 
-pub const THIRD_BYTE: u32 = 65536;
+pub const THIRD_BYTE_UNIT: u32 = 65536;
 
-pub const FOURTH_BYTE: u32 = 16777216;
+pub const FOURTH_BYTE_UNIT: u32 = 16777216;

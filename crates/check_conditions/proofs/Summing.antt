@@ -9,13 +9,13 @@ use lib.ListN.{length, getD}
 use Rattle.algebra.specs.Coefficients.{add, mul}
 use Rattle.modular.specs.Modulo.{modulo}
 use Rattle.modular.specs.Canonical.{Canonical}
-use Rattle.modular.specs.LargestPrime.{largestPrime}
+use Rattle.modular.specs.LargestPrime.{largestModulus}
 use Rattle.words.specs.Limits.{office}
 use Rattle.residue.specs.Sum.{SmallSum}
 use Rattle.vector.specs.Bound.{AtMost}
 use Rattle.vector.specs.Reduced.{polynomial}
 use Rattle.polynomial.specs.Value.{polynomialRoom, value-polynomial}
-use Rattle.vector.specs.Product.{sumMost, GainsProduct}
+use Rattle.polynomial_words.specs.Product.{sumMost, GainsProduct}
 use Rattle.polynomial.proofs.Made.{represents-zero}
 use Rattle.truth.specs.Solution.{totalModulo}
 use Rattle.loader.specs.SlotLaws.{canonical-word, canonical-polynomial}
@@ -44,7 +44,7 @@ module _ (p : ℕ) (positive : 0 < p) (term : ℕ → List ℕ) (count : ℕ) wh
     products : count ≤ longestSum → k * (office .systemCoefficients * (p * p)) ≤ longestSum * (office .systemCoefficients * (p * p))
     products few = mul-le-mul-right (office .systemCoefficients * (p * p)) (omega (arith, so-far .within))
 
-    pub summing-fits : count ≤ longestSum → p ≤ largestPrime → AtMost sumMost h
+    pub summing-fits : count ≤ longestSum → p ≤ largestModulus → AtMost sumMost h
     summing-fits few limit i = omega (arith, so-far .bound i, products few, mul-le-mul limit limit)
 
     pub summing-small : count ≤ longestSum → (i : ℕ) → SmallSum p (getD h i 0)

@@ -8,7 +8,7 @@ use Rattle.algebra.specs.Coefficients.{leading}
 use Rattle.modular.specs.Modulo.{modulo}
 use Rattle.polynomial.specs.declared.value.Polynomial.{Polynomial}
 use Rattle.polynomial.specs.Value.{coefficientsOf, Represents}
-use Rattle.vector.specs.Decides.{Decides, decides-same}
+use Rattle.polynomial_words.specs.Decides.{Decides, decides-same}
 use Rattle.truth.specs.Verdict.{zero?, same?, monic?}
 use Rattle.truth.specs.RefusalLaws.{zero?-true, zero?-false, same?-true, true-same?}
 

@@ -9,7 +9,7 @@ use Rattle.modular.specs.Modulo.{modulo}
 use Rattle.modular.specs.Canonical.{Canonical}
 use Rattle.polynomial.specs.declared.value.Polynomial.{Polynomial}
 use Rattle.polynomial.specs.Value.{coefficientsOf, ValidPolynomial, word-below}
-use Rattle.vector.specs.Long.{Divisor, LongDivided}
+use Rattle.polynomial_words.specs.Long.{Divisor, LongDivided}
 
 module _ (p : ℕ) (positive : 0 < p) (d : Polynomial) (valid : ValidPolynomial p d) (some : 0 < d .size) where
   all-coefficients : take (d .size - 1 + 1) (d .coefficients) ≡ coefficientsOf d

@@ -1,8 +1,8 @@
 // Division of polynomials modulo a prime, and what is made of it: remainder, quotient and greatest common divisor.
 use polynomial::Polynomial;
 use polynomial::value::zeros;
+use polynomial_words::divide_words;
 use residue::modulus::Modulus;
-use vector::divide_words;
 ghost use Prim.Native.Nat.{_<_};
 ghost use Rattle.algebra.specs.Coefficients.{quotient, remainder};
 ghost use Rattle.modular.specs.Modulo.{modulo};

@@ -6,7 +6,7 @@ use native.Mathlib.Nat.{le-antisymm, min-le-left, min-le-right}
 use native.Mathlib.Omega.{arith}
 use lib.ListN.{length, getD, set}
 use Rattle.modular.specs.Bits.{bound8}
-use Rattle.words.specs.Bytes.{bytesOf, fourthByte, secondByte, thirdByte, wordBytes}
+use Rattle.words.specs.Bytes.{bytesOf, fourthByteUnit, secondByteUnit, thirdByteUnit, wordBytes}
 use Rattle.words.specs.BytesLaws.{length-bytesOf}
 use Rattle.files.specs.FileBytes.{WritesBytes}
 use Rattle.files.proofs.Filling.{filled, filled-length, filled-next}
@@ -14,9 +14,9 @@ use Rattle.files.proofs.Filling.{filled, filled-length, filled-next}
 -- the four bytes of word i
 pub record FourBytes (bytes : List ℕ) (at word : ℕ) : Type 0 where
   pub first : word % bound8 ≡ getD bytes at 0
-  pub second : word / secondByte % bound8 ≡ getD bytes (at + 1) 0
-  pub third : word / thirdByte % bound8 ≡ getD bytes (at + 2) 0
-  pub fourth : word / fourthByte ≡ getD bytes (at + 3) 0
+  pub second : word / secondByteUnit % bound8 ≡ getD bytes (at + 1) 0
+  pub third : word / thirdByteUnit % bound8 ≡ getD bytes (at + 2) 0
+  pub fourth : word / fourthByteUnit ≡ getD bytes (at + 3) 0
 
 pub bytes-at : (ws : List ℕ) (i : ℕ) → i < length ws → FourBytes (bytesOf ws) (wordBytes * i) (getD ws i 0)
 unfolding bytesOf
@@ -52,9 +52,9 @@ module _ (ws lent : List ℕ) (count : ℕ) (few : count ≡ min (length ws) (le
 
   pub bytes-next : (now : List ℕ) (i : ℕ) → BytesWritten ws lent count now i → i < count → (after : List ℕ)
       → after ≡ set (set (set (set now (wordBytes * i) (getD ws i 0 % bound8))
-      (wordBytes * i + 1) (getD ws i 0 / secondByte % bound8))
-      (wordBytes * i + 2) (getD ws i 0 / thirdByte % bound8))
-      (wordBytes * i + 3) (getD ws i 0 / fourthByte) → BytesWritten ws lent count after (i + 1)
+      (wordBytes * i + 1) (getD ws i 0 / secondByteUnit % bound8))
+      (wordBytes * i + 2) (getD ws i 0 / thirdByteUnit % bound8))
+      (wordBytes * i + 3) (getD ws i 0 / fourthByteUnit) → BytesWritten ws lent count after (i + 1)
   bytes-next now i t more after is =
       let r = count-room in
       let n = length-bytesOf ws in

@@ -55,7 +55,7 @@ pub fn open_both(
         (now («system_words» .exit)) (now («certificate_words» .exit)) r ⌝ }
 {
     let place: usize = 0;
-    if turned_back(system, Office::FILE_BYTES) {
+    if turned_back(system, Office::SYSTEM_BYTES) {
         return FilesOpened::Refused(Refusal { number: 10, place });
     }
     if turned_back(certificate, certificate.len()) {

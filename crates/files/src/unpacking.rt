@@ -1,7 +1,7 @@
 // The words of a file's bytes, four bytes to a word, lowest first.
-use answers::word::FOURTH_BYTE;
-use answers::word::SECOND_BYTE;
-use answers::word::THIRD_BYTE;
+use answers::word::FOURTH_BYTE_UNIT;
+use answers::word::SECOND_BYTE_UNIT;
+use answers::word::THIRD_BYTE_UNIT;
 use answers::word::WORD_BYTES;
 use residue::number::lesser;
 ghost use mathlib.Core.Path.{_≡_};
@@ -14,7 +14,10 @@ ghost use Rattle.files.specs.FileWords.{Unpacked};
 fn word_of(a: u8, b: u8, c: u8, d: u8) -> u32
     ensures { λ r. ⌜ r ≡ wordOf a b c d ⌝ }
 {
-    a as u32 + (b as u32) * SECOND_BYTE + (c as u32) * THIRD_BYTE + (d as u32) * FOURTH_BYTE
+    a as u32
+        + (b as u32) * SECOND_BYTE_UNIT
+        + (c as u32) * THIRD_BYTE_UNIT
+        + (d as u32) * FOURTH_BYTE_UNIT
 }
 
 // Reads the word that starts at byte `at`.

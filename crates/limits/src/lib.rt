@@ -62,7 +62,10 @@ impl Office {
 
     pub const CERTIFICATE_WORDS: usize = 2198;
 
-    pub const FILE_BYTES: usize = WORD_BYTES * Office::SYSTEM_WORDS;
+    // The bytes of the longest system's file, and of the longest certificate's.
+    pub const SYSTEM_BYTES: usize = WORD_BYTES * Office::SYSTEM_WORDS;
+
+    pub const CERTIFICATE_BYTES: usize = WORD_BYTES * Office::CERTIFICATE_WORDS;
 
     // Returns these limits as a value.
     pub fn limits() -> Limits

@@ -7,8 +7,9 @@ use native.Mathlib.Omega.{arith}
 use lib.ListN.{length, take, length-append}
 use lib.Dec.{eqb, leb, ltb}
 use borrow.Author.Tests.{lt-ltb, le-ltb, ltb-false}
+use Rattle.modular.specs.LargestPrime.{largestModulus}
 use Rattle.modular.specs.Prime.{prime?}
-use Rattle.words.specs.Limits.{Limits, office, systemCount, longestSystem, largestModulus}
+use Rattle.words.specs.Limits.{Limits, office, systemCount, longestSystem}
 use Rattle.words.specs.LimitsLaws.{LimitsFit, office-fits, systemCount-most, wordsFor-most}
 use Rattle.words.specs.Outcome.{Outcome, mapped}
 use Rattle.words.specs.Outcome.Outcome.{accepted, refused}

@@ -32,7 +32,7 @@ fn write_to_bytes(
     let written = write_system(&mut words, sizes, coefficients, rows, columns, modulus);
     match written {
         Counted::Count(count) => {
-            if bytes.len() < Office::FILE_BYTES {
+            if bytes.len() < Office::SYSTEM_BYTES {
                 let place: usize = 0;
                 return Counted::Refused(Refusal { number: 11, place });
             }

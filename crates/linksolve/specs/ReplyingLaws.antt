@@ -6,7 +6,7 @@ use lib.ListN.{length, take}
 use borrow.Author.Tests.{le-ltb}
 use Rattle.streams.specs.declared.StreamRead.{StreamRead}
 use Rattle.streams.specs.declared.StreamRead.the-variants as input
-use Rattle.streams.specs.Seen.{certificateSpace}
+use Rattle.streams.specs.Seen.{certificateFileBytes}
 use Rattle.words.specs.Limits.{office}
 use Rattle.words.specs.Outcome.{Outcome, refuse}
 use Rattle.words.specs.Outcome.Outcome.{accepted, refused}
@@ -23,8 +23,8 @@ use Rattle.linksolve.specs.declared.Replied.the-variants as replied
 use Rattle.linksolve.specs.Replying.{Replies}
 
 -- with bytes enough lent, what was read is the system to solve
-room-enough : (lent : ℕ) → certificateSpace ≤ lent → (read : Outcome System) → withRoom certificateSpace lent read ≡ read
-room-enough lent h (accepted s) = ap (λ b. refuse b 11 0 (accepted s)) (le-ltb lent certificateSpace h)
+room-enough : (lent : ℕ) → certificateFileBytes ≤ lent → (read : Outcome System) → withRoom certificateFileBytes lent read ≡ read
+room-enough lent h (accepted s) = ap (λ b. refuse b 11 0 (accepted s)) (le-ltb lent certificateFileBytes h)
 room-enough lent h (refused number place) = refl
 
 module _ (file entry exit : List ℕ) where
@@ -44,7 +44,7 @@ module _ (file entry exit : List ℕ) where
   by-answer n (counted.Count count) solved = solved
   by-answer n (counted.Refused refusal) solved = solved
 
-  module _ {i : StreamRead} {n : ℕ} (e : i ≡ input.Bytes n) (room : certificateSpace ≤ length entry) (answer : Counted)
+  module _ {i : StreamRead} {n : ℕ} (e : i ≡ input.Bytes n) (room : certificateFileBytes ≤ length entry) (answer : Counted)
       (solved : SolvesFile office (take n file) entry exit (countedOutcome answer)) where
     replies-answer : Replies i file entry exit (handed-on answer)
     replies-answer =

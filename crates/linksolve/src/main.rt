@@ -2,13 +2,12 @@
 // nothing else. A refusal is a line on standard error.
 use answers::Counted;
 use answers::Refusal;
-use answers::word::WORD_BYTES;
 use libc::STDERR_FILENO;
 use libc::STDOUT_FILENO;
+use limits::Office;
 use report_text::SPACE;
 use report_text::write_refusal;
 use solver::file::solve_file;
-use streams::CERTIFICATE_BYTES;
 use streams::SYSTEM_SPACE;
 use streams::StreamRead;
 use streams::print;
@@ -17,7 +16,7 @@ ghost use Prim.Native.Nat.{_≤_};
 ghost use lib.ListN.{length};
 ghost use Rattle.streams.specs.Reading.{ReadWithin};
 ghost use Rattle.streams.specs.SystemSpace.{systemSpace};
-ghost use Rattle.streams.specs.Seen.{certificateSpace};
+ghost use Rattle.streams.specs.Seen.{certificateFileBytes};
 ghost use Rattle.linksolve.specs.Replying.{Replies};
 
 // What is to be handed on of a system.
@@ -50,7 +49,7 @@ fn deliver(certificate: &[u8]) {
 
 // Solves the system in the bytes read, and writes its certificate over the first of the lent bytes.
 fn reply(certificate: &mut [u8], file: &[u8], input: StreamRead) -> Replied
-    requires { ⌜ (certificateSpace ≤ length (now certificate)) × (systemSpace ≤ length (now file))
+    requires { ⌜ (certificateFileBytes ≤ length (now certificate)) × (systemSpace ≤ length (now file))
         × ReadWithin (length (now file)) input ⌝ }
     ensures { λ r. ⌜ Replies input (now (file .entry)) (now (certificate .entry)) (now (certificate .exit)) r ⌝ }
 {
@@ -71,7 +70,7 @@ fn main() {
     }
     let mut file = [0u8; SYSTEM_SPACE];
     let input = read_input(&mut file, b"linksolve: standard input");
-    let mut certificate = [0u8; CERTIFICATE_BYTES];
+    let mut certificate = [0u8; Office::CERTIFICATE_BYTES];
     let replied = reply(&mut certificate, &file, input);
     match replied {
         Replied::Certificate(n) => deliver(&certificate[0..n]),

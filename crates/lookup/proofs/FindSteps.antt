@@ -13,12 +13,12 @@ use Rattle.lookup.specs.Lookup.{Side, Part, on, entriesOn, shown, polyno
 use Rattle.lookup.specs.Answer.{partOutcome}
 use Rattle.lookup.specs.Lookup.Side.{system, certificate}
 use Rattle.lookup.specs.Standing.{StartsInside, partIn}
+use Rattle.lookup.specs.StandingLaws.{part-framed}
 use Rattle.words.specs.OutcomeLaws.{mapped-accepted, mapped-refused}
 use Rattle.words.specs.FramedLaws.{system-framed, certificate-framed, start-inside}
 use Rattle.lookup.specs.LookupLaws.{lookup-system-refused, lookup-certificate-refused, lookup-read}
 use Rattle.lookup.specs.declared.part.Part.{Part as PartValue}
 use Rattle.lookup.specs.declared.part.Part.the-variants.{Refused}
-use Rattle.lookup.proofs.Walk.{part-framed}
 use Rattle.answers.specs.declared.answer.Refusal.{Refusal}
 
 module _ (limits : Limits) (ss cs : List ℕ) (side : Side) (k : ℕ) where

@@ -1,5 +1,11 @@
--- Numbers of 8, 16, 32 and 64 bits: each is below the bound, which is one more than the most.
+-- Numbers of 4, 8, 16, 32 and 64 bits: each is below the bound, which is one more than the most.
 use Prim.Native.Nat.{ℕ}
+
+abbrev pub bound4 : ℕ
+bound4 = 16
+
+abbrev pub most4 : ℕ
+most4 = 15
 
 abbrev pub bound8 : ℕ
 bound8 = 256

@@ -9,9 +9,9 @@ use lib.ListN.{length}
 use Rattle.modular.specs.Prime.{Prime}
 use Rattle.modular.specs.Bits.{bound16}
 
--- the largest prime of 16 bits
-abbrev pub largestPrime : ℕ
-largestPrime = 65521
+-- "p: any prime from 2 to 65,521", the largest prime of 16 bits
+abbrev pub largestModulus : ℕ
+largestModulus = 65521
 
 -- the numbers from `start` on have these factors
 Composite : ℕ → List ℕ → Type 0
@@ -30,8 +30,8 @@ prime-before p start prime (a ∷ factors) c h =
         absurd (prime .undivided a (c .0) (omega arith) (subst (λ (n : ℕ). n % a ≡ 0) e (c .2)))
     go before (no n) = before (omega (arith, n))
 
-pub prime-largest : (p : ℕ) → Prime p → p < bound16 → p ≤ largestPrime
+pub prime-largest : (p : ℕ) → Prime p → p < bound16 → p ≤ largestModulus
 unfolding Composite
 prime-largest p prime h =
     let factors : List ℕ = 3 ∷ 2 ∷ 13 ∷ 2 ∷ 19 ∷ 2 ∷ 3 ∷ 2 ∷ 7 ∷ 2 ∷ 5 ∷ 2 ∷ 3 ∷ 2 ∷ [] in
-    omega (arith, prime-before p (1 + largestPrime) prime factors (search needs) h)
+    omega (arith, prime-before p (1 + largestModulus) prime factors (search needs) h)

@@ -11,7 +11,7 @@ use Rattle.algebra.specs.Coefficients.{one, leading}
 use Rattle.modular.specs.Modulo.{modulo}
 use Rattle.modular.specs.Closed.{canonical-nil, canonical-one}
 use Rattle.modular.specs.Coefficientwise.{coefficient-getD, coefficient-last}
-use Rattle.vector.specs.Decides.{Decides, decides-yes, decides-no}
+use Rattle.polynomial_words.specs.Decides.{Decides, decides-yes, decides-no}
 use Rattle.polynomial.specs.Value.{polynomialRoom, Represents, represents}
 
 pub zeros-are-zero : (n i : ℕ) → getD {A = ℕ} (replicate n 0) i 0 ≡ 0

@@ -11,7 +11,7 @@ use Rattle.modular.specs.Modulo.{modulo}
 use Rattle.modular.specs.Canonical.{Canonical}
 use Rattle.modular.specs.Closed.{canonical-negate, canonical-scale}
 use Rattle.modular.specs.Coefficientwise.{coefficient-below, coefficient-negate, coefficient-scale, canonical-same}
-use Rattle.modular.specs.LargestPrime.{largestPrime}
+use Rattle.modular.specs.LargestPrime.{largestModulus}
 use Rattle.modular.specs.Bits.{bound64}
 use Rattle.residue.specs.Sum.{SmallSum}
 use Rattle.vector.specs.Stored.{stored}
@@ -75,7 +75,7 @@ module _ (p : ℕ) (positive : 0 < p) where
     words-small j = let below : getD (f .coefficients) j 0 < p = word-below p f hf positive j in omega arith
 
     -- what `add_scaled` adds up and stores, of any k words
-    pub multiple-fits : p ≤ largestPrime → (j : ℕ) → sumAt (f .coefficients) 0 (g .coefficients) 0 c j < bound64
+    pub multiple-fits : p ≤ largestModulus → (j : ℕ) → sumAt (f .coefficients) 0 (g .coefficients) 0 c j < bound64
     multiple-fits limit j = omega (arith, words-small (0 + j), product-small j, mul-le-mul-right p limit)
 
     pub multiple-small : {h : List ℕ} (k : ℕ) →

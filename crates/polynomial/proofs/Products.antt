@@ -12,7 +12,7 @@ use Rattle.vector.specs.Bound.{AtMost}
 use Rattle.vector.specs.Reduced.{polynomial}
 use Rattle.polynomial.specs.declared.value.Polynomial.{Polynomial}
 use Rattle.polynomial.specs.Value.{polynomialRoom, coefficientsOf, ValidPolynomial, word-below, value-polynomial}
-use Rattle.vector.specs.Product.{GainsProduct}
+use Rattle.polynomial_words.specs.Product.{GainsProduct}
 
 module _ (p : ℕ) (positive : 0 < p) where
   pub words-at-most : (b : ℕ) → p ≤ b → (f : Polynomial) → ValidPolynomial p f → AtMost b (f .coefficients)

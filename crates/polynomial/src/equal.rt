@@ -1,10 +1,10 @@
 // Whether two polynomials are equal.
 use crate::value::Polynomial;
-use vector::same_words;
+use polynomial_words::same_words;
 ghost use mathlib.Core.Path.{_≡_};
 ghost use Prim.Native.Nat.{_≤_};
 ghost use Rattle.polynomial.specs.Value.{polynomialRoom, coefficientsOf};
-ghost use Rattle.vector.specs.Decides.{Decides};
+ghost use Rattle.polynomial_words.specs.Decides.{Decides};
 
 impl Polynomial {
     // Tells whether self and g are equal.

@@ -1,8 +1,8 @@
 // Products: all terms of a product are added up before they are reduced.
 use crate::value::Polynomial;
+use polynomial_words::add_rows;
 use residue::modulus::Modulus;
 use residue::number::larger;
-use vector::add_rows;
 ghost use Prim.Native.Nat.{_+_, _≤_};
 ghost use Rattle.algebra.specs.Coefficients.{add, mul};
 ghost use Rattle.modular.specs.Modulo.{modulo};

@@ -1,6 +1,6 @@
 // The value itself: made, and asked for what it is.
+use polynomial_words::copy_polynomial;
 use residue::modulus::Modulus;
-use vector::copy_polynomial;
 ghost use mathlib.Core.Path.{_≡_};
 ghost use mathlib.Core.List.{[]};
 ghost use Prim.Native.Nat.{ℕ, _+_, _<_, _≤_};
@@ -11,7 +11,7 @@ ghost use Rattle.modular.specs.Modulo.{modulo};
 ghost use Rattle.residue.specs.Modulus.{ValidModulus};
 ghost use Rattle.residue.specs.Sum.{SmallSum};
 ghost use Rattle.vector.specs.Reduced.{polynomial};
-ghost use Rattle.vector.specs.Decides.{Decides};
+ghost use Rattle.polynomial_words.specs.Decides.{Decides};
 ghost use Rattle.polynomial.specs.Value.{polynomialRoom, coefficientsOf, Represents};
 
 // The most coefficients of a polynomial by value: as many as a certificate's polynomial (121) times a row sum (136) has.

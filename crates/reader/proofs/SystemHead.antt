@@ -7,13 +7,14 @@ use native.Mathlib.Omega.{arith}
 use lib.ListN.{length, getD, drop, length-drop}
 use lib.Seq.{drop-cons}
 use borrow.Author.Tests.{eq-eqb, ne-eqb}
+use Rattle.modular.specs.Bits.{bound4}
 use Rattle.modular.specs.Prime.{prime?}
 use Rattle.words.specs.Word.{kind}
 use Rattle.words.specs.Limits.{Limits}
 use Rattle.words.specs.Outcome.{Outcome}
 use Rattle.words.specs.Outcome.Outcome.{accepted, refused}
 use Rattle.words.specs.Reading.{outcome}
-use Rattle.words.specs.System.{Shape, oneTo, headShape, systemHeadFrom, rowUnit, columnUnit, zeroUnit, countBound}
+use Rattle.words.specs.System.{Shape, oneTo, headShape, systemHeadFrom, rowUnit, columnUnit, zeroUnit}
 
 module _ (limits : Limits) where
   abbrev pub OfHead : List ℕ → Outcome Shape
@@ -39,30 +40,30 @@ module _ (limits : Limits) where
     head-kind k = step ∙ simp (ne-eqb _ _ k, place)
 
     module _ (one : kind w ≡ 1) where
-      pub head-bits : (w / zeroUnit % countBound ≡ 0 → ⊥) → OfHead ws ≡ refused 1 0
+      pub head-bits : (w / zeroUnit % bound4 ≡ 0 → ⊥) → OfHead ws ≡ refused 1 0
       unfolding systemHeadFrom
       head-bits z = step ∙ simp (eq-eqb _ _ one, ne-eqb _ _ z, place)
 
-      module _ (none : w / zeroUnit % countBound ≡ 0) where
+      module _ (none : w / zeroUnit % bound4 ≡ 0) where
         pub head-composite : prime? (w % rowUnit) ≡ false → OfHead ws ≡ refused 2 0
         unfolding systemHeadFrom headShape
         head-composite c = step ∙ simp (eq-eqb _ _ one, eq-eqb _ _ none, c, place)
 
         module _ (prime : prime? (w % rowUnit) ≡ true) where
-          pub head-rows : oneTo (limits .rows) (w / rowUnit % countBound) ≡ false → OfHead ws ≡ refused 3 0
+          pub head-rows : oneTo (limits .rows) (w / rowUnit % bound4) ≡ false → OfHead ws ≡ refused 3 0
           unfolding systemHeadFrom headShape
           head-rows r = step ∙ simp (eq-eqb _ _ one, eq-eqb _ _ none, prime, r, place)
 
-          module _ (rows : oneTo (limits .rows) (w / rowUnit % countBound) ≡ true) where
-            pub head-columns : oneTo (limits .columns) (w / columnUnit % countBound) ≡ false → OfHead ws ≡ refused 3 0
+          module _ (rows : oneTo (limits .rows) (w / rowUnit % bound4) ≡ true) where
+            pub head-columns : oneTo (limits .columns) (w / columnUnit % bound4) ≡ false → OfHead ws ≡ refused 3 0
             unfolding systemHeadFrom headShape
             head-columns c = step ∙ simp (eq-eqb _ _ one, eq-eqb _ _ none, prime, rows, c, place)
 
-            pub head-right : oneTo (limits .columns) (w / columnUnit % countBound) ≡ true
+            pub head-right : oneTo (limits .columns) (w / columnUnit % bound4) ≡ true
                 → OfHead ws ≡ accepted (record {
                   modulus = w % rowUnit;
-                  rows = w / rowUnit % countBound;
-                  columns = w / columnUnit % countBound;
+                  rows = w / rowUnit % bound4;
+                  columns = w / columnUnit % bound4;
                 })
             unfolding systemHeadFrom headShape
             head-right c = step ∙ simp (eq-eqb _ _ one, eq-eqb _ _ none, prime, rows, c)

@@ -16,7 +16,7 @@ pub fn read_system_file(bytes: &[u8]) -> SystemRead
     ensures { λ r. ⌜ systemOutcome r ≡ mapped shape (readSystemFile office (now (bytes .entry))) ⌝ }
 {
     let mut words = [0u32; Office::SYSTEM_WORDS];
-    let opened = open_file(&mut words, bytes, Office::FILE_BYTES);
+    let opened = open_file(&mut words, bytes, Office::SYSTEM_BYTES);
     match opened {
         Counted::Count(count) => read_system(&words[..count], Office::limits()),
         Counted::Refused(refusal) => SystemRead::Refused(refusal),

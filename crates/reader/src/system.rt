@@ -3,8 +3,8 @@ use answers::Counted;
 use answers::Refusal;
 use answers::Shape;
 use answers::SystemRead;
+use answers::head::BOUND_4;
 use answers::head::COLUMN_UNIT;
-use answers::head::COUNT_BOUND;
 use answers::head::ROW_UNIT;
 use answers::head::ZERO_UNIT;
 use answers::number::one_to;
@@ -31,18 +31,18 @@ fn read_head(words: &[u32], limits: Limits) -> SystemRead
     if kind_of(word) != 1 {
         return SystemRead::Refused(Refusal { number: 1, place });
     }
-    if word / ZERO_UNIT % COUNT_BOUND != 0 {
+    if word / ZERO_UNIT % BOUND_4 != 0 {
         return SystemRead::Refused(Refusal { number: 1, place });
     }
     let modulus = (word % ROW_UNIT) as u16;
     if !is_prime(modulus) {
         return SystemRead::Refused(Refusal { number: 2, place });
     }
-    let rows = word / ROW_UNIT % COUNT_BOUND;
+    let rows = word / ROW_UNIT % BOUND_4;
     if !one_to(limits.rows as u32, rows) {
         return SystemRead::Refused(Refusal { number: 3, place });
     }
-    let columns = word / COLUMN_UNIT % COUNT_BOUND;
+    let columns = word / COLUMN_UNIT % BOUND_4;
     if !one_to(limits.columns as u32, columns) {
         return SystemRead::Refused(Refusal { number: 3, place });
     }

@@ -6,8 +6,9 @@ use Prim.Native.Nat.{ℕ, _≤_, _<_}
 use native.Mathlib.Omega.{arith}
 use lib.ListN.{length, drop, length-append}
 use lib.Dec.{ltb}
+use Rattle.modular.specs.LargestPrime.{largestModulus}
 use Rattle.modular.specs.Bits.{bound8}
-use Rattle.words.specs.Limits.{Limits, office, largestModulus}
+use Rattle.words.specs.Limits.{Limits, office}
 use Rattle.words.specs.LimitsLaws.{LimitsFit, office-fits}
 use Rattle.words.specs.Outcome.{Outcome}
 use Rattle.words.specs.Outcome.Outcome.{accepted, refused}

@@ -58,7 +58,7 @@ pub fn write_report(out: &mut [u8], file: &[u8]) -> usize
         return 0;
     }
     let mut words = [0u32; Office::SYSTEM_WORDS];
-    let opened = open_file(&mut words, file, Office::FILE_BYTES);
+    let opened = open_file(&mut words, file, Office::SYSTEM_BYTES);
     match opened {
         Counted::Count(count) => report_words(out, &words[..count]),
         Counted::Refused(refusal) => write_refusal(out, refusal),

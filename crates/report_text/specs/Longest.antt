@@ -4,9 +4,10 @@ use mathlib.Core.Path.{_≡_, refl}
 use mathlib.Core.List.{List, [], _∷_, map}
 use native.Mathlib.Omega.{arith}
 use lib.ListN.{length, length-append, replicate}
+use Rattle.modular.specs.LargestPrime.{largestModulus}
 use Rattle.modular.specs.Canonical.{Canonical}
 use Rattle.modular.specs.Bits.{bound8, bound64}
-use Rattle.words.specs.Limits.{Limits, office, largestModulus}
+use Rattle.words.specs.Limits.{Limits, office}
 use Rattle.words.specs.Polynomial.{Within}
 use Rattle.words.specs.Outcome.{Outcome}
 use Rattle.words.specs.Outcome.Outcome.{accepted, refused}

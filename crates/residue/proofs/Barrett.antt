@@ -5,11 +5,11 @@ use native.Mathlib.Nat.{div-mul-le-self, div-add-mod', mod-lt, mod-eq-of-lt, le-
 use native.Mathlib.Nat.{mul-le-mul, mul-le-mul-left, mul-le-mul-right, mul-lt-mul-of-pos-right, lt-of-mul-lt-mul-right}
 use native.Mathlib.Omega.{arith}
 use lib.Pow.{pow-mono, pow-pos}
-use Rattle.modular.specs.LargestPrime.{largestPrime}
+use Rattle.modular.specs.LargestPrime.{largestModulus}
 use Rattle.modular.specs.Bits.{bound32}
 use Rattle.residue.specs.declared.modulus.Modulus.{Modulus}
 use Rattle.residue.specs.Modulus.{ValidModulus}
-use Rattle.residue.specs.Sum.{sumProducts, SmallSum}
+use Rattle.residue.specs.Sum.{reducibleProducts, SmallSum}
 use Rattle.residue.specs.Barrett.{BarrettStep}
 use Rattle.residue.proofs.Remainder.{sub-mul-mod}
 
@@ -24,7 +24,7 @@ abbrev mostShifted : ℕ
 mostShifted = 2147483648
 
 -- s is at most 2^14, as 2 s is a power of two and at most p
-pub shift-limit : (k p : ℕ) → 2 * 2 ^ k ≤ p → p ≤ largestPrime → k ≤ mostShift
+pub shift-limit : (k p : ℕ) → 2 * 2 ^ k ≤ p → p ≤ largestModulus → k ≤ mostShift
 shift-limit k p low limit =
     let above : (1 + mostShift ≤ k → ⊥) = λ le. omega (arith, pow-mono le) in
     omega arith
@@ -69,7 +69,7 @@ module _ (M : Modulus) (ok : ValidModulus M) where
     shifted-short : y ≤ mostShifted
     shifted-short =
         let high = ok .scale-high in
-        let all : y * s < (16 * sumProducts * s + 1) * s =
+        let all : y * s < (16 * reducibleProducts * s + 1) * s =
         omega (arith, div-mul-le-self x s, mul-le-mul (le-of-lt high) (le-of-lt high), pow-pos (M .shift)) in
         omega (arith, lt-of-mul-lt-mul-right s all, scale-short)
 

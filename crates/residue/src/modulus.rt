@@ -3,7 +3,7 @@ ghost use mathlib.Core.Path.{_≡_};
 ghost use Prim.Native.Nat.{_+_, _*_, _%_, _<_, _≤_};
 ghost use Rattle.modular.specs.Prime.{Prime};
 ghost use Rattle.modular.specs.Modulo.{modulo};
-ghost use Rattle.modular.specs.LargestPrime.{largestPrime};
+ghost use Rattle.modular.specs.LargestPrime.{largestModulus};
 ghost use Rattle.residue.specs.Modulus.{ValidModulus};
 ghost use Rattle.residue.specs.Sum.{SmallSum};
 ghost use Rattle.residue.specs.Barrett.{BarrettStep};
@@ -22,7 +22,7 @@ pub struct Modulus {
 impl Modulus {
     // Returns the modulus p, with its shift and reciprocal. `scale` is 2^shift throughout.
     pub fn new(p: u64) -> Modulus
-        requires { ⌜ Prime p × (p ≤ largestPrime) ⌝ }
+        requires { ⌜ Prime p × (p ≤ largestModulus) ⌝ }
         ensures { λ r. ⌜ ValidModulus r × (r .p ≡ p) ⌝ }
     {
         let mut shift = 0;

@@ -26,7 +26,7 @@ use Rattle.solve_lattice.specs.Range.{words-zero}
 use Rattle.solve_lattice.specs.Reading.{ends-zero}
 use Rattle.solve_lattice.specs.Coefficients.{HoldsCoefficients}
 use Rattle.solve_levels.specs.Column.{HoldsLeft, DividedByLevel}
-use Rattle.solve_lattice.specs.Room.{outputWords, blockWords, blockDegree, lanes}
+use Rattle.solve_lattice.specs.Room.{outputWords, blockWords, lastDegree, lanes}
 use Rattle.solve_certify.specs.Words.{stored-below}
 use Rattle.solve_lattice.specs.Input.{Equations, inputSystem}
 use Rattle.solve_lattice.specs.Output.{ValidOutput, HoldsAt}
@@ -95,7 +95,7 @@ module _ {p : ℕ} {n m j : ℕ} {input : List ℕ} {L : Level} (inside : j < m)
     dropping = record {
       next = H .level j;
       kernel = R .one;
-      link = link-drop (sized (residues p prime)) n blockDegree column (H .level j)
+      link = link-drop (sized (residues p prime)) n lastDegree column (H .level j)
           (level-of (inputSystem p prime n m X) (H .levels) j (omega arith) .filled) spanned;
       slots = H .slots;
       holds = H .holds;

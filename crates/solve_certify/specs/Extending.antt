@@ -12,7 +12,7 @@ use Rattle.reduction.specs.Replace.{replace, replace-here, replace-other}
 use Rattle.reduction.specs.Slots.{Slots, Same, SameBlocks, same-refl, unweighted}
 use Rattle.reduction.specs.Link.{Link}
 use Rattle.reduction.specs.Levels.{Levels, levels-next}
-use Rattle.solve_lattice.specs.Room.{blockDegree}
+use Rattle.solve_lattice.specs.Room.{lastDegree}
 use Rattle.solve_lattice.specs.Memory.{Level}
 use Rattle.solve_lattice.specs.Holding.{HoldsSlots}
 use Rattle.solve_lattice.specs.Input.{Equations, inputSystem}
@@ -23,7 +23,7 @@ pub record Extension (p : ℕ) (prime : Prime p) {n m j : ℕ} {X : Equations p 
     (H : HoldsLevels p prime n m X j input L) (L′ : Level) : Type 0 where
   pub next : Slots (Polynomial (residues p prime))
   pub kernel : Polynomial (residues p prime)
-  pub link : Link (sized (residues p prime)) n blockDegree (λ i. X .matrix i j) (H .level j) next kernel
+  pub link : Link (sized (residues p prime)) n lastDegree (λ i. X .matrix i j) (H .level j) next kernel
   pub slots : Slots (Polynomial (residues p prime))
   pub holds : HoldsSlots p prime n unweighted L′ slots
   pub blocks : SameBlocks n slots next
@@ -43,7 +43,7 @@ module _ {p : ℕ} {prime : Prime p} {n m j : ℕ} {X : Equations p prime n m} {
   earlier-kernel k h = replace-other (H .kernel) j (E .kernel) k (λ e. omega arith)
 
   abbrev Links : (U U′ : Slots (Polynomial (residues p prime))) → Polynomial (residues p prime) → Type 0
-  Links = Link (sized (residues p prime)) n blockDegree (λ i. X .matrix i j)
+  Links = Link (sized (residues p prime)) n lastDegree (λ i. X .matrix i j)
 
   here : level′ (j + 1) ≡ E .next
   here = replace-here (H .level) (j + 1) (E .next)

@@ -25,7 +25,7 @@ use Rattle.reduction.specs.Filling.{filledWith, filled-with-blocks, filled-link
 use Rattle.reduction.specs.Levels.{level-of}
 use Rattle.reduction.specs.Descent.{Descent, Turn, descent-turn}
 use Rattle.solve_lattice.specs.declared.stage.Stage.{Stage}
-use Rattle.solve_lattice.specs.Room.{blockWords, blockDegree, slotPlaces, lanes, mostCoefficients}
+use Rattle.solve_lattice.specs.Room.{blockWords, lastDegree, slotPlaces, lanes, mostCoefficients}
 use Rattle.solve_lattice.specs.Memory.{row, height, Level, slotSize, slotInverse, ValidLevel}
 use Rattle.solve_lattice.specs.Sums.{sums-room}
 use Rattle.solve_lattice.specs.Reading.{ends-pivot}
@@ -82,7 +82,7 @@ module _ {p : ℕ} {n m j : ℕ} {input : List ℕ} {L : Level} (inside : j < m)
     filling = record {
       next = U′;
       kernel = R .zero;
-      link = filled-link (sized (residues p prime)) n blockDegree full P empty (omega (arith, C .ends .within)) (G .span);
+      link = filled-link (sized (residues p prime)) n lastDegree full P empty (omega (arith, C .ends .within)) (G .span);
       slots = put (H .slots) (row left) (extend n a (tailOf p prime L (row left))) (height left);
       holds = filled-holds valid (row left) (omega arith) free rest left (C .ends) prime n unweighted (H .slots) a (H .holds)
           (Q .holds);
@@ -120,7 +120,7 @@ module _ {p : ℕ} {n m j : ℕ} {input : List ℕ} {L : Level} (inside : j < m)
       turn = record {
         tails = x;
         span = subst (λ U. InSpan R n (suc n) U (extend n (D .vector) x)) (sym (ap (D .level) (sym (add-one j)) ∙ upper))
-            (filled-tails (sized (residues p prime)) n blockDegree full P empty (S .span) (G .span));
+            (filled-tails (sized (residues p prime)) n lastDegree full P empty (S .span) (G .span));
         multiple = R .zero;
         coordinate = here ∙ identity R (x ∷ D .kernel j ∷ []) (λ ρ qx qk. search quotes depth 16) refl;
         reduced = λ positive. absurd (omega (arith, size-of-zero (sized (residues p prime)) (D .kernel j) none));
@@ -148,9 +148,9 @@ module _ {p : ℕ} {n m j : ℕ} {input : List ℕ} {L : Level} (inside : j < m)
 
       undone-filling : HoldsDescended p prime n m H quotients′ output′
       undone-filling = undone inside filling D x vector turn record {
-        span = filled-lowered (sized (residues p prime)) n blockDegree full P empty (S .span) (G .span);
+        span = filled-lowered (sized (residues p prime)) n lastDegree full P empty (S .span) (G .span);
         holds = λ i h. subst (HoldsQuotient p prime quotients′ i)
-            (sym (filled-coefficient (sized (residues p prime)) n blockDegree full P empty (S .span) (G .span) i h))
+            (sym (filled-coefficient (sized (residues p prime)) n lastDegree full P empty (S .span) (G .span) i h))
             (lowered .lowered i h);
       } (lowered .coordinate) (low .others)
 

@@ -33,7 +33,7 @@ use Rattle.solve_lattice.specs.Input.{Equations, inputSystem}
 use Rattle.solve_levels.specs.Begun.{ValidColumn}
 use Rattle.solve_levels.specs.Started.{Started}
 use Rattle.solve_popov.specs.Words.{words-copied}
-use Rattle.solve_lattice.specs.Room.{blockWords, tailWords, blockDegrees, blockDegree, lanes, mostCoefficients, mostDegree}
+use Rattle.solve_lattice.specs.Room.{blockWords, tailWords, blockDegrees, lastDegree, lanes, mostCoefficients, mostDegree}
 use Rattle.solve_certify.specs.Witnessed.{HoldsLast}
 use Rattle.solve_certify.specs.Denominator.{sideWords, side-below}
 
@@ -80,10 +80,10 @@ slots-high prime {L = L} few-rows valid holds q h =
 -- L6: at most as many slots as lanes, of the degree of a block
 pub last-degrees : {p : ℕ} (prime : Prime p) {n m : ℕ} {X : Equations p prime n m} {U : Slots (Polynomial (residues p prime))}
     → n ≤ lanes → reduction.LevelKnown (inputSystem p prime n m X) m U
-    → (rank n (U .size) * blockDegree ≤ mostDegree) × (degrees n (U .size) ≤ mostDegree)
+    → (rank n (U .size) * lastDegree ≤ mostDegree) × (degrees n (U .size) ≤ mostDegree)
 last-degrees prime {n = n} {U = U} few-rows last =
     let few : rank n (U .size) ≤ lanes = omega (arith, rank-le n (U .size)) in
-    let small : degrees n (U .size) ≤ rank n (U .size) * blockDegree = last .degrees-le in
+    let small : degrees n (U .size) ≤ rank n (U .size) * lastDegree = last .degrees-le in
     (omega arith, omega arith)
 
 module _ {p : ℕ} (prime : Prime p) {n m : ℕ} {X : Equations p prime n m} {U : Slots (Polynomial (residues p prime))}

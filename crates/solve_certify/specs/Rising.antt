@@ -16,7 +16,7 @@ use Rattle.solve_levels.specs.Linked.{Linked}
 use Rattle.solve_levels.specs.Next.{NextLevel}
 use Rattle.solve_levels.specs.Column.{HoldsLeft, DividedByLevel}
 use Rattle.solve_lattice.specs.Input.{Equations}
-use Rattle.solve_lattice.specs.Room.{blockWords, blockDegree}
+use Rattle.solve_lattice.specs.Room.{blockWords, lastDegree}
 use Rattle.solve_certify.specs.Ascended.{HoldsLevels}
 use Rattle.solve_certify.specs.Extending.{Extension}
 use Rattle.solve_certify.specs.Undoing.{has-extended}
@@ -36,18 +36,18 @@ module _ {p : ℕ} {n m j : ℕ} {input : List ℕ} {L L′ : Level} {rest facto
       abbrev Q : HoldsLeft p prime n (H .slots) (λ i. X .matrix i j) rest factors
       Q = C .divides prime n (H .slots) (λ i. X .matrix i j) (H .holds) (H .system .column j inside)
 
-      small : (i : ℕ) → i < n → size (residues p prime) (Q .vector i) ≤ suc blockDegree
+      small : (i : ℕ) → i < n → size (residues p prime) (Q .vector i) ≤ suc lastDegree
       small i h = omega (arith, ends-pivot p prime (C .ends) (Q .holds) some .all i h, C .ends .within)
 
-      pub K : Linked p prime n blockDegree (Q .vector) (H .slots) L′ kernel
-      K = next .linked prime n blockDegree (H .slots) (Q .vector) small (H .holds) (Q .holds)
+      pub K : Linked p prime n lastDegree (Q .vector) (H .slots) L′ kernel
+      K = next .linked prime n lastDegree (H .slots) (Q .vector) small (H .holds) (Q .holds)
 
       pub rising : Extension p prime H L′
       rising = record {
         next = K .slots;
         kernel = K .polynomial;
-        link = link-shift (sized (residues p prime)) n blockDegree (coefficients-blocks prime (H .blocks) (Q .coefficients) .span)
-            (link-same (sized (residues p prime)) n blockDegree (H .blocks) (same-refl (K .slots)) (K .link));
+        link = link-shift (sized (residues p prime)) n lastDegree (coefficients-blocks prime (H .blocks) (Q .coefficients) .span)
+            (link-same (sized (residues p prime)) n lastDegree (H .blocks) (same-refl (K .slots)) (K .link));
         slots = K .slots;
         holds = K .holds;
         blocks = same-blocks (same-refl (K .slots));

@@ -30,7 +30,7 @@ use Rattle.solve_second.specs.Product.{Multiplied}
 use Rattle.solve_second.specs.Solved.{HoldsSecond}
 use Rattle.solve_popov.specs.Words.{held-zero-from, words-copied}
 use Rattle.solve_popov.specs.Short.{HasMonicTops, HoldsShort, ShortSolved}
-use Rattle.solve_lattice.specs.Room.{outputWords, blockWords, blockDegree, lanes, mostCoefficients}
+use Rattle.solve_lattice.specs.Room.{outputWords, blockWords, lastDegree, lanes, mostCoefficients}
 use Rattle.solve_certify.specs.Witnessed.{HoldsUnfinished}
 use Rattle.solve_certify.specs.Words.{stored-below, held-fewer}
 use Rattle.solve_certify.specs.Inserted.{HoldsVanished, HasVanished, last-degrees, vanished-some, vanished-tops}
@@ -168,7 +168,7 @@ module _ {p n m : ℕ} {input : List ℕ} {L L′ : Level} {tail d t : List ℕ}
     together : size (residues p prime) x + size (residues p prime) (S .polynomial) ≤ mostCoefficients + 1
     together =
         let w₀ : Polynomial (residues p prime) = polynomials (residues p prime) .mul x (S .polynomial) in
-        let product : size (residues p prime) w₀ ≤ suc (rank n (U .size) * blockDegree) =
+        let product : size (residues p prime) w₀ ≤ suc (rank n (U .size) * lastDegree) =
         made .small (λ j. polynomials (residues p prime) .zero) (λ j h. omega (arith, sized (residues p prime) .size-zero))
         .certifying-denominator in
         omega (

@@ -15,7 +15,7 @@ use Rattle.algebra.specs.Polynomial.{Polynomial, polynomials}
 use Rattle.algebra.specs.Size.{size}
 use Rattle.modular.specs.Prime.{Prime}
 use Rattle.modular.specs.Residue.{residues}
-use Rattle.modular.specs.LargestPrime.{largestPrime}
+use Rattle.modular.specs.LargestPrime.{largestModulus}
 use Rattle.vector.specs.Bound.{AtMost}
 use Rattle.reduction.specs.Slots.{Slots}
 use Rattle.reduction.specs.Holds.{Holds}
@@ -24,7 +24,7 @@ use Rattle.solve_lattice.specs.Memory.{ZeroFrom}
 use Rattle.solve_lattice.specs.Word.{words}
 use Rattle.solve_lattice.specs.Coefficients.{HoldsCoefficients}
 use Rattle.solve_lattice.specs.Room.{blockWords, lanes, lastLane, productDegrees}
-use Rattle.solve_descent.specs.Product.{less, TakesProduct, wordMost}
+use Rattle.solve_descent.specs.Product.{less, TakesProduct, dividendMost}
 use Rattle.solve_descent.specs.Combination.{lessAll, firstQuotient, TakesCombination}
 use Rattle.solve_lattice.specs.Range.{words-shorter}
 use Rattle.solve_lattice.specs.Reading.{holds-same}
@@ -41,10 +41,10 @@ module _ {p w N : ℕ} {quotients : List ℕ} {terms : ℕ → ℕ} {slots : Lis
   }
 
   module _ {q : ℕ} {y : List ℕ} (so-far : TakesCombination p w N quotients terms slots at q y₀ y) where
-    pub combination-small : q ≤ lanes → p ≤ largestPrime → AtMost 0 y₀ → AtMost wordMost y
+    pub combination-small : q ≤ lanes → p ≤ largestModulus → AtMost 0 y₀ → AtMost dividendMost y
     combination-small few limit none i =
-        let square : p * p ≤ largestPrime * largestPrime = mul-le-mul limit limit in
-        let products : productDegrees * (p * p) ≤ productDegrees * (largestPrime * largestPrime) = omega arith in
+        let square : p * p ≤ largestModulus * largestModulus = mul-le-mul limit limit in
+        let products : productDegrees * (p * p) ≤ productDegrees * (largestModulus * largestModulus) = omega arith in
         omega (arith, so-far .bound 0 none i, mul-le-mul few products)
 
     module _ {k m : ℕ} {y′ : List ℕ} (is : k ≡ terms q) (few : k ≤ productDegrees) (inside : k * w + m ≤ N + w)

@@ -14,7 +14,7 @@ use Rattle.algebra.specs.Polynomial.{Polynomial, polynomials}
 use Rattle.modular.specs.Prime.{Prime}
 use Rattle.modular.specs.Modulo.{modulo}
 use Rattle.modular.specs.Residue.{Residue, residues}
-use Rattle.modular.specs.LargestPrime.{largestPrime}
+use Rattle.modular.specs.LargestPrime.{largestModulus}
 use Rattle.modular.specs.Bits.{bound64}
 use Rattle.residue.specs.Below.{mul-below}
 use Rattle.vector.specs.Bound.{AtMost, at-most-sum}
@@ -101,7 +101,7 @@ module _ {p : ℕ} {y₀ kernel : List ℕ} where
       product : (j : ℕ) → (p - a) * getD kernel (0 + j) 0 ≤ p * p
       product j = product-most p (p - a) (getD kernel (0 + j) 0) (omega arith) (valid .below (0 + j))
 
-      pub kernel-sum : p ≤ largestPrime → AtMost (productWords * (p * p)) y₀ → (j : ℕ)
+      pub kernel-sum : p ≤ largestModulus → AtMost (productWords * (p * p)) y₀ → (j : ℕ)
           → sumAt y ((k - 1) - (size - 1)) kernel 0 (p - a) j < bound64
       kernel-sum limit small j = sum-fits p _ limit (omega (arith, kernel-room small (d + j), product j))
 

@@ -11,7 +11,7 @@ use Rattle.ring.specs.Identity.{quotes, identity}
 use Rattle.algebra.specs.Polynomial.{Polynomial, polynomials}
 use Rattle.modular.specs.Prime.{Prime}
 use Rattle.modular.specs.Residue.{Residue, residues}
-use Rattle.modular.specs.LargestPrime.{largestPrime}
+use Rattle.modular.specs.LargestPrime.{largestModulus}
 use Rattle.modular.specs.Bits.{bound64}
 use Rattle.vector.specs.Bound.{AtMost, at-most-sum}
 use Rattle.vector.specs.Stored.{stored, length-stored, stored-outside}
@@ -23,7 +23,7 @@ use Rattle.solve_lattice.specs.Word.{residue-zero, words, words-behind}
 use Rattle.solve_lattice.specs.Range.{words-upper, words-lower}
 use Rattle.solve_lattice.specs.Room.{mostFactors}
 use Rattle.solve_descent.specs.Read.{read-suc, read-zeros}
-use Rattle.solve_descent.specs.Product.{strided, less, TakesProduct, wordMost}
+use Rattle.solve_descent.specs.Product.{strided, less, TakesProduct, dividendMost}
 use Rattle.solve_descent.specs.Held.{none-held}
 
 -- a product of a number below p and one of at most p
@@ -81,14 +81,14 @@ module _ {p w : ℕ} {h₀ f : List ℕ} {b v : ℕ} {s : List ℕ} {a m : ℕ} 
     c = p - getD f (b + k * v) 0
 
     -- no sum is too large
-    pub product-sum : (n : ℕ) → k < n → n ≤ mostFactors → p ≤ largestPrime → AtMost wordMost h₀ → (j : ℕ) → j < m
+    pub product-sum : (n : ℕ) → k < n → n ≤ mostFactors → p ≤ largestModulus → AtMost dividendMost h₀ → (j : ℕ) → j < m
         → sumAt h (k * w) s a (p - getD f (b + k * v) 0) j < bound64
     product-sum n lt most limit words₀ j inside =
         let few : k ≤ mostFactors = omega arith in
-        let square : p * p ≤ largestPrime * largestPrime = mul-le-mul limit limit in
+        let square : p * p ≤ largestModulus * largestModulus = mul-le-mul limit limit in
         omega (
           arith,
-          so-far .bound wordMost words₀ (k * w + j),
+          so-far .bound dividendMost words₀ (k * w + j),
           mul-le-mul few square,
           product-most p c (getD s (a + j) 0) (omega arith) (small j inside),
         )

@@ -12,8 +12,8 @@ use Rattle.reduction.specs.Flat.{flat}
 use Rattle.solve_lattice.specs.Word.{residue, words}
 
 -- what a word may be, at most, that products are taken off
-abbrev pub wordMost : ℕ
-wordMost = 281474976710656
+abbrev pub dividendMost : ℕ
+dividendMost = 281474976710656
 
 module _ (p : ℕ) (prime : Prime p) where
   -- coefficient k of f is at b + k·v

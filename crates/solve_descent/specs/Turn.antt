@@ -4,7 +4,7 @@ use mathlib.Core.Path.{_≡_}
 use mathlib.Core.Logic.{_⊎_}
 use mathlib.Core.List.{List}
 use lib.ListN.{length, getD}
-use Rattle.solve_lattice.specs.Room.{productWords, blockWords, lanes, mostPlaces, blockDegree, mostDegree}
+use Rattle.solve_lattice.specs.Room.{productWords, blockWords, lanes, mostPlaces, lastDegree, mostDegree}
 use Rattle.algebra.specs.Polynomial.{Polynomial}
 use Rattle.algebra.specs.Size.{sized}
 use Rattle.modular.specs.Prime.{Prime}
@@ -33,7 +33,7 @@ module _ (p : ℕ) (prime : Prime p) where
     pub kernel : ℕ → Polynomial (residues p prime)
     pub levels : Levels system level kernel (system .columns)
     -- L6: no degree of a coordinate is above 120, and none of the vector above 135
-    pub low : system .degree ≤ blockDegree
+    pub low : system .degree ≤ lastDegree
     pub small : rank (system .rows) (level (system .columns) .size) * system .degree ≤ mostDegree
     pub column : ℕ
     pub inside : column < system .columns

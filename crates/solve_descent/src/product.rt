@@ -6,7 +6,7 @@ ghost use lib.ListN.{length, getD};
 ghost use Rattle.residue.specs.Modulus.{ValidModulus};
 ghost use Rattle.vector.specs.Bound.{AtMost};
 ghost use Rattle.solve_lattice.specs.Room.{mostFactors};
-ghost use Rattle.solve_descent.specs.Product.{TakesProduct, wordMost};
+ghost use Rattle.solve_descent.specs.Product.{TakesProduct, dividendMost};
 
 // Where the coefficients of a polynomial stand in an array: `count` of them, at `at`, `at + step`, `at + 2·step`, ..
 pub struct Terms {
@@ -30,7 +30,7 @@ pub fn subtract_product(
         × (a + m ≤ length (now s)) ⌝ }
     requires factors { ⌜ (terms .at + terms .count * terms .step < length (now f) + terms .step)
         × ((i : ℕ) → getD (now f) i 0 < modulus .p) ⌝ }
-    requires small { ⌜ AtMost wordMost (now h) × ((j : ℕ) → j < m → getD (now s) (a + j) 0 < modulus .p) ⌝ }
+    requires small { ⌜ AtMost dividendMost (now h) × ((j : ℕ) → j < m → getD (now s) (a + j) 0 < modulus .p) ⌝ }
     ensures { λ _. ⌜ TakesProduct (modulus .p) w (now (h .entry)) (now (f .entry)) (terms .at) (terms .step) (terms .count)
         (now (s .entry)) a m (now (h .exit)) ⌝ }
 {

@@ -14,7 +14,7 @@ use Rattle.algebra.specs.Size.{sized}
 use Rattle.modular.specs.Prime.{Prime}
 use Rattle.modular.specs.Residue.{residues}
 use Rattle.modular.specs.Bits.{bound64}
-use Rattle.modular.specs.LargestPrime.{largestPrime}
+use Rattle.modular.specs.LargestPrime.{largestModulus}
 use Rattle.residue.specs.Sum.{sum-fits}
 use Rattle.vector.specs.Bound.{AtMost}
 use Rattle.vector.specs.Stored.{stored, length-stored, stored-inside, stored-outside, below-or-not}
@@ -94,7 +94,7 @@ module _ {p : ℕ} (prime : Prime p) {L : Level} {block : List ℕ} {k value : �
         → (p - a) * getD L (slotWords * row k + blockWords + j) 0 ≤ p * p
     tail-product j lt = Stepping.step-product p prime S a by (slotWords * row k + blockWords + j) (omega (arith, tail-fits))
 
-    pub tail-sum : (tail : List ℕ) → Sums p 1 tail → p ≤ largestPrime → (j : ℕ) → j < height (tailSize L (row k)) * lanes
+    pub tail-sum : (tail : List ℕ) → Sums p 1 tail → p ≤ largestModulus → (j : ℕ) → j < height (tailSize L (row k)) * lanes
         → sumAt tail ((k - slotSize L (row k)) / lanes) L (slotWords * row k + blockWords) (p - a) j < bound64
     tail-sum tail sums limit j lt =
         let positive : 0 < p = omega (arith, prime .large) in

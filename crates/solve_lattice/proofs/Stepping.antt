@@ -15,7 +15,7 @@ use Rattle.modular.specs.Prime.{Prime}
 use Rattle.modular.specs.Modulo.{modulo}
 use Rattle.modular.specs.Residue.{Residue, residues}
 use Rattle.modular.specs.Bits.{bound32, bound64}
-use Rattle.modular.specs.LargestPrime.{largestPrime}
+use Rattle.modular.specs.LargestPrime.{largestModulus}
 use Rattle.residue.specs.Below.{mul-below, inverse-below}
 use Rattle.vector.specs.Stored.{stored, length-stored, stored-inside, below-or-not}
 use Rattle.vector.specs.Multiple.{sumAt}
@@ -70,10 +70,10 @@ zero-before p block n behind last j h lt =
     (below-or-not j n)
 
 -- words of slots and factors are numbers of 32 bits, as `add_scaled` asks
-pub word-short : {p x : ℕ} → p ≤ largestPrime → x < p → x < bound32
+pub word-short : {p x : ℕ} → p ≤ largestModulus → x < p → x < bound32
 word-short limit below = omega arith
 
-pub minus-short : {p : ℕ} → p ≤ largestPrime → (a : ℕ) → p - a < bound32
+pub minus-short : {p : ℕ} → p ≤ largestModulus → (a : ℕ) → p - a < bound32
 minus-short limit a = omega arith
 
 -- a times the slot is taken off, `shift` degrees up
@@ -136,7 +136,7 @@ module _ (p : ℕ) (prime : Prime p) {L : Level} {block : List ℕ} {k value : �
             (omega arith),
       )
 
-  pub step-sum : Sums p 1 block → p ≤ largestPrime → (j : ℕ) → j < height (slotSize L (row k)) * lanes
+  pub step-sum : Sums p 1 block → p ≤ largestModulus → (j : ℕ) → j < height (slotSize L (row k)) * lanes
       → sumAt block (k - slotSize L (row k)) L (slotWords * row k) (p - a) j < bound64
   step-sum sums limit j lt = sum-fits p _ limit (step-reduces sums j (omega (arith, step-fits)))
 

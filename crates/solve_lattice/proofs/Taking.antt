@@ -10,7 +10,7 @@ use Rattle.algebra.specs.Size.{sized}
 use Rattle.modular.specs.Prime.{Prime}
 use Rattle.modular.specs.Residue.{Residue, residues}
 use Rattle.modular.specs.Bits.{bound64}
-use Rattle.modular.specs.LargestPrime.{largestPrime}
+use Rattle.modular.specs.LargestPrime.{largestModulus}
 use Rattle.vector.specs.Stored.{stored, length-stored}
 use Rattle.vector.specs.Multiple.{sumAt}
 use Rattle.reduction.specs.Total.{total-le, total-constant}
@@ -90,7 +90,7 @@ module _ {p : ℕ} (prime₀ : Prime p) {M : Memory} (valid : Valid p M) (fits :
   pub taking-inside : shift + size ≤ tailWords
   taking-inside = omega (arith, whole, fits .filled, valid .hand .block .within, slot .tail-within)
 
-  pub taking-sum : p ≤ largestPrime → (j : ℕ) → j < blockWords
+  pub taking-sum : p ≤ largestModulus → (j : ℕ) → j < blockWords
       → sumAt (M .tail) shift L (slotWords * q + blockWords) (p - r .factor) j < bound64
   taking-sum limit j lt =
       let positive : 0 < p = omega (arith, prime₀ .large) in

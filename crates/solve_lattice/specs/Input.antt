@@ -11,7 +11,7 @@ use Rattle.modular.specs.Residue.{residues}
 use Rattle.reduction.specs.Slots.{unweighted}
 use Rattle.reduction.specs.System.{LinearSystem}
 use Rattle.reduction.specs.Flat.{Flat}
-use Rattle.solve_lattice.specs.Room.{inputWords, blockWords, blockDegrees, lanes, blockDegree}
+use Rattle.solve_lattice.specs.Room.{inputWords, blockWords, blockDegrees, lanes, lastDegree}
 use Rattle.solve_lattice.specs.Word.{words}
 
 -- room for 8 columns and the right side
@@ -32,7 +32,7 @@ module _ (p : ℕ) (prime : Prime p) (n m : ℕ) where
   inputSystem X = record {
     rows = n;
     columns = m;
-    degree = blockDegree;
+    degree = lastDegree;
     matrix = X .matrix;
     side = X .side;
     matrix-small = X .matrix-small;

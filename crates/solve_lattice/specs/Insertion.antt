@@ -18,7 +18,7 @@ use Rattle.reduction.specs.Trace.{State}
 use Rattle.reduction.specs.Kept.{InsertionBegins, trace-kept}
 use Rattle.reduction.specs.Insert.{Stop, Inserted}
 use Rattle.reduction.specs.Holds.{holds-size, holds-unique}
-use Rattle.solve_lattice.specs.Room.{blockWords, slotWords, tailWords, lanes, mostCoefficients, blockDegree, mostDegree}
+use Rattle.solve_lattice.specs.Room.{blockWords, slotWords, tailWords, lanes, mostCoefficients, lastDegree, mostDegree}
 use Rattle.solve_lattice.specs.Word.{words, words-first, residue-one}
 use Rattle.solve_lattice.specs.Memory.{row, height, ZeroFrom, slotSize, tailSize, Memory, Valid}
 use Rattle.solve_lattice.specs.Holding.{HoldsState, Reached, Leads}
@@ -84,9 +84,9 @@ module _ (p : ℕ) (prime : Prime p) where
     degrees-most : degrees lanes (λ q. height (slotSize (M .level) q)) ≤ mostDegree
     degrees-most = omega (
       arith,
-      total-le lanes (λ q. height (slotSize (M .level) q) - 1) (λ q. blockDegree)
+      total-le lanes (λ q. height (slotSize (M .level) q) - 1) (λ q. lastDegree)
           (λ q h. omega (arith, valid .level .slot q h .block .within)),
-      total-constant lanes blockDegree,
+      total-constant lanes lastDegree,
     )
 
     -- L4: the tail has room

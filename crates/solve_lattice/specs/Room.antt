@@ -59,8 +59,8 @@ lastLane = 7
 abbrev pub blockDegrees : ℕ
 blockDegrees = 16
 
-abbrev pub blockDegree : ℕ
-blockDegree = 15
+abbrev pub lastDegree : ℕ
+lastDegree = 15
 
 abbrev pub slotDegrees : ℕ
 slotDegrees = 32

@@ -2,9 +2,9 @@
 use solve_lattice::DEGREES;
 use solve_lattice::LANES;
 ghost use mathlib.Core.Path.{_≡_};
-ghost use Prim.Native.Nat.{_+_, _<_};
+ghost use Prim.Native.Nat.{_+_, _*_, _<_};
 ghost use lib.ListN.{length, getD};
-ghost use Rattle.solve_lattice.specs.Room.{blockDegrees, mostDegree};
+ghost use Rattle.solve_lattice.specs.Room.{lanes, blockDegrees, lastDegree};
 ghost use Rattle.solve_lattice.specs.LaneStored.{lane};
 
 // Returns coefficient e of f, 0 behind its last.
@@ -16,7 +16,7 @@ pub fn coefficient(f: &[u64], e: usize) -> u64
 
 // Stores coefficient e of f at h[d + LANES * e] for each degree e of a block.
 pub fn store_lane(h: &mut [u64], d: usize, f: &[u64])
-    requires { ⌜ d + mostDegree < length (now h) ⌝ }
+    requires { ⌜ d + lanes * lastDegree < length (now h) ⌝ }
     ensures { λ _. ⌜ now (h .exit) ≡ lane (λ e. getD (now (f .entry)) e 0) (now (h .entry)) d blockDegrees ⌝ }
 {
     let mut e = 0;

@@ -37,7 +37,7 @@ use Rattle.solve_lattice.specs.Reading.{holds-filled}
 use Rattle.solve_lattice.specs.Found.{found-ends, found-leading}
 use Rattle.solve_lattice.specs.Insertion.{Starts, Inserts, inserts-inserted}
 use Rattle.solve_lattice.specs.Room.{productWords, blockWords, slotWords, tailWords, blockDegrees, lanes, mostCoefficients}
-use Rattle.solve_lattice.specs.Room.{blockDegree, mostDegree}
+use Rattle.solve_lattice.specs.Room.{lastDegree, mostDegree}
 use Rattle.solve_second.specs.Greatest.{greatest, greatest-high}
 use Rattle.solve_second.specs.Laid.{SecondLaid, startingMemory}
 use Rattle.solve_second.specs.Transposed.{transposed-slots, side-held}
@@ -176,8 +176,8 @@ module _ (p : ℕ) (prime : Prime p) {n : ℕ} (small : n ≤ lanes) {L : Level}
         degrees-small =
             omega (
               arith,
-              total-le n (λ q. U .size q - 1) (λ q. blockDegree) (λ q h. omega (arith, low q h)),
-              total-constant n blockDegree,
+              total-le n (λ q. U .size q - 1) (λ q. lastDegree) (λ q h. omega (arith, low q h)),
+              total-constant n lastDegree,
             )
 
         tail-size : (q : ℕ) → q < n → 0 < U .size q → size (residues p prime) (U .at q n) ≤ mostCoefficients

@@ -2,7 +2,6 @@
 use crate::solve;
 use answers::Counted;
 use answers::Refusal;
-use answers::word::WORD_BYTES;
 use files::opening::open_file;
 use files::writing::write_bytes;
 use limits::Office;
@@ -14,9 +13,6 @@ ghost use Rattle.words.specs.Bytes.{wordBytes};
 ghost use Rattle.answers.specs.Answer.{countedOutcome};
 ghost use Rattle.solver.specs.Solving.{withRoom, certificateBytes, SolvesOr, SolvesFile};
 
-// The bytes of the longest certificate's file.
-const CERTIFICATE_BYTES: usize = WORD_BYTES * Office::CERTIFICATE_WORDS;
-
 // Solves the system of some words: writes its certificate over the first of the lent bytes. Returns the number of its bytes.
 fn solve_to_bytes(bytes: &mut [u8], system: &[u32]) -> Counted
     ensures { λ r. ⌜ SolvesOr office certificateBytes
@@ -27,7 +23,7 @@ fn solve_to_bytes(bytes: &mut [u8], system: &[u32]) -> Counted
     let solved = solve(&mut words, system);
     match solved {
         Counted::Count(count) => {
-            if bytes.len() < CERTIFICATE_BYTES {
+            if bytes.len() < Office::CERTIFICATE_BYTES {
                 let place: usize = 0;
                 return Counted::Refused(Refusal { number: 11, place });
             }
@@ -42,7 +38,7 @@ pub fn solve_file(bytes: &mut [u8], file: &[u8]) -> Counted
     ensures { λ r. ⌜ SolvesFile office (now (file .entry)) (now (bytes .entry)) (now (bytes .exit)) (countedOutcome r) ⌝ }
 {
     let mut system = [0u32; Office::SYSTEM_WORDS];
-    let opened = open_file(&mut system, file, Office::FILE_BYTES);
+    let opened = open_file(&mut system, file, Office::SYSTEM_BYTES);
     match opened {
         Counted::Count(count) => solve_to_bytes(bytes, &system[..count]),
         Counted::Refused(refusal) => Counted::Refused(refusal),

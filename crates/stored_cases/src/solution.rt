@@ -4,16 +4,12 @@ use crate::output::text;
 use crate::output::words;
 use answers::Counted;
 use answers::Verdict;
-use answers::word::WORD_BYTES;
 use files::unpacking::unpack;
 use limits::Office;
 use report::SPACE;
 use report::write_report;
 use solver::file::solve_file;
 use verifier::file::check_files;
-
-// The bytes of the longest certificate's file.
-const CERTIFICATE_BYTES: usize = WORD_BYTES * Office::CERTIFICATE_WORDS;
 
 // Prints the words of a certificate's file.
 fn show_words(certificate: &[u8]) {
@@ -34,7 +30,7 @@ fn show_accepted(file: &[u8], certificate: &[u8]) {
 
 // Prints the certificate that the solver gives for a file, if this holds a system.
 fn show_solved(file: &[u8]) {
-    let mut certificate = [0u8; CERTIFICATE_BYTES];
+    let mut certificate = [0u8; Office::CERTIFICATE_BYTES];
     let solved = solve_file(&mut certificate, file);
     match solved {
         Counted::Count(n) => show_accepted(file, &certificate[0..n]),

@@ -9,8 +9,8 @@ use Rattle.words.specs.Limits.{office, longestCertificate}
 use Rattle.words.specs.Bytes.{wordBytes}
 
 -- the bytes of the longest certificate's file: with so many lent, 11 is never said
-abbrev pub certificateSpace : ℕ
-certificateSpace = wordBytes * longestCertificate office
+abbrev pub certificateFileBytes : ℕ
+certificateFileBytes = wordBytes * longestCertificate office
 
 -- the room for the start of a file: two words more than the longest certificate has
 abbrev pub fileSpace : ℕ

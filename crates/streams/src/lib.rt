@@ -10,10 +10,7 @@ use libc::STDOUT_FILENO;
 use limits::Office;
 
 // The bytes that are read of a sheet (a system's file): one more than the longest has. All that is longer is refused as these are.
-pub const SYSTEM_SPACE: usize = Office::FILE_BYTES + 1;
-
-// The bytes of the longest certificate's file.
-pub const CERTIFICATE_BYTES: usize = WORD_BYTES * Office::CERTIFICATE_WORDS;
+pub const SYSTEM_SPACE: usize = Office::SYSTEM_BYTES + 1;
 
 // Two words more than the longest certificate has: the room for the start of a file.
 pub const FILE_SPACE: usize = WORD_BYTES * (Office::CERTIFICATE_WORDS + 2);

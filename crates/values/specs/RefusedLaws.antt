@@ -6,8 +6,9 @@ use mathlib.Core.Bool.{Bool, not, _&&_, _||_}
 use mathlib.Core.List.{List}
 use Prim.Native.Nat.{ℕ}
 use lib.Dec.{ltb}
+use Rattle.modular.specs.LargestPrime.{largestModulus}
 use Rattle.modular.specs.Prime.{prime?}
-use Rattle.words.specs.Limits.{Limits, largestModulus}
+use Rattle.words.specs.Limits.{Limits}
 use Rattle.words.specs.Outcome.{Outcome, refuse}
 use Rattle.words.specs.Outcome.Outcome.{refused}
 use Rattle.words.specs.OutcomeLaws.{mapped-refused-iff, refuse-refused-iff}

@@ -1,8 +1,2 @@
 pub mod Storing
 pub mod Sums
-pub mod Compared
-pub mod Rows
-pub mod Adding
-pub mod Rest
-pub mod Step
-pub mod Dividing

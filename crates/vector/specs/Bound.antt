@@ -12,10 +12,6 @@ use Rattle.vector.specs.Multiple.{sumAt}
 abbrev pub Reducible : ℕ → List ℕ → ℕ → Type 0
 Reducible p l n = (j : ℕ) → j < n → SmallSum p (getD l j 0)
 
--- the most terms of a sum of products that is not reduced before its end: half of what `SmallSum` has room for
-abbrev pub mostTerms : ℕ
-mostTerms = 4096
-
 -- every word is at most b
 abbrev pub AtMost : ℕ → List ℕ → Type 0
 AtMost b l = (i : ℕ) → getD l i 0 ≤ b

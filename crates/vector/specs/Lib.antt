@@ -1,6 +1,5 @@
--- interface, what contracts, other crates and documents cite: Or, Sum, RowStored, Stored, Reduced, Multiple, Bound, Size, Decides,
---   Product, Long
--- inside: Row, Moved, Examples
+-- interface, what contracts, other crates and documents cite: Or, Sum, RowStored, Stored, Reduced, Multiple, Bound, Size, Moved
+-- inside: Row, Examples
 -- Eight words at once: what the loops on long ranges do in one turn.
 pub mod Or
 pub mod Sum
@@ -13,7 +12,4 @@ pub mod Bound
 pub mod Size
 pub mod Row
 pub mod Moved
-pub mod Decides
-pub mod Product
-pub mod Long
 pub mod Examples

@@ -7,6 +7,7 @@ use native.Mathlib.Omega.{arith}
 use lib.ListN.{length}
 use lib.Dec.{ltb}
 use borrow.Author.Tests.{ltb-false}
+use Rattle.modular.specs.Bits.{most4}
 use Rattle.words.specs.Limits.{Limits, longestSystem, longestCertificate}
 use Rattle.words.specs.LimitsLaws.{LimitsFit}
 use Rattle.words.specs.Outcome.{refuse}
@@ -15,7 +16,6 @@ use Rattle.words.specs.Bytes.{wordsOf, broken, tooLong, wordBytes}
 use Rattle.words.specs.BytesLaws.{length-wordsOf}
 use Rattle.words.specs.Rows.{checkRows}
 use Rattle.words.specs.RowLaws.{places-below, check-below}
-use Rattle.words.specs.System.{countMost}
 use Rattle.truth.specs.Verdict.{verdict}
 use Rattle.truth.specs.RefusedWords.{words-rows}
 use Rattle.truth.specs.Prefix.{verdict-room}
@@ -32,7 +32,7 @@ passed-short false false most n e h = omega (arith, ltb-false (wordBytes * most)
 
 module _ (limits : Limits) (fit : LimitsFit limits) (system certificate : List ℕ) (b : ℕ)
     (longest-system : longestSystem limits ≤ b) (longest-certificate : longestCertificate limits + 1 ≤ b)
-    (heads : countMost ≤ b) where
+    (heads : most4 ≤ b) where
   -- as many of the certificate's words as decide
   abbrev first-words : List ℕ
   first-words = firstWords (longestCertificate limits + 1) (wordsOf certificate)

@@ -14,17 +14,17 @@ abbrev pub wordBytes : ℕ
 wordBytes = 4
 
 -- one more in the second, the third and the fourth byte of a word is so much more
-abbrev pub secondByte : ℕ
-secondByte = 256
+abbrev pub secondByteUnit : ℕ
+secondByteUnit = 256
 
-abbrev pub thirdByte : ℕ
-thirdByte = 65536
+abbrev pub thirdByteUnit : ℕ
+thirdByteUnit = 65536
 
-abbrev pub fourthByte : ℕ
-fourthByte = 16777216
+abbrev pub fourthByteUnit : ℕ
+fourthByteUnit = 16777216
 
 abbrev pub wordOf : ℕ → ℕ → ℕ → ℕ → ℕ
-wordOf a b c d = a + b * secondByte + c * thirdByte + d * fourthByte
+wordOf a b c d = a + b * secondByteUnit + c * thirdByteUnit + d * fourthByteUnit
 
 -- the word that starts at a byte
 abbrev pub wordAt : List ℕ → ℕ → ℕ
@@ -40,7 +40,7 @@ wordsOf (a ∷ b ∷ c ∷ d ∷ bytes) = wordOf a b c d ∷ wordsOf bytes
 
 unfoldable pub bytesOf : List ℕ → List ℕ
 bytesOf [] = []
-bytesOf (w ∷ ws) = w % bound8 ∷ w / secondByte % bound8 ∷ w / thirdByte % bound8 ∷ w / fourthByte ∷ bytesOf ws
+bytesOf (w ∷ ws) = w % bound8 ∷ w / secondByteUnit % bound8 ∷ w / thirdByteUnit % bound8 ∷ w / fourthByteUnit ∷ bytesOf ws
 
 -- 10, first half: bytes not a multiple of four
 abbrev pub broken : List ℕ → Bool

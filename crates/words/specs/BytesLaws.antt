@@ -13,7 +13,7 @@ use Rattle.words.specs.Word.{Bytes}
 use Rattle.words.specs.Outcome.Outcome.{accepted, refused}
 use Rattle.words.specs.System.{System, SystemWithin, systemWords, readSystem}
 use Rattle.words.specs.Bytes.{wordOf, wordAt, wordsOf, bytesOf, broken, tooLong, readSystemFile, wordBytes}
-use Rattle.words.specs.Bytes.{secondByte, thirdByte, fourthByte}
+use Rattle.words.specs.Bytes.{secondByteUnit, thirdByteUnit, fourthByteUnit}
 use Rattle.words.specs.OutcomeLaws.{refuse-passed}
 use Rattle.words.specs.LimitsLaws.{LimitsFit}
 use Rattle.words.specs.SystemLaws.{system-read-of-written, system-written-of-read, systemWords-most}
@@ -65,11 +65,11 @@ bytesOf-wordsOf (a ∷ b ∷ c ∷ d ∷ bytes) h e =
     let hc = h 2 in
     let w : ℕ = wordOf a b c d in
     let ea : w % bound8 ≡ a = omega arith in
-    let qb : w / secondByte ≡ b + (c + d * bound8) * bound8 = omega arith in
-    let eb : w / secondByte % bound8 ≡ b = ap (λ (q : ℕ). q % bound8) qb ∙ low b (c + d * bound8) hb in
-    let qc : w / thirdByte ≡ c + d * bound8 = omega arith in
-    let ec : w / thirdByte % bound8 ≡ c = ap (λ (q : ℕ). q % bound8) qc ∙ low c d hc in
-    let ed : w / fourthByte ≡ d = omega arith in
+    let qb : w / secondByteUnit ≡ b + (c + d * bound8) * bound8 = omega arith in
+    let eb : w / secondByteUnit % bound8 ≡ b = ap (λ (q : ℕ). q % bound8) qb ∙ low b (c + d * bound8) hb in
+    let qc : w / thirdByteUnit ≡ c + d * bound8 = omega arith in
+    let ec : w / thirdByteUnit % bound8 ≡ c = ap (λ (q : ℕ). q % bound8) qc ∙ low c d hc in
+    let ed : w / fourthByteUnit ≡ d = omega arith in
     let ih = bytesOf-wordsOf bytes (λ i. h (suc (suc (suc (suc i))))) (omega arith) in
     cc
 

@@ -1,6 +1,5 @@
 -- The limits of document 01, "Bounds", and of the panel (document 02, item 4): a parameter of every definition and law.
 use Prim.Native.Nat.{ℕ, _+_, _*_}
-use Rattle.modular.specs.LargestPrime.{largestPrime}
 
 pub record Limits : Type 0 where
   -- rows and columns: 1 to so many
@@ -15,10 +14,6 @@ office = record { rows = 8; columns = 8; systemCoefficients = 16; certificateCoe
 
 abbrev pub panel : Limits
 panel = record { rows = 4; columns = 4; systemCoefficients = 8; certificateCoefficients = 29 }
-
--- "p: any prime from 2 to 65,521"
-abbrev pub largestModulus : ℕ
-largestModulus = largestPrime
 
 -- how many polynomials a system has: those of A and of b
 abbrev pub systemCount : ℕ → ℕ → ℕ

@@ -2,14 +2,13 @@
 use Prim.Native.Nat.{ℕ, _+_, _≤_, _<_}
 use native.Mathlib.Nat.{mul-le-mul}
 use native.Mathlib.Omega.{arith}
-use Rattle.modular.specs.Bits.{bound16, most16}
+use Rattle.modular.specs.Bits.{bound16, most16, most4}
 use Rattle.words.specs.Limits.{Limits, office, panel, systemCount, wordsFor}
 use Rattle.words.specs.Word.{payloadBound}
-use Rattle.words.specs.System.{countMost}
 
 pub record LimitsFit (limits : Limits) : Type 0 where
-  pub rows : limits .rows ≤ countMost
-  pub columns : limits .columns ≤ countMost
+  pub rows : limits .rows ≤ most4
+  pub columns : limits .columns ≤ most4
   pub systemCoefficients : limits .systemCoefficients ≤ most16
   pub certificateCoefficients : limits .certificateCoefficients ≤ most16
 
@@ -29,7 +28,7 @@ pub wordsFor-most : {count most : ℕ} (coefficients : ℕ) → count ≤ most �
 wordsFor-most {count} {most} coefficients h = omega (arith, mul-le-mul h (native.Mathlib.Nat.le-refl (1 + coefficients)))
 
 -- a system or a certificate of no more polynomials than a head can ask for has its count of words in the end word
-pub wordsFor-small : {count coefficients : ℕ} → count ≤ systemCount countMost countMost → coefficients ≤ most16
+pub wordsFor-small : {count coefficients : ℕ} → count ≤ systemCount most4 most4 → coefficients ≤ most16
     → wordsFor count coefficients < payloadBound
 wordsFor-small {count} {coefficients} h k =
     let k′ : 1 + coefficients ≤ bound16 = omega arith in

@@ -10,6 +10,7 @@ use native.Mathlib.Omega.{arith}
 use lib.ListN.{length, getD, take}
 use lib.Dec.{eqb}
 use borrow.Author.Tests.{ltb-false}
+use Rattle.modular.specs.Bits.{bound4}
 use Rattle.modular.specs.Prime.{prime?}
 use Rattle.modular.specs.Primality.{prime-of-true}
 use Rattle.words.specs.Limits.{Limits, longestSystem}
@@ -20,7 +21,7 @@ use Rattle.words.specs.OutcomeLaws.{refuse-refused-iff}
 use Rattle.words.specs.BytesLaws.{length-wordsOf, or-right}
 use Rattle.words.specs.Reading.{Reading, turnBack}
 use Rattle.words.specs.System.{Shape, ShapeWithin, headShape, countsWithin, systemWords, systemHeadFrom, systemDue}
-use Rattle.words.specs.System.{zeroUnit, countBound}
+use Rattle.words.specs.System.{zeroUnit}
 use Rattle.words.specs.System.{readSystem}
 use Rattle.words.specs.Certificate.{formWhen, certificateHeadFrom, certificateDue, certificateWords, readCertificate}
 use Rattle.words.specs.Certificate.Form.{absent}
@@ -56,7 +57,7 @@ system-heads limits =
       value = headShape;
       missing = refl;
       word = λ w ws.
-          row-turned (not (eqb (kind w) 1 && eqb (w / zeroUnit % countBound) 0)) 1 (w ∷ ws) _ _ _
+          row-turned (not (eqb (kind w) 1 && eqb (w / zeroUnit % bound4) 0)) 1 (w ∷ ws) _ _ _
           (row-turned (not (prime? (headShape w .modulus))) 2 (w ∷ ws) _ _ _
           (row-turned (not (countsWithin limits (headShape w))) 3 (w ∷ ws) _ none _ refl));
       says = λ w. refl;
@@ -76,7 +77,7 @@ certificate-heads limits h =
 system-head-numbers : (limits : Limits) (w n : ℕ) → systemHeadNumber limits w ≡ some n → (1 ≤ n) × (n ≤ 3)
 unfolding systemHeadNumber
 system-head-numbers limits w n h =
-    head-row (not (eqb (kind w) 1 && eqb (w / zeroUnit % countBound) 0)) 1 _ (omega arith)
+    head-row (not (eqb (kind w) 1 && eqb (w / zeroUnit % bound4) 0)) 1 _ (omega arith)
     (head-row (not (prime? (headShape w .modulus))) 2 _ (omega arith)
     (head-row (not (countsWithin limits (headShape w))) 3 none (omega arith) (λ e. absurd (none-some e)))) h
   where

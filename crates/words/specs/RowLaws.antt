@@ -9,11 +9,12 @@ use native.Mathlib.Omega.{arith}
 use lib.ListN.{length, getD}
 use lib.Dec.{leb}
 use borrow.Author.Tests.{leb-true}
+use Rattle.modular.specs.Bits.{most4}
 use Rattle.words.specs.Outcome.{Outcome, refuse, followedBy, mapped}
 use Rattle.words.specs.Outcome.Outcome.{accepted, refused}
 use Rattle.words.specs.OutcomeLaws.{refused-accepted, mapped-refused}
 use Rattle.words.specs.ReadingLaws.{and-passed}
-use Rattle.words.specs.System.{headShape, countMost}
+use Rattle.words.specs.System.{headShape}
 use Rattle.words.specs.Rows.{Row, InRow, InRows, RefusesBy, at-0, wordsRows, certificateRows, valueRows, checkRows}
 
 -- all numbers of these rows lie between two
@@ -86,13 +87,13 @@ by-followed {rows = rows} {more} (refused number place) next h f = record {
 pub by-mapped : {A B : Type 0} {rows : List Row} (f : A → B) (o : Outcome A) → RefusesBy rows o → RefusesBy rows (mapped f o)
 by-mapped f o h = record { in-rows = λ n k e. h .in-rows n k (mapped-refused f o e) }
 
--- ---- the check: no place is greater than both numbers of words, or than `countMost`, to which heads count rows and columns
+-- ---- the check: no place is greater than both numbers of words, or than `most4`, to which heads count rows and columns
 
 words-below : (lowest highest by count : ℕ) {most : ℕ} (rows : List Row) → count ≤ most → Below (suc most) rows
     → Below (suc most) (wordsRows lowest highest by count ++ rows)
 words-below lowest highest by count rows h b = (omega arith, (omega arith, (omega arith, b)))
 
-pub check-below : (ws cs : List ℕ) {most : ℕ} → length ws ≤ most → length cs ≤ most → countMost ≤ most
+pub check-below : (ws cs : List ℕ) {most : ℕ} → length ws ≤ most → length cs ≤ most → most4 ≤ most
     → Below (suc most) (checkRows ws cs)
 unfolding headShape
 check-below ws cs system certificate heads =

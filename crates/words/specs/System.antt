@@ -4,8 +4,10 @@ use mathlib.Core.Bool.{Bool, not, _&&_}
 use mathlib.Core.List.{List, [], _∷_, _++_}
 use lib.ListN.{length, getD, take, drop}
 use lib.Dec.{eqb, leb}
+use Rattle.modular.specs.LargestPrime.{largestModulus}
+use Rattle.modular.specs.Bits.{bound4, bound16}
 use Rattle.modular.specs.Prime.{Prime, prime?}
-use Rattle.words.specs.Limits.{Limits, largestModulus, systemCount}
+use Rattle.words.specs.Limits.{Limits, systemCount}
 use Rattle.words.specs.Word.{kind, word}
 use Rattle.words.specs.Outcome.{Outcome}
 use Rattle.words.specs.Reading.{Reading, turnBack, andThen, outcome}
@@ -56,7 +58,8 @@ pub record SystemWithin (limits : Limits) (s : System) : Type 0 where
 
 -- ---- written form: "A sheet is head, A row by row, b, end."
 
--- in a head: one row more, one column more and one more in the bits that are zero are so much more
+-- in a head: one row more, one column more and one more in the bits that are zero are so much more: 2^16, 2^20, 2^24. Each of the
+-- three has four bits.
 abbrev pub rowUnit : ℕ
 rowUnit = 65536
 
@@ -65,13 +68,6 @@ columnUnit = 1048576
 
 abbrev pub zeroUnit : ℕ
 zeroUnit = 16777216
-
--- n, m and the zeros have four bits each: they are below this, and at most one less
-abbrev pub countBound : ℕ
-countBound = 16
-
-abbrev pub countMost : ℕ
-countMost = 15
 
 -- kind 1: p in bits 0 to 15, n in bits 16 to 19, m in bits 20 to 23, bits 24 to 27 zero
 unfoldable pub headWord : Shape → ℕ
@@ -87,7 +83,7 @@ systemWords s = framedWords (headWord (shape s)) (systemEntries s)
 -- ---- reading
 
 unfoldable pub headShape : ℕ → Shape
-headShape w = record { modulus = w % rowUnit; rows = w / rowUnit % countBound; columns = w / columnUnit % countBound }
+headShape w = record { modulus = w % bound16; rows = w / rowUnit % bound4; columns = w / columnUnit % bound4 }
 
 abbrev pub oneTo : ℕ → ℕ → Bool
 oneTo most n = leb 1 n && leb n most
@@ -98,7 +94,7 @@ countsWithin limits h = oneTo (limits .rows) (h .rows) && oneTo (limits .columns
 unfoldable pub systemHeadFrom : Limits → List ℕ → Reading Shape
 systemHeadFrom limits [] = fault 4 []  -- "An empty sheet is 4 at 0"
 systemHeadFrom limits (w ∷ ws) =
-    turnBack (not (eqb (kind w) 1 && eqb (w / zeroUnit % countBound) 0)) 1 (w ∷ ws)  -- 1: kind not 1 or bits 24 to 27 not zero
+    turnBack (not (eqb (kind w) 1 && eqb (w / zeroUnit % bound4) 0)) 1 (w ∷ ws)  -- 1: kind not 1 or bits 24 to 27 not zero
     (turnBack (not (prime? (headShape w .modulus))) 2 (w ∷ ws)  -- 2: p not prime
     (turnBack (not (countsWithin limits (headShape w))) 3 (w ∷ ws)  -- 3: n or m outside 1 to 8
     (read (headShape w) ws)))

@@ -7,13 +7,14 @@ use native.Mathlib.Omega.{arith}
 use lib.ListN.{getD}
 use lib.Dec.{eqb, leb}
 use borrow.Author.Tests.{eqb-true, eq-eqb, not-false, le-leb, leb-true}
+use Rattle.modular.specs.Bits.{bound4}
 use Rattle.modular.specs.Prime.{prime?}
 use Rattle.modular.specs.Primality.{prime-of-true, true-of-prime}
 use Rattle.words.specs.Word.{kind}
 use Rattle.words.specs.Limits.{Limits}
 use Rattle.words.specs.Reading.Reading.{read}
 use Rattle.words.specs.System.{Shape, ShapeWithin, headWord, headShape, oneTo, systemHeadFrom}
-use Rattle.words.specs.System.{rowUnit, columnUnit, zeroUnit, countBound}
+use Rattle.words.specs.System.{rowUnit, columnUnit, zeroUnit}
 use Rattle.words.specs.ReadingLaws.{fault-read, turnBack-read, and-passed}
 use Rattle.words.specs.LimitsLaws.{LimitsFit}
 use Rattle.modular.specs.LargestPrime.{prime-largest}
@@ -26,7 +27,7 @@ pub oneTo-from : (most n : ℕ) → oneTo most n ≡ true → (1 ≤ n) × (n �
 oneTo-from most n e = let t = and-passed (leb 1 n) (leb n most) (ap not e) in (leb-true 1 n (t .0), leb-true n most (t .1))
 
 -- the low four bits
-low : (x r q : ℕ) → x ≡ r + q * countBound → r < countBound → x % countBound ≡ r
+low : (x r q : ℕ) → x ≡ r + q * bound4 → r < bound4 → x % bound4 ≡ r
 low x r q e h = omega arith
 
 module _ (limits : Limits) where
@@ -39,13 +40,13 @@ module _ (limits : Limits) where
       let c₁ = w .columns in
       let w₀ : ℕ = headWord h in
       let ep : w₀ % rowUnit ≡ h .modulus = omega arith in
-      let qr : w₀ / rowUnit ≡ h .rows + (h .columns + countBound * countBound) * countBound = omega arith in
-      let er : w₀ / rowUnit % countBound ≡ h .rows = low _ _ (h .columns + countBound * countBound) qr (omega arith) in
-      let qc : w₀ / columnUnit ≡ h .columns + countBound * countBound = omega arith in
-      let ec : w₀ / columnUnit % countBound ≡ h .columns = low _ _ countBound qc (omega arith) in
+      let qr : w₀ / rowUnit ≡ h .rows + (h .columns + bound4 * bound4) * bound4 = omega arith in
+      let er : w₀ / rowUnit % bound4 ≡ h .rows = low _ _ (h .columns + bound4 * bound4) qr (omega arith) in
+      let qc : w₀ / columnUnit ≡ h .columns + bound4 * bound4 = omega arith in
+      let ec : w₀ / columnUnit % bound4 ≡ h .columns = low _ _ bound4 qc (omega arith) in
       let ek : kind w₀ ≡ 1 = omega arith in
-      let qz : w₀ / zeroUnit ≡ countBound = omega arith in
-      let ez : w₀ / zeroUnit % countBound ≡ 0 = low _ _ 1 qz (omega arith) in
+      let qz : w₀ / zeroUnit ≡ bound4 = omega arith in
+      let ez : w₀ / zeroUnit % bound4 ≡ 0 = low _ _ 1 qz (omega arith) in
       simp (
         eq-eqb _ _ ek,
         eq-eqb _ _ ez,
@@ -58,12 +59,12 @@ module _ (limits : Limits) where
       )
 
   -- a word whose kind is 1 and whose bits 24 to 27 are zero is the head of what it holds
-  head-word : (w : ℕ) → kind w ≡ 1 → w / zeroUnit % countBound ≡ 0 → w ≡ headWord (headShape w)
+  head-word : (w : ℕ) → kind w ≡ 1 → w / zeroUnit % bound4 ≡ 0 → w ≡ headWord (headShape w)
   unfolding headWord headShape
   head-word w k z =
-      let q : w / zeroUnit ≡ countBound = omega arith in
-      let c : w / columnUnit ≡ countBound * countBound + w / columnUnit % countBound = omega arith in
-      let r : w / rowUnit ≡ w / columnUnit * countBound + w / rowUnit % countBound = omega arith in
+      let q : w / zeroUnit ≡ bound4 = omega arith in
+      let c : w / columnUnit ≡ bound4 * bound4 + w / columnUnit % bound4 = omega arith in
+      let r : w / rowUnit ≡ w / columnUnit * bound4 + w / rowUnit % bound4 = omega arith in
       omega arith
 
   pub record HeadRead (ws : List ℕ) (h : Shape) (rest : List ℕ) : Type 0 where
@@ -76,10 +77,10 @@ module _ (limits : Limits) where
   head-read [] h rest e = absurd (fault-read e)
   head-read (w ∷ ws) h rest e =
       let g = headShape w in
-      let a = turnBack-read (not (eqb (kind w) 1 && eqb (w / zeroUnit % countBound) 0)) _ _ _ e in
+      let a = turnBack-read (not (eqb (kind w) 1 && eqb (w / zeroUnit % bound4) 0)) _ _ _ e in
       let b = turnBack-read (not (prime? (g .modulus))) _ _ _ (a .1) in
       let c = turnBack-read (not (oneTo (limits .rows) (g .rows) && oneTo (limits .columns) (g .columns))) _ _ _ (b .1) in
-      let k = and-passed (eqb (kind w) 1) (eqb (w / zeroUnit % countBound) 0) (a .0) in
+      let k = and-passed (eqb (kind w) 1) (eqb (w / zeroUnit % bound4) 0) (a .0) in
       let n = and-passed (oneTo (limits .rows) (g .rows)) (oneTo (limits .columns) (g .columns)) (c .0) in
       let prime = prime-of-true (w % rowUnit) (not-false _ (b .0)) in
       let eh : g ≡ h = cc in
@@ -87,7 +88,7 @@ module _ (limits : Limits) where
       subst₂ (HeadRead (w ∷ ws)) eh er
       (record {
         says = refl;
-        words = ap (λ (v : ℕ). v ∷ ws) (head-word w (eqb-true (kind w) 1 (k .0)) (eqb-true (w / zeroUnit % countBound) 0 (k .1)));
+        words = ap (λ (v : ℕ). v ∷ ws) (head-word w (eqb-true (kind w) 1 (k .0)) (eqb-true (w / zeroUnit % bound4) 0 (k .1)));
         within = record {
           prime = prime;
           modulus = prime-largest (w % rowUnit) prime (omega arith);

@@ -8,11 +8,12 @@ use mathlib.Core.Option.{Option, none, some}
 use mathlib.Core.List.{List, [], _∷_}
 use lib.ListN.{length, take, drop}
 use lib.Dec.{eqb, leb, ltb}
+use Rattle.modular.specs.Bits.{bound4}
 use Rattle.modular.specs.Prime.{prime?}
 use Rattle.words.specs.Limits.{Limits}
 use Rattle.words.specs.Word.{kind, payload}
 use Rattle.words.specs.Frame.{Due}
-use Rattle.words.specs.System.{Shape, headShape, countsWithin, systemDue, zeroUnit, countBound}
+use Rattle.words.specs.System.{Shape, headShape, countsWithin, systemDue, zeroUnit}
 use Rattle.words.specs.Certificate.{formWhen, certificateDue}
 
 -- ---- what is due
@@ -132,7 +133,7 @@ pub record PolynomialsByTable (p limit count : ℕ) (ws : List ℕ) (number plac
 -- 1: kind not 1 or bits 24 to 27 not zero; 2: p not prime; 3: n or m outside 1 to 8
 unfoldable pub systemHeadNumber : Limits → ℕ → Option ℕ
 systemHeadNumber limits w =
-    tableRow (not (eqb (kind w) 1 && eqb (w / zeroUnit % countBound) 0)) 1
+    tableRow (not (eqb (kind w) 1 && eqb (w / zeroUnit % bound4) 0)) 1
     (tableRow (not (prime? (headShape w .modulus))) 2
     (tableRow (not (countsWithin limits (headShape w))) 3
     none))

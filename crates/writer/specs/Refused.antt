@@ -3,8 +3,9 @@
 use mathlib.Core.Path.{_≡_}
 use mathlib.Core.List.{List}
 use Prim.Native.Nat.{ℕ, _≤_, _<_}
+use Rattle.modular.specs.LargestPrime.{largestModulus}
 use Rattle.modular.specs.Prime.{Prime}
-use Rattle.words.specs.Limits.{Limits, largestModulus, longestSystem, longestCertificate}
+use Rattle.words.specs.Limits.{Limits, longestSystem, longestCertificate}
 use Rattle.words.specs.Polynomial.{AllWithin}
 use Rattle.words.specs.System.{System, Shape, ShapeWithin, shape, systemEntries}
 use Rattle.words.specs.Certificate.{Certificate, certificateEntries}

@@ -8,9 +8,10 @@ use native.Mathlib.Omega.{arith}
 use lib.ListN.{length}
 use lib.Dec.{ltb}
 use borrow.Author.Tests.{ltb-true, ltb-false, lt-ltb, le-ltb, not-false}
+use Rattle.modular.specs.LargestPrime.{largestModulus}
 use Rattle.modular.specs.Prime.{prime?}
 use Rattle.modular.specs.Primality.{prime-of-true, true-of-prime}
-use Rattle.words.specs.Limits.{Limits, largestModulus, wordsFor, longestSystem, longestCertificate}
+use Rattle.words.specs.Limits.{Limits, wordsFor, longestSystem, longestCertificate}
 use Rattle.words.specs.Outcome.{Outcome, refuse}
 use Rattle.words.specs.Outcome.Outcome.{accepted, refused}
 use Rattle.words.specs.OutcomeLaws.{refused-accepted, refuse-refused-iff, mapped-refused}

@@ -5,7 +5,7 @@ use native.Mathlib.Nat.{mul-le-mul}
 use native.Mathlib.Omega.{arith}
 use lib.ListN.{length}
 use borrow.Author.Needs.{needs}
-use Rattle.modular.specs.LargestPrime.{largestPrime}
+use Rattle.modular.specs.LargestPrime.{largestModulus}
 use Rattle.residue.specs.Modulus.{ValidModulus}
 use Rattle.solve_lattice.specs.Room.{productWords, inputWords, outputWords, blockWords, tailWords}
 use Rattle.solve_descent.proofs.Columns.{stored-length, stored-below, column-taken}
@@ -33,7 +33,7 @@ subtract-product-requires c κs =
     let N = K .before .before .before in
     let S = N .before .before .before in
     let m : ValidModulus (S .args .modulus) = S .pre .0 .0 in
-    let limit : S .args .modulus .p ≤ largestPrime = m .limit in
+    let limit : S .args .modulus .p ≤ largestModulus = m .limit in
     let square = mul-le-mul limit limit in
     let few = K .lesser .ensures in
     let stores = N .store-negated .ensures in

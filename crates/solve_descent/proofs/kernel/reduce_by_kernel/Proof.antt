@@ -7,7 +7,7 @@ use native.Mathlib.Omega.{arith}
 use borrow.Author.Needs.{needs}
 use lib.ListN.{length, getD}
 use Rattle.modular.specs.Modulo.{modulo}
-use Rattle.modular.specs.LargestPrime.{largestPrime}
+use Rattle.modular.specs.LargestPrime.{largestModulus}
 use Rattle.residue.specs.Modulus.{ValidModulus}
 use Rattle.residue.specs.Below.{inverse-below}
 use Rattle.solve_lattice.specs.Room.{blockWords, tailWords}
@@ -85,7 +85,7 @@ add-scaled-requires c κs =
     let by = factor-is (S .args .modulus .p) (U .mul .ensures) (U .before .reduce .ensures)
     (last-is (S .args .modulus .p) (S .args .kernel .now) (S .args .size - 1) (A .before .inverse .ensures)) in
     let m : ValidModulus (S .args .modulus) = S .pre .0 .0 in
-    let limit : S .args .modulus .p ≤ largestPrime = m .limit in
+    let limit : S .args .modulus .p ≤ largestModulus = m .limit in
     let valid = S .pre .0 .1 in
     let y : length (L .y) ≡ tailWords = search needs in
     let kernel : length (S .args .kernel .now) ≡ blockWords = search needs in (

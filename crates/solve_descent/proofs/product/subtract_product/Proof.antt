@@ -4,7 +4,7 @@ use mathlib.Core.Path.{_≡_, sym, _∙_, subst}
 use mathlib.Core.Logic.{⊎-elim}
 use native.Mathlib.Omega.{arith}
 use borrow.Author.Needs.{needs}
-use Rattle.modular.specs.LargestPrime.{largestPrime}
+use Rattle.modular.specs.LargestPrime.{largestModulus}
 use Rattle.solve_descent.specs.Product.{TakesProduct}
 use Rattle.solve_descent.proofs.Products.{next-multiple, product-start, product-none, product-sum, product-turn}
 use Rattle.solve_descent.proofs.Products.{product-skip}
@@ -64,7 +64,7 @@ add-scaled-requires c κs =
     let S = c .before .before .before .before .before .before .before .before .before .before in
     let L = c .before .before .before .before .before .loop in
     let so-far = L .inv .1 in
-    let limit : S .args .modulus .p ≤ largestPrime = S .pre .0 .0 .limit in
+    let limit : S .args .modulus .p ≤ largestModulus = S .pre .0 .0 .limit in
     let rows = next-multiple (L .k) (S .args .terms .count) (S .args .w) (omega arith) in (
       (omega (arith, so-far .same-length), omega arith, omega arith),
       (

@@ -7,7 +7,7 @@ use borrow.Author.Needs.{needs}
 use Rattle.modular.specs.Bits.{most16}
 use Rattle.residue.specs.Modulus.{ValidModulus}
 use Rattle.polynomial.specs.Value.{polynomialRoom, represents-is}
-use Rattle.vector.specs.Product.{sumMost}
+use Rattle.polynomial_words.specs.Product.{sumMost}
 use Rattle.polynomial.proofs.Products.{words-at-most, products-small, products-are}
 use Rattle.polynomial.proofs.value.Polynomial.add_product.Statement.{statement}
 use Rattle.polynomial.proofs.value.Polynomial.add_product.Tie as tie

@@ -5,8 +5,8 @@ use native.Mathlib.Omega.{arith}
 use lib.ListN.{length, take}
 use borrow.Author.Needs.{needs}
 use Rattle.polynomial.specs.Value.{polynomialRoom, coefficientsOf}
-use Rattle.vector.specs.Decides.{Decides}
-use Rattle.vector.proofs.Compared.{compared-sizes}
+use Rattle.polynomial_words.specs.Decides.{Decides}
+use Rattle.polynomial_words.proofs.Compared.{compared-sizes}
 use Rattle.polynomial.proofs.value.Polynomial.equal.Statement.{statement}
 use Rattle.polynomial.proofs.value.Polynomial.equal.Tie as tie
 

@@ -2,7 +2,7 @@
 use native.Mathlib.Nat.{mul-le-mul, le-of-lt}
 use native.Mathlib.Omega.{arith}
 use Rattle.modular.specs.Modulo.{modulo}
-use Rattle.modular.specs.LargestPrime.{largestPrime}
+use Rattle.modular.specs.LargestPrime.{largestModulus}
 use Rattle.residue.proofs.modulus.Modulus.mul.Statement.{statement}
 use Rattle.residue.proofs.modulus.Modulus.mul.Tie as tie
 
@@ -10,7 +10,7 @@ mul-reduce : tie.Need-mul-reduce
 mul-reduce c =
     omega (
       arith,
-      mul-le-mul {n₁ = c .args .a} {m₁ = c .args .b} {n₂ = largestPrime} {m₂ = largestPrime} (omega arith) (omega arith),
+      mul-le-mul {n₁ = c .args .a} {m₁ = c .args .b} {n₂ = largestModulus} {m₂ = largestModulus} (omega arith) (omega arith),
     )
 
 reduce-requires : tie.Need-reduce-requires
