@@ -1,4 +1,5 @@
--- Words written as bytes over the first of those lent: as many words as there is room for, and behind their bytes what stood there.
+-- "In a file each word is four bytes, lowest first." Words written as bytes over the first of those lent: as many words as there is
+-- room for, and behind their bytes what stood there.
 use Prim.Native.Nat.{ℕ, _*_, _/_, min}
 use mathlib.Core.Path.{_≡_}
 use mathlib.Core.List.{List, _++_}

@@ -1,4 +1,5 @@
--- Bytes unpacked into lent words: as many words as there is room for, and behind them what stood there.
+-- "In a file each word is four bytes, lowest first." Bytes unpacked into lent words: as many words as there is room
+-- for, and behind them what stood there.
 use Prim.Native.Nat.{ℕ, min}
 use mathlib.Core.Path.{_≡_}
 use mathlib.Core.List.{List, _++_}

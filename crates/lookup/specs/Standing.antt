@@ -13,6 +13,7 @@ use Rattle.words.specs.Starts.{startPlace}
 abbrev pub StartsInside : List ℕ → Type 0
 StartsInside ws = (k : ℕ) → startPlace ws k < length ws
 
--- from the start word of polynomial k up to before the next; 12 where another word stands
+-- "from its start word to its last coefficient": up to before the next start word; 12 where another word stands. Of words that were
+-- read it is the lookup's part (`StandingLaws`).
 abbrev pub partIn : List ℕ → ℕ → Outcome (ℕ × ℕ)
 partIn ws k = refuse (not (eqb (kind (getD ws (startPlace ws k) 0)) 2)) 12 0 (accepted (startPlace ws k, startPlace ws (suc k)))

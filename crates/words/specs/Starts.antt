@@ -1,5 +1,6 @@
--- The polynomials that stand in words behind a head, by the words alone: a start word, of kind 2, says how many coefficients stand
--- behind it, and so where the next start word stands. What a loop finds in words that were read.
+-- The polynomials that stand in words behind a head, by the words alone: "Kind 2, start of a polynomial: the number of its
+-- coefficients", and so where the next start word stands. Of words that were read these are the polynomials of what was read
+-- (`FramedLaws`).
 use mathlib.Core.Path.{_≡_, refl, ap, _∙_}
 use mathlib.Core.Bool.{Bool, true, false}
 use mathlib.Core.List.{List, [], _∷_, _++_, map}
