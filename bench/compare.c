@@ -62,8 +62,8 @@ static bool takes_part(const struct batch *b, int contestant)
 static uint64_t run(struct batch *b, int contestant, int i)
 {
     if (b->check)
-        return checks[contestant](b->system[i], b->system_bytes[i], b->certificate[i], b->certificate_bytes[i]);
-    return solvers[contestant](b->system[i], b->system_bytes[i], b->certificate[i], sizeof b->certificate[i]);
+        return checks[contestant](b->system[i], b->system_bytes[i], 0, b->certificate[i], b->certificate_bytes[i]);
+    return solvers[contestant](b->system[i], b->system_bytes[i], 0, b->certificate[i], sizeof b->certificate[i]);
 }
 
 static double seconds(clockid_t clock)
@@ -141,8 +141,8 @@ static uint64_t complete(struct batch *b, int i, size_t words)
     static struct system s;
     static struct certificate c;
     struct writer o = {b->certificate[i], words};
-    size_t bytes = 4 * (solve_O3(b->system[i], b->system_bytes[i], right, sizeof right) / 64);
-    if (read_system(&s, b->system[i], b->system_bytes[i]) != 0 || read_certificate(&c, &s, right, bytes) != 0 ||
+    size_t bytes = 4 * (solve_O3(b->system[i], b->system_bytes[i], 0, right, sizeof right) / 64);
+    if (read_system(&s, b->system[i], b->system_bytes[i], 0) != 0 || read_certificate(&c, &s, right, bytes) != 0 ||
         memcmp(right, b->certificate[i], 4) != 0)
         return 0;
     for (uint32_t r = 0; r < s.n + (c.kind == SOLUTION); r++) {
@@ -161,7 +161,7 @@ static uint64_t verdict(struct batch *b, int contestant, int i, uint64_t result)
         return result;
     if (contestant == BY_PARI)
         result = complete(b, i, result / 64);
-    return check_O2(b->system[i], b->system_bytes[i], b->certificate[i], 4 * (result / 64));
+    return check_O2(b->system[i], b->system_bytes[i], 0, b->certificate[i], 4 * (result / 64));
 }
 
 static _Noreturn void fail(const struct batch *b, int contestant, const char *why)

@@ -1,4 +1,5 @@
-// The systems of the benchmark. A load draws A as a product of matrices, all together of degree 15, and b of degree 15.
+// The systems of the benchmark, each with one right side. A load draws A as a product of matrices, all together of degree 15, and b of
+// degree 15.
 #ifndef LOADS_H
 #define LOADS_H
 #include <stdbool.h>

@@ -34,9 +34,9 @@ static void *run(void *argument)
 {
     struct call *c = argument;
     if (c->solve != NULL)
-        c->certificate_bytes = 4 * (size_t)(c->solve(c->system, c->system_bytes, c->certificate, sizeof c->certificate) / 64);
+        c->certificate_bytes = 4 * (size_t)(c->solve(c->system, c->system_bytes, 0, c->certificate, sizeof c->certificate) / 64);
     else if (c->check != NULL)
-        c->check(c->system, c->system_bytes, c->certificate, c->certificate_bytes);
+        c->check(c->system, c->system_bytes, 0, c->certificate, c->certificate_bytes);
     else if (c->report)
         yezsdolak_report(c->system, c->system_bytes, c->text, sizeof c->text);
     return NULL;

@@ -137,8 +137,8 @@ static size_t raise_certificate(uint8_t *raised, const uint8_t *system, size_t s
     static struct system s;
     static struct certificate c;
     struct writer o = {raised, 0};
-    size_t count = 4 * (solve_O3(system, system_bytes, bytes, sizeof bytes) >> 6);
-    if (read_system(&s, system, system_bytes) != 0 || read_certificate(&c, &s, bytes, count) != 0 || !all_longest(&c, &s))
+    size_t count = 4 * (solve_O3(system, system_bytes, 0, bytes, sizeof bytes) >> 6);
+    if (read_system(&s, system, system_bytes, 0) != 0 || read_certificate(&c, &s, bytes, count) != 0 || !all_longest(&c, &s))
         return 0;
     put(&o, CERTIFICATE_HEAD, SOLUTION);
     put_short(&o, c.d);
@@ -148,7 +148,7 @@ static size_t raise_certificate(uint8_t *raised, const uint8_t *system, size_t s
     for (uint32_t i = 0; i < s.n; i++)
         put_raised(&o, c.z[i], c.w, s.p);
     put_end(&o);
-    return check_O2(system, system_bytes, raised, 4 * o.words) == 0 ? 4 * o.words : 0;
+    return check_O2(system, system_bytes, 0, raised, 4 * o.words) == 0 ? 4 * o.words : 0;
 }
 
 static void make_largest(const char *folder, uint32_t p)

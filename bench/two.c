@@ -1,5 +1,5 @@
-// Times two builds of the library on the systems of a folder, in turns, and prints their ratio for each load: two FOLDER.
-// The builds are linked under two names each: bench/two renames the symbols of the earlier one.
+// Times two builds of the library on the systems of a folder, in turns, and prints their ratio for each load: two FOLDER. The systems have
+// one right side. Both builds are linked: bench/two renames the symbols of the earlier one.
 #include <stdio.h>
 #include <stdlib.h>
 #include <string.h>
@@ -7,13 +7,32 @@
 #include "../include/yezsdolak.h"
 #include "loads.h"
 
-enum { REPETITIONS = 41 };
+enum { REPETITIONS = 41, FIRST_TOLD_SIDES = 1000 };
 
+// The earlier build: its solver has two names, of which one is right. Before version 0.10.0 a solver was told no right side; a build
+// without a version is older.
+uint64_t earlier_version(void) __attribute__((weak));
+uint64_t earlier_solve_side(const uint8_t *system, size_t system_bytes, uint64_t side, uint8_t *certificate, size_t lent_bytes);
 uint64_t earlier_solve(const uint8_t *system, size_t system_bytes, uint8_t *certificate, size_t lent_bytes);
 
 typedef uint64_t solve_call(const uint8_t *, size_t, uint8_t *, size_t);
 
-static solve_call *const builds[2] = {earlier_solve, yezsdolak_solve};
+static uint64_t solve_before_sides(const uint8_t *system, size_t system_bytes, uint8_t *certificate, size_t lent_bytes)
+{
+    return earlier_solve(system, system_bytes, certificate, lent_bytes);
+}
+
+static uint64_t solve_earlier(const uint8_t *system, size_t system_bytes, uint8_t *certificate, size_t lent_bytes)
+{
+    return earlier_solve_side(system, system_bytes, 0, certificate, lent_bytes);
+}
+
+static uint64_t solve_later(const uint8_t *system, size_t system_bytes, uint8_t *certificate, size_t lent_bytes)
+{
+    return yezsdolak_solve(system, system_bytes, 0, certificate, lent_bytes);
+}
+
+static solve_call *builds[2] = {solve_before_sides, solve_later};
 static const double least_time = 1e-3;
 
 struct batch {
@@ -100,6 +119,8 @@ int main(int argc, char **argv)
         fprintf(stderr, "usage: two FOLDER\n");
         return 2;
     }
+    if (earlier_version != NULL && earlier_version() >= FIRST_TOLD_SIDES)
+        builds[0] = solve_earlier;
     for (int l = 0; l < LOADS; l++)
         for (int k = 0; k < PRIMES; k++)
             if (read_batch(&batch, argv[1], &loads[l], primes[k])) {

@@ -7,6 +7,9 @@
 // take the bytes of whole files. What a call gives is proved for all bytes, damaged ones included (crates/link): there is no input
 // that it does not answer.
 //
+// A system has one matrix A and 1 to 8 right sides b, which count from 0. Solver and check are told which one is meant, `side`: where
+// there is one right side, that is 0. Each is answered by itself, as if the system had no other.
+//
 // - No pointer may be NULL, also where its count is 0, and what a call writes must not overlap what it reads.
 // - A call keeps nothing, allocates nothing and prints nothing. Any number of threads may call at the same time; each needs the
 //   stack that the constants below say.
@@ -25,16 +28,17 @@
 extern "C" {
 #endif
 
-#define YEZSDOLAK_VERSION "0.9.0"
+#define YEZSDOLAK_VERSION "0.10.0"
 
 enum {
-    YEZSDOLAK_VERSION_NUMBER = 900, // 10000 × major + 100 × minor + patch
+    YEZSDOLAK_VERSION_NUMBER = 1000, // 10000 × major + 100 × minor + patch
 
-    YEZSDOLAK_SYSTEM_BYTES = 4904,      // no system's file is longer: to be lent to yezsdolak_write_system
+    YEZSDOLAK_SYSTEM_BYTES = 8712,      // no system's file is longer: to be lent to yezsdolak_write_system
     YEZSDOLAK_CERTIFICATE_BYTES = 8792, // no certificate's file is longer: to be lent to yezsdolak_solve
     YEZSDOLAK_REPORT_BYTES = 1024,      // no report is longer: to be lent to yezsdolak_report
 
-    YEZSDOLAK_POLYNOMIALS = 72,        // no system has more: 8 rows of A with 8 columns, and b
+    YEZSDOLAK_SIDES = 8,               // no system has more right sides
+    YEZSDOLAK_POLYNOMIALS = 128,       // no system has more: 8 rows of A with 8 columns, and 8 right sides of 8
     YEZSDOLAK_COEFFICIENTS = 16,       // no polynomial of a system has more
     YEZSDOLAK_MOST_COEFFICIENTS = 121, // no polynomial of a certificate has more
 
@@ -66,31 +70,37 @@ uint64_t yezsdolak_version(void);
 
 // ---- solving, checking, reporting
 
-// Solves the system and writes its certificate's file over the first of the lent bytes; those behind keep their values. The count is
-// that of these bytes. Of all solutions this one has the least denominator d; where there is none at all, the certificate is an
-// absence certificate, which shows that. The same system always has the same certificate.
-uint64_t yezsdolak_solve(const uint8_t *system, size_t system_bytes, uint8_t *certificate, size_t lent_bytes);
+// Solves A·y = b for right side number `side` (0 where there is one) and writes the certificate's file over the first of the lent
+// bytes; those behind keep their values. The count is that of these bytes. Of all solutions this one has the least denominator d;
+// where there is none at all, the certificate is an absence certificate, which shows that. The same p, A and b always have the same
+// certificate, whatever other right sides the system has. A side that the system does not have is refused (40).
+uint64_t yezsdolak_solve(const uint8_t *system, size_t system_bytes, uint64_t side, uint8_t *certificate, size_t lent_bytes);
 
-// Checks a certificate, whoever made it. 0: it is right for the system. Else a refusal.
-uint64_t yezsdolak_check(const uint8_t *system, size_t system_bytes, const uint8_t *certificate, size_t certificate_bytes);
+// Checks a certificate for right side number `side` (0 where there is one), whoever made it. 0: it is right. Else a refusal; a side
+// that the system does not have is one (40), and nothing of the certificate but its length is then looked at.
+uint64_t yezsdolak_check(const uint8_t *system, size_t system_bytes, uint64_t side, const uint8_t *certificate,
+                         size_t certificate_bytes);
 
-// Writes the report of the system's file, lines of text without a zero at the end, over the first of the lent bytes; those behind
-// keep their values. The count is that of these bytes. A refused system has a report too, which says so: this call refuses nothing.
-// Where fewer than YEZSDOLAK_REPORT_BYTES are lent, nothing is written and the count is 0.
+// Writes the report of the system's file on its first right side, lines of text without a zero at the end, over the first of the lent
+// bytes; those behind keep their values. The count is that of these bytes. A refused system has a report too, which says so: this call
+// refuses nothing. Where fewer than YEZSDOLAK_REPORT_BYTES are lent, nothing is written and the count is 0.
 uint64_t yezsdolak_report(const uint8_t *system, size_t system_bytes, uint8_t *text, size_t lent_bytes);
 
 // ---- systems from values, certificates as values
 
-// Writes a system's file over the first of the lent bytes; those behind keep their values. The count is that of these bytes.
-// Polynomial k, of A row by row and then of b, has sizes[k] coefficients, that of x^j at coefficients[16·k + j]; the last is not 0,
-// and zero has none. Refused are p that is no prime up to 65,521 (2), rows or columns not 1 to 8 (3), more than 16 coefficients (6),
-// a coefficient not below p (7), a last one that is 0 (8), each at the place that its word would have; and then fewer than
-// YEZSDOLAK_SYSTEM_BYTES lent (11).
-uint64_t yezsdolak_write_system(uint32_t modulus, uint32_t rows, uint32_t columns, const uint64_t sizes[YEZSDOLAK_POLYNOMIALS],
+// Writes a system's file over the first of the lent bytes; those behind keep their values. The count is that of these bytes. `sides`
+// is how many right sides there are, 1 to 8. Polynomial k, of A row by row and then of the right sides one after another, has
+// sizes[k] coefficients, that of x^j at coefficients[16·k + j]; the last is not 0, and zero has none. Polynomials behind those of the
+// system are not looked at. Refused are right sides not 1 to 8 (1), p that is no prime up to 65,521 (2), rows or columns not 1 to 8
+// (3), more than 16 coefficients (6), a coefficient not below p (7), a last one that is 0 (8), each at the place that its word would
+// have; and then fewer than YEZSDOLAK_SYSTEM_BYTES lent (11).
+uint64_t yezsdolak_write_system(uint32_t modulus, uint32_t rows, uint32_t columns, uint32_t sides,
+                                const uint64_t sizes[YEZSDOLAK_POLYNOMIALS],
                                 const uint64_t coefficients[YEZSDOLAK_POLYNOMIALS * YEZSDOLAK_COEFFICIENTS],
                                 uint8_t *system, size_t lent_bytes);
 
-// Reads the shape of a system. Where nothing is refused, the functions behind it take the shape apart.
+// Reads the shape of a system: the modulus, how many rows, columns and right sides it has. Where nothing is refused, the functions
+// behind it take the shape apart.
 uint64_t yezsdolak_shape(const uint8_t *system, size_t system_bytes);
 
 static inline unsigned yezsdolak_modulus(uint64_t shape)
@@ -108,6 +118,12 @@ static inline unsigned yezsdolak_columns(uint64_t shape)
     return (unsigned)(shape / 64 / 1048576 % 16);
 }
 
+// How many right sides there are, 1 to 8, by a shape that was not refused: their numbers are those below it.
+static inline unsigned yezsdolak_sides(uint64_t shape)
+{
+    return (unsigned)(shape / 64 / 16777216 % 16 + 1);
+}
+
 enum {
     YEZSDOLAK_SOLUTION = 1, // d, N, w, Z: its polynomials in this order
     YEZSDOLAK_ABSENCE = 2,  // q
@@ -117,16 +133,16 @@ enum {
 uint64_t yezsdolak_kind(const uint8_t *system, size_t system_bytes, const uint8_t *certificate, size_t certificate_bytes);
 
 enum {
-    YEZSDOLAK_OF_SYSTEM = 0,      // A row by row, then b
+    YEZSDOLAK_OF_SYSTEM = 0,      // A row by row, then the right sides one after another
     YEZSDOLAK_OF_CERTIFICATE = 1, // d, N, w, Z, or else q
 };
 
 // Writes the coefficients of polynomial `number` of the system or of the certificate, counted from 0, that of x^0 first, over the
 // first of `coefficients`; those behind keep their values. The count is that of the coefficients, 0 for zero. Both files are read
-// first, whichever side is asked for; where there is no polynomial of that number, that is refused (12). Any `side` but 0 is the
-// certificate.
+// first, whichever is asked for; where there is no polynomial of that number, that is refused (12). Any `of` but 0 is the certificate.
+// Entry i of right side s, all counted from 0, is polynomial rows·columns + rows·s + i of the system.
 uint64_t yezsdolak_lookup(const uint8_t *system, size_t system_bytes, const uint8_t *certificate, size_t certificate_bytes,
-                          uint64_t side, uint64_t number, uint64_t coefficients[YEZSDOLAK_MOST_COEFFICIENTS]);
+                          uint64_t of, uint64_t number, uint64_t coefficients[YEZSDOLAK_MOST_COEFFICIENTS]);
 
 #ifdef __cplusplus
 }

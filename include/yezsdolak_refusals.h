@@ -31,7 +31,9 @@ enum {
     YEZSDOLAK_COLUMN_NOT_DIVISIBLE = 33, // place: the first such column
     YEZSDOLAK_DENOMINATORS_DIFFER = 34, // place: 0
     YEZSDOLAK_NOT_A_KERNEL = 35, // place: the first such column
-    YEZSDOLAK_NO_CONTRADICTION = 36 // place: 0
+    YEZSDOLAK_NO_CONTRADICTION = 36, // place: 0
+    // Which right side.
+    YEZSDOLAK_NO_SUCH_SIDE = 40 // place: 0
 };
 
 // The sentence for a number, without a dot at its end; never NULL. The number is that of a refusal, without its place.
@@ -41,7 +43,7 @@ static inline const char *yezsdolak_message(unsigned long long number)
     case 0:
         return "not refused";
     case YEZSDOLAK_BAD_SYSTEM_HEAD:
-        return "the first word is not the head of a sheet: its kind is not 1, or bits 24 to 27 are not zero";
+        return "the first word is not the head of a sheet: its kind is not 1, or bits 24 to 27 are above 7; or, by a writer of sheets, there are not 1 to 8 right sides";
     case YEZSDOLAK_NOT_PRIME:
         return "p is not a prime from 2 to 65,521";
     case YEZSDOLAK_BAD_SHAPE:
@@ -59,7 +61,7 @@ static inline const char *yezsdolak_message(unsigned long long number)
     case YEZSDOLAK_SYSTEM_BAD_END:
         return "the end word of the sheet does not say how many words there are, or words follow it";
     case YEZSDOLAK_BAD_FILE_LENGTH:
-        return "a file is not whole words of four bytes, or that of a sheet has more than 4,904 bytes";
+        return "a file is not whole words of four bytes, or that of a sheet has more than 8,712 bytes";
     case YEZSDOLAK_SPACE_SHORT:
         return "fewer words are lent than the longest card has, or, by a writer of sheets, than the longest sheet has";
     case YEZSDOLAK_NO_SUCH_POLYNOMIAL:
@@ -90,6 +92,8 @@ static inline const char *yezsdolak_message(unsigned long long number)
         return "q*A is not zero";
     case YEZSDOLAK_NO_CONTRADICTION:
         return "q*b is zero";
+    case YEZSDOLAK_NO_SUCH_SIDE:
+        return "the sheet has no right side of that number";
     default:
         return "not the number of a refusal";
     }

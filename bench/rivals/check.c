@@ -142,11 +142,11 @@ static uint64_t check_absence(const struct system *s, const struct certificate *
     return f.size != 0 ? 0 : refusal_of(36, 0);
 }
 
-uint64_t NAME(const uint8_t *system, size_t system_bytes, const uint8_t *certificate, size_t certificate_bytes)
+uint64_t NAME(const uint8_t *system, size_t system_bytes, uint64_t side, const uint8_t *certificate, size_t certificate_bytes)
 {
     struct system s;
     struct certificate c;
-    uint64_t refusal = read_system(&s, system, system_bytes);
+    uint64_t refusal = read_system(&s, system, system_bytes, side);
     if (certificate_bytes % 4 != 0)
         return refusal_of(10, 0);
     if (refusal == 0)

@@ -43,12 +43,12 @@ static bool solve_part(struct job *t)
     return right;
 }
 
-uint64_t NAME(const uint8_t *system, size_t system_bytes, uint8_t *certificate, size_t lent_bytes)
+uint64_t NAME(const uint8_t *system, size_t system_bytes, uint64_t side, uint8_t *certificate, size_t lent_bytes)
 {
     struct system s;
     struct job t;
     struct writer o = {certificate, 0};
-    uint64_t refusal = read_to_solve(&s, system, system_bytes, lent_bytes);
+    uint64_t refusal = read_to_solve(&s, system, system_bytes, side, lent_bytes);
     if (refusal != 0)
         return refusal;
     job_init(&t, &s);

@@ -1,10 +1,10 @@
-// Reading of document 01's words: a system's with refusals 1 to 10, a certificate's with 21 and 24 to 29.
+// Reading of document 01's words: a system's with refusals 1 to 10 and 40, a certificate's with 21 and 24 to 29.
 #ifndef READING_H
 #define READING_H
 #include <stdbool.h>
 #include "rivals.h"
 
-enum { MOST = 8, SYSTEM_SIZE = 16, CERTIFICATE_SIZE = 121 };
+enum { MOST = 8, SIDES = 8, SYSTEM_SIZE = 16, CERTIFICATE_SIZE = 121 };
 enum { SYSTEM_HEAD = 1, START = 2, COEFFICIENT = 3, END = 4, CERTIFICATE_HEAD = 5 };
 enum { SOLUTION = 1, ABSENCE = 2 };
 
@@ -14,8 +14,8 @@ struct polynomial {
 };
 
 struct system {
-    uint32_t p, n, m;
-    struct polynomial a[MOST][MOST], b[MOST];
+    uint32_t p, n, m, sides;
+    struct polynomial a[MOST][MOST], b[MOST]; // b: the right side that is meant
     uint32_t store[LONGEST_SYSTEM]; // where the coefficients stand
 };
 
@@ -123,17 +123,18 @@ static bool read_system_head(struct walk *k, struct system *s)
     uint32_t head;
     if (!any_word(k, &head))
         return false;
-    if (head >> 24 != SYSTEM_HEAD << 4)
+    s->p = head & 0xFFFF, s->n = head >> 16 & 0xF, s->m = head >> 20 & 0xF, s->sides = (head >> 24 & 0xF) + 1;
+    if (head >> 28 != SYSTEM_HEAD || s->sides > SIDES)
         return refuse(k, 1, 0);
-    s->p = head & 0xFFFF, s->n = head >> 16 & 0xF, s->m = head >> 20 & 0xF;
     if (!is_prime(s->p))
         return refuse(k, 2, 0);
     return (1 <= s->n && s->n <= MOST && 1 <= s->m && s->m <= MOST) || refuse(k, 3, 0);
 }
 
 // 0, or the refusal
-static uint64_t read_system(struct system *s, const uint8_t *bytes, size_t count)
+static uint64_t read_system(struct system *s, const uint8_t *bytes, size_t count, uint64_t side)
 {
+    struct polynomial other[MOST];
     if (count % 4 != 0 || count > 4 * LONGEST_SYSTEM)
         return refusal_of(10, 0);
     struct walk k = {.bytes = bytes, .words = count / 4, .limit = SYSTEM_SIZE, .store = s->store};
@@ -143,13 +144,18 @@ static uint64_t read_system(struct system *s, const uint8_t *bytes, size_t count
     for (uint32_t i = 0; i < s->n; i++)
         if (!read_polynomials(&k, s->a[i], s->m))
             return k.refusal;
-    return read_polynomials(&k, s->b, s->n) && read_end(&k) ? 0 : k.refusal;
+    for (uint32_t i = 0; i < s->sides; i++)
+        if (!read_polynomials(&k, i == side ? s->b : other, s->n))
+            return k.refusal;
+    if (!read_end(&k))
+        return k.refusal;
+    return side < s->sides ? 0 : refusal_of(40, 0);
 }
 
 // what a solver looks at first: the system, then whether there is room for the longest certificate
-static inline uint64_t read_to_solve(struct system *s, const uint8_t *bytes, size_t count, size_t lent_bytes)
+static inline uint64_t read_to_solve(struct system *s, const uint8_t *bytes, size_t count, uint64_t side, size_t lent_bytes)
 {
-    uint64_t refusal = read_system(s, bytes, count);
+    uint64_t refusal = read_system(s, bytes, count, side);
     return refusal == 0 && lent_bytes < 4 * LONGEST_CERTIFICATE ? refusal_of(11, 0) : refusal;
 }
 

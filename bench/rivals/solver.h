@@ -41,11 +41,11 @@ static uint64_t solve(struct work *w, struct writer *o)
     return put_end(o);
 }
 
-uint64_t NAME(const uint8_t *system, size_t system_bytes, uint8_t *certificate, size_t lent_bytes)
+uint64_t NAME(const uint8_t *system, size_t system_bytes, uint64_t side, uint8_t *certificate, size_t lent_bytes)
 {
     struct work w;
     struct writer o = {certificate, 0};
-    uint64_t refusal = read_to_solve(&w.s, system, system_bytes, lent_bytes);
+    uint64_t refusal = read_to_solve(&w.s, system, system_bytes, side, lent_bytes);
     if (refusal != 0)
         return refusal;
     w.k = modulus_of(w.s.p);

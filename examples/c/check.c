@@ -1,6 +1,9 @@
-// Checks certificates against a system, with a status that a shell can ask: check SHEET CARD... For each card one line says
-// whether it is accepted, or why not. Status 0: all are accepted; 1: one is refused; 2: a file or the command is at fault.
+// Checks certificates against a system, with a status that a shell can ask: check [--side=NUMBER] SHEET CARD... For each card one line
+// says whether it is accepted for the right side of that number, else for the first, or why not; `--side NUMBER` is the same. Status 0:
+// all are accepted; 1: one is refused; 2: a file or the command is at fault.
+#include <ctype.h>
 #include <errno.h>
+#include <stdbool.h>
 #include <stdio.h>
 #include <stdlib.h>
 #include <string.h>
@@ -33,13 +36,33 @@ static size_t read_file(const char *name, uint8_t *bytes, size_t limit)
     return count;
 }
 
+// Takes the option off the arguments, if it is there: the number, 0 without it. It stands in the same argument or in the next. A number
+// beyond 64 bits becomes the greatest, which no system has as a right side. False where it is no number.
+static bool take_side(int *count, char ***argument, uint64_t *side)
+{
+    const char *digits;
+    char *end;
+    int taken = 1;
+    *side = 0;
+    if (*count > 1 && strncmp((*argument)[1], "--side=", 7) == 0)
+        digits = (*argument)[1] + 7;
+    else if (*count > 2 && strcmp((*argument)[1], "--side") == 0)
+        digits = (*argument)[2], taken = 2;
+    else
+        return true;
+    *side = strtoull(digits, &end, 10);
+    *count -= taken, *argument += taken;
+    return isdigit((unsigned char)*digits) && *end == 0;
+}
+
 int main(int count, char **argument)
 {
     // what is longer is refused by its length, or where its last word should stand, whatever follows
     static uint8_t system[YEZSDOLAK_SYSTEM_BYTES + 1], certificate[YEZSDOLAK_CERTIFICATE_BYTES + 4 + 1];
     int status = 0;
-    if (count < 3) {
-        fputs("usage: check SHEET CARD...\n", stderr);
+    uint64_t side;
+    if (!take_side(&count, &argument, &side) || count < 3) {
+        fputs("usage: check [--side=NUMBER] SHEET CARD... (NUMBER: a right side's, from 0)\n", stderr);
         return 2;
     }
     size_t system_bytes = read_file(argument[1], system, YEZSDOLAK_SYSTEM_BYTES);
@@ -47,7 +70,7 @@ int main(int count, char **argument)
         size_t bytes = read_file(argument[i], certificate, YEZSDOLAK_CERTIFICATE_BYTES + 4);
         if (bytes > YEZSDOLAK_CERTIFICATE_BYTES + 4)
             bytes = YEZSDOLAK_CERTIFICATE_BYTES + 4;
-        uint64_t verdict = yezsdolak_check(system, system_bytes, certificate, bytes);
+        uint64_t verdict = yezsdolak_check(system, system_bytes, side, certificate, bytes);
         print_name(stdout, argument[i]);
         if (verdict == 0) {
             puts(": accepted");

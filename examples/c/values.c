@@ -1,5 +1,5 @@
-// Makes a system from numbers, solves it on a thread with just the stack that the header says, and prints the solution: no file, no
-// bit is shifted. The system is document 01's case 7, modulo 3: x^2*y1 + (x^2 + x)*y2 = 1.
+// Makes a system with two right sides from numbers, solves it on a thread with just the stack that the header says, and prints the
+// solutions: no file, no bit is shifted. Modulo 3, x^2*y1 + (x^2 + x)*y2 is to be x, or 1: document 01's cases 6 and 7.
 #include <pthread.h>
 #include <stdio.h>
 #include <stdlib.h>
@@ -7,6 +7,7 @@
 
 static uint8_t system_file[YEZSDOLAK_SYSTEM_BYTES], certificate[YEZSDOLAK_CERTIFICATE_BYTES];
 static size_t system_bytes, certificate_bytes;
+static unsigned side;
 
 static void refused(const char *what, uint64_t result)
 {
@@ -17,7 +18,7 @@ static void refused(const char *what, uint64_t result)
 
 static void *solve(void *result)
 {
-    *(uint64_t *)result = yezsdolak_solve(system_file, system_bytes, certificate, sizeof certificate);
+    *(uint64_t *)result = yezsdolak_solve(system_file, system_bytes, side, certificate, sizeof certificate);
     return NULL;
 }
 
@@ -62,34 +63,36 @@ static int written_out(void)
 
 int main(void)
 {
-    // polynomials 0 and 1 are A's row, 2 is b
-    static const uint64_t sizes[YEZSDOLAK_POLYNOMIALS] = {3, 3, 1};
+    // polynomials 0 and 1 are A's row, 2 is the first right side, 3 the second
+    static const uint64_t sizes[YEZSDOLAK_POLYNOMIALS] = {3, 3, 2, 1};
     static const uint64_t coefficients[YEZSDOLAK_POLYNOMIALS * YEZSDOLAK_COEFFICIENTS] = {
         [0 * YEZSDOLAK_COEFFICIENTS + 2] = 1,
         [1 * YEZSDOLAK_COEFFICIENTS + 1] = 1,
         [1 * YEZSDOLAK_COEFFICIENTS + 2] = 1,
-        [2 * YEZSDOLAK_COEFFICIENTS + 0] = 1,
+        [2 * YEZSDOLAK_COEFFICIENTS + 1] = 1,
+        [3 * YEZSDOLAK_COEFFICIENTS + 0] = 1,
     };
     if (yezsdolak_version() != YEZSDOLAK_VERSION_NUMBER)
         fputs("values: header and library are of different versions\n", stderr);
 
-    uint64_t written = yezsdolak_write_system(3, 1, 2, sizes, coefficients, system_file, sizeof system_file);
+    uint64_t written = yezsdolak_write_system(3, 1, 2, 2, sizes, coefficients, system_file, sizeof system_file);
     if (yezsdolak_number(written) != 0)
         refused("system", written);
     system_bytes = (size_t)yezsdolak_count(written);
 
-    uint64_t solved = solve_on_thread();
-    if (yezsdolak_number(solved) != 0)
-        refused("system", solved);
-    certificate_bytes = (size_t)yezsdolak_count(solved);
+    for (side = 0; side < 2; side++) {
+        uint64_t solved = solve_on_thread();
+        if (yezsdolak_number(solved) != 0)
+            refused("system", solved);
+        certificate_bytes = (size_t)yezsdolak_count(solved);
 
-    uint64_t kind = yezsdolak_kind(system_file, system_bytes, certificate, certificate_bytes);
-    if (yezsdolak_count(kind) == YEZSDOLAK_ABSENCE) {
-        puts("no solution");
-        return written_out();
+        uint64_t kind = yezsdolak_kind(system_file, system_bytes, certificate, certificate_bytes);
+        printf("right side %u: %s\n", side, yezsdolak_count(kind) == YEZSDOLAK_ABSENCE ? "none" : "solution");
+        if (yezsdolak_count(kind) == YEZSDOLAK_ABSENCE)
+            continue;
+        show("d", 0);
+        show("N1", 1);
+        show("N2", 2);
     }
-    show("d", 0);
-    show("N1", 1);
-    show("N2", 2);
     return written_out();
 }

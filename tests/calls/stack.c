@@ -1,5 +1,6 @@
 // That no call needs more stack than the header says: each runs in a thread whose stack is filled with a pattern; what is no longer the
-// pattern was used. Some systems are large, and one is the solver's worst.
+// pattern was used. Some systems are large, all have as many right sides as may be, of which the last is solved, and one is the solver's
+// worst.
 #include <pthread.h>
 #include <stdio.h>
 #include <stdlib.h>
@@ -7,7 +8,7 @@
 #include <sys/mman.h>
 #include "yezsdolak.h"
 
-enum { SPACE = 2 << 20, PATTERN = 0xA5, PRIME = 65521 };
+enum { SPACE = 2 << 20, PATTERN = 0xA5, PRIME = 65521, SIDES = YEZSDOLAK_SIDES, LAST = SIDES - 1 };
 
 static uint64_t sizes[YEZSDOLAK_POLYNOMIALS], coefficients[YEZSDOLAK_POLYNOMIALS * YEZSDOLAK_COEFFICIENTS];
 static uint64_t polynomial[YEZSDOLAK_MOST_COEFFICIENTS];
@@ -19,11 +20,11 @@ static void nothing(void) {}
 static void version(void) { yezsdolak_version(); }
 static void write_system(void)
 {
-    sheet_bytes = (size_t)yezsdolak_count(yezsdolak_write_system(PRIME, rows, columns, sizes, coefficients, sheet, sizeof sheet));
+    sheet_bytes = (size_t)yezsdolak_count(yezsdolak_write_system(PRIME, rows, columns, SIDES, sizes, coefficients, sheet, sizeof sheet));
 }
 static void shape(void) { yezsdolak_shape(sheet, sheet_bytes); }
-static void solve(void) { card_bytes = (size_t)yezsdolak_count(yezsdolak_solve(sheet, sheet_bytes, card, sizeof card)); }
-static void check(void) { yezsdolak_check(sheet, sheet_bytes, card, card_bytes); }
+static void solve(void) { card_bytes = (size_t)yezsdolak_count(yezsdolak_solve(sheet, sheet_bytes, LAST, card, sizeof card)); }
+static void check(void) { yezsdolak_check(sheet, sheet_bytes, LAST, card, card_bytes); }
 static void report(void) { yezsdolak_report(sheet, sheet_bytes, text, sizeof text); }
 static void kind(void) { yezsdolak_kind(sheet, sheet_bytes, card, card_bytes); }
 static void lookup(void) { yezsdolak_lookup(sheet, sheet_bytes, card, card_bytes, YEZSDOLAK_OF_CERTIFICATE, 0, polynomial); }
@@ -82,7 +83,7 @@ static uint64_t draw(void)
 static void make_system(uint32_t n, uint32_t m, enum form form)
 {
     rows = n, columns = m;
-    for (size_t k = 0; k < n * m + n; k++) {
+    for (size_t k = 0; k < n * m + n * SIDES; k++) {
         uint64_t *f = coefficients + YEZSDOLAK_COEFFICIENTS * k;
         sizes[k] = form == FALLING ? k < m ? YEZSDOLAK_COEFFICIENTS - k : 1 : YEZSDOLAK_COEFFICIENTS;
         for (size_t j = 0; j < YEZSDOLAK_COEFFICIENTS; j++)
@@ -113,7 +114,7 @@ int main(void)
             if (used > calls[c].used)
                 calls[c].used = used;
         }
-        if (sheet_bytes == 0 || card_bytes == 0 || yezsdolak_check(sheet, sheet_bytes, card, card_bytes) != 0)
+        if (sheet_bytes == 0 || card_bytes == 0 || yezsdolak_check(sheet, sheet_bytes, LAST, card, card_bytes) != 0)
             status = 1;
     }
     for (size_t c = 0; c < CALLS; c++) {

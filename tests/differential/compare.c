@@ -28,7 +28,8 @@ static _Noreturn void differ(const char *form, ...)
 {
     va_list values;
     va_start(values, form);
-    fprintf(stderr, "difference in %s, case %lu, seed %lu: ", trial.part, (unsigned long)trial.number, (unsigned long)trial.seed);
+    fprintf(stderr, "difference in %s, case %lu, seed %lu, right side %llu: ", trial.part, (unsigned long)trial.number,
+            (unsigned long)trial.seed, (unsigned long long)trial.side);
     vfprintf(stderr, form, values);
     fputc('\n', stderr);
     va_end(values);
@@ -92,7 +93,7 @@ static void expect_right(const struct answer *a, const struct file *certificate)
         differ("solve: kind %u expected, %u found", a->kind, c.kind);
     if (c.kind == SOLUTION && !equal(&c.d, &a->d))
         differ("solve: the denominator is not the least, which has degree %u", a->d.size - 1);
-    r = verdict(&s, &c);
+    r = verdict(&s, (uint32_t)trial.side, &c);
     if (r.number != 0)
         differ("solve: its certificate is refused by the reference's check, %u at %u", r.number, r.place);
 }
@@ -109,9 +110,14 @@ static uint64_t call_lending(struct draws *g, const char *name, uint64_t (*call)
     return result;
 }
 
+static uint64_t solve(const uint8_t *system, size_t bytes, uint8_t *certificate, size_t lent)
+{
+    return yezsdolak_solve(system, bytes, trial.side, certificate, lent);
+}
+
 struct refusal compare_solve(struct draws *g, const struct answer *a, size_t lent, struct file *certificate)
 {
-    uint64_t result = call_lending(g, "solve", yezsdolak_solve, lent);
+    uint64_t result = call_lending(g, "solve", solve, lent);
     struct refusal r = a->refusal;
     if (r.number == 0 && lent < 4 * LONGEST_CERTIFICATE)
         r = (struct refusal){11, 0};
@@ -139,12 +145,31 @@ void compare_chosen(const struct file *certificate)
     static struct certificate c;
     static struct file expected;
     read_system(&s, trial.system);
-    choose_certificate(&s, &c);
+    choose_certificate(&s, (uint32_t)trial.side, &c);
     write_certificate(&expected, &s, &c);
     trial.expected = &expected;
     if (certificate->count != expected.count || memcmp(certificate->byte, expected.byte, expected.count) != 0)
         differ("solve: another certificate than the chosen one");
     trial.expected = NULL;
+}
+
+void compare_single(struct draws *g, const struct file *certificate)
+{
+    static struct system s;
+    static struct file single, found;
+    struct trial several = trial;
+    read_system(&s, trial.system);
+    for (uint32_t i = 0; trial.side != 0 && i < s.n; i++)
+        exchange(&s.b[0][i], &s.b[trial.side][i]);
+    s.sides = 1;
+    write_system(&single, &s);
+    trial.system = &single, trial.side = 0, trial.certificate = &found, trial.expected = certificate;
+    uint64_t result = call_lending(g, "solve", solve, 4 * LONGEST_CERTIFICATE);
+    found.count = yezsdolak_count(result) <= 4 * LONGEST_CERTIFICATE ? (size_t)yezsdolak_count(result) : 0;
+    memcpy(found.byte, lent_result.bytes, found.count);
+    if (result != 64 * (uint64_t)certificate->count || memcmp(found.byte, certificate->byte, found.count) != 0)
+        differ("solve: a right side alone has another certificate than among others");
+    trial = several;
 }
 
 void compare_but_numerators(const struct system *s, const struct file *first, const struct file *second)
@@ -166,11 +191,12 @@ struct refusal compare_check(struct draws *g)
     lend_file(g, &lent_system, trial.system);
     lend_file(g, &lent_certificate, trial.certificate);
     alarm(SECONDS);
-    uint64_t result = yezsdolak_check(lent_system.bytes, trial.system->count, lent_certificate.bytes, trial.certificate->count);
+    uint64_t result =
+        yezsdolak_check(lent_system.bytes, trial.system->count, trial.side, lent_certificate.bytes, trial.certificate->count);
     alarm(0);
     expect_unchanged("check", &lent_system, trial.system);
     expect_unchanged("check", &lent_certificate, trial.certificate);
-    struct refusal r = check_files(trial.system, trial.certificate);
+    struct refusal r = check_files(trial.system, trial.side, trial.certificate);
     expect_result("check", result, r);
     return r;
 }

@@ -9,11 +9,13 @@ static size_t words(const struct file *f)
     return f->count / 4;
 }
 
-// the place of a word; the first and the last more often
+// the place of a word; the first, the last and those of the last quarter, where right sides stand, more often
 static size_t draw_place(struct draws *g, const struct file *f)
 {
-    uint32_t end = chance(g, 20);
-    return chance(g, 10) ? 0 : end ? words(f) - 1 : below(g, (uint32_t)words(f));
+    uint32_t drawn = below(g, 100), count = (uint32_t)words(f);
+    if (drawn < 25)
+        return drawn < 10 ? 0 : count - 1;
+    return drawn < 40 ? count - 1 - below(g, (count + 3) / 4) : below(g, count);
 }
 
 // a word that a reader may be tempted by
@@ -24,7 +26,7 @@ static uint32_t draw_word(struct draws *g, const struct file *f, uint32_t p)
     if (chance(g, 10))
         return (uint32_t)draw(g);
     if (chance(g, 5))
-        return (uint32_t)SYSTEM_HEAD << 28 | below(g, 10) << 20 | below(g, 10) << 16 | p;
+        return (uint32_t)SYSTEM_HEAD << 28 | below(g, 3) << 24 | below(g, 10) << 20 | below(g, 10) << 16 | p;
     return between(g, 0, chance(g, 10) ? 15 : 5) << 28 | size;
 }
 
@@ -84,11 +86,22 @@ static void change_head(struct draws *g, struct file *f, uint32_t p)
 {
     if (words(f) == 0)
         return;
-    uint32_t rows = between(g, 0, 9), columns = between(g, 0, 9), head = word_at(f, 0);
-    if (chance(g, 50))
+    uint32_t rows = chance(g, 20) ? below(g, 16) : between(g, 0, 9), columns = between(g, 0, 9), head = word_at(f, 0);
+    if (chance(g, 40))
         set_word(f, 0, (head & 0xFFFF0000) | draw_modulus(g, p));
     else
         set_word(f, 0, (head & 0xFF00FFFF) | rows << 16 | columns << 20);
+}
+
+// the head's number of right sides: any that its bits may have, or one more or less
+static void change_count(struct draws *g, struct file *f, uint32_t p)
+{
+    (void)p;
+    if (words(f) == 0)
+        return;
+    uint32_t head = word_at(f, 0), count = head >> 24;
+    count = chance(g, 50) ? below(g, 16) : chance(g, 50) ? count + 1 : count - 1;
+    set_word(f, 0, (head & 0xF0FFFFFF) | (count & 0xF) << 24);
 }
 
 static void drop_words(struct draws *g, struct file *f, uint32_t p)
@@ -162,8 +175,9 @@ static void repair_end(struct file *f)
 void damage(struct draws *g, struct file *f, uint32_t p)
 {
     static change *const all[] = {flip_bits,      flip_bits,   replace_word,      replace_word, change_payload,
-                                  change_payload, change_kind, clear_coefficient, change_head,  drop_words,
-                                  insert_word,    swap_words,  cut_words,         cut_bytes,    lengthen};
+                                  change_payload, change_kind, clear_coefficient, change_head,  change_count,
+                                  drop_words,     insert_word, swap_words,        cut_words,    cut_bytes,
+                                  lengthen};
     for (uint32_t count = chance(g, 70) ? 1 : between(g, 2, 3); count > 0; count--)
         all[below(g, sizeof all / sizeof all[0])](g, f, p);
     if (chance(g, 30))

@@ -41,8 +41,10 @@ static void add_row(struct draws *g, struct system *s, struct certificate *c)
         draw_like(g, s->p, &s->a[s->n][j], &s->a[model][j], change);
         rotate(&s->a[0][j], MOST, place, s->n + 1);
     }
-    draw_like(g, s->p, &s->b[s->n], &s->b[model], change);
-    rotate(s->b, 1, place, s->n + 1);
+    for (uint32_t side = 0; side < s->sides; side++) {
+        draw_like(g, s->p, &s->b[side][s->n], &s->b[side][model], change);
+        rotate(s->b[side], 1, place, s->n + 1);
+    }
     c->row[s->n].size = 0;
     rotate(c->row, 1, place, ++s->n);
 }

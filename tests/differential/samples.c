@@ -2,6 +2,8 @@
 #include "samples.h"
 #include "reference/reference.h"
 
+enum { LARGE = 200 }; // coefficients of A, from which on a system takes time
+
 struct matrix {
     struct polynomial entry[MOST][MOST];
 };
@@ -86,19 +88,18 @@ static void row_product(uint32_t p, struct polynomial *f, const struct polynomia
 }
 
 // b := t · y with y drawn
-static void draw_combination(struct draws *g, struct system *s, struct polynomial t[MOST][MOST], uint32_t columns,
-                             uint32_t degree)
+static void draw_combination(struct draws *g, const struct system *s, struct polynomial *b, const struct polynomial t[MOST][MOST],
+                             uint32_t columns, uint32_t degree)
 {
     static struct polynomial y[MOST];
     enum form form = below(g, FORMS);
     for (uint32_t k = 0; k < columns; k++)
         draw_polynomial(g, s->p, &y[k], degree, form);
     for (uint32_t i = 0; i < s->n; i++)
-        row_product(s->p, &s->b[i], t[i], y, 1, columns);
+        row_product(s->p, &b[i], t[i], y, 1, columns);
 }
 
-// one coefficient of f moves
-static void disturb(struct draws *g, uint32_t p, struct polynomial *f, uint32_t degree)
+void disturb(struct draws *g, uint32_t p, struct polynomial *f, uint32_t degree)
 {
     uint32_t i = below(g, degree + 1);
     if (f->size <= i)
@@ -120,13 +121,15 @@ static void make_special(struct draws *g, struct system *s)
     if (chance(g, 10)) {
         for (uint32_t c = 0; c < s->m; c++)
             s->a[i][c].size = 0;
-        if (chance(g, 70))
-            s->b[i].size = 0;
+        for (uint32_t side = 0; side < s->sides; side++)
+            if (chance(g, 70))
+                s->b[side][i].size = 0;
     }
     if (chance(g, 5) && i != k) {
         for (uint32_t c = 0; c < s->m; c++)
             copy(&s->a[k][c], &s->a[i][c]);
-        copy(&s->b[k], &s->b[i]);
+        for (uint32_t side = 0; side < s->sides; side++)
+            copy(&s->b[side][k], &s->b[side][i]);
     }
 }
 
@@ -150,20 +153,41 @@ static uint32_t draw_shape(struct draws *g, struct system *s)
     return between(g, load[k].lowest, load[k].highest);
 }
 
-// b drawn, zero, T·y, A·y, or nearly one of these two
-static void draw_side(struct draws *g, struct system *s, struct matrix *t, uint32_t rank, uint32_t degree_of_y, uint32_t degree)
+// One right side, or often more: of large systems, which take the time, less often.
+static uint32_t draw_sides(struct draws *g, const struct system *s, uint32_t degree)
 {
-    uint32_t side = below(g, 100);
+    bool large = s->n * s->m * (degree + 1) >= LARGE;
+    return chance(g, large ? 75 : 40) ? 1 : chance(g, 60) ? between(g, 2, 3) : between(g, 2, SIDES);
+}
+
+// b drawn, zero, T·y, A·y, or nearly one of these two
+static void draw_side(struct draws *g, const struct system *s, struct polynomial *b, const struct matrix *t, uint32_t rank,
+                      uint32_t degree_of_y, uint32_t degree)
+{
+    uint32_t form = below(g, 100);
     for (uint32_t i = 0; i < s->n; i++)
-        draw_polynomial(g, s->p, &s->b[i], degree, DENSE);
-    for (uint32_t i = 0; side < 5 && i < s->n; i++)
-        s->b[i].size = 0;
-    if (side >= 20 && side < 75)
-        draw_combination(g, s, t->entry, rank, degree_of_y);
-    if (side >= 75)
-        draw_combination(g, s, s->a, s->m, SYSTEM_SIZE - 1 - degree);
-    if (side >= 70 && side < 80)
-        disturb(g, s->p, &s->b[below(g, s->n)], degree);
+        draw_polynomial(g, s->p, &b[i], degree, DENSE);
+    for (uint32_t i = 0; form < 5 && i < s->n; i++)
+        b[i].size = 0;
+    if (form >= 20 && form < 75)
+        draw_combination(g, s, b, t->entry, rank, degree_of_y);
+    if (form >= 75)
+        draw_combination(g, s, b, s->a, s->m, SYSTEM_SIZE - 1 - degree);
+    if (form >= 70 && form < 80)
+        disturb(g, s->p, &b[below(g, s->n)], degree);
+}
+
+// Some right sides become equal to the one before, or nearly.
+static void repeat_sides(struct draws *g, struct system *s)
+{
+    for (uint32_t side = 1; side < s->sides; side++) {
+        if (!chance(g, 15))
+            continue;
+        for (uint32_t i = 0; i < s->n; i++)
+            copy(&s->b[side][i], &s->b[side - 1][i]);
+        if (chance(g, 50))
+            disturb(g, s->p, &s->b[side][below(g, s->n)], SYSTEM_SIZE - 1);
+    }
 }
 
 // nothing special: square systems have then the largest denominators
@@ -172,7 +196,8 @@ static void draw_plain(struct draws *g, struct system *s, uint32_t degree)
     for (uint32_t i = 0; i < s->n; i++) {
         for (uint32_t j = 0; j < s->m; j++)
             draw_polynomial(g, s->p, &s->a[i][j], degree, DENSE);
-        draw_polynomial(g, s->p, &s->b[i], degree, DENSE);
+        for (uint32_t side = 0; side < s->sides; side++)
+            draw_polynomial(g, s->p, &s->b[side][i], degree, DENSE);
     }
 }
 
@@ -190,7 +215,9 @@ static void draw_product(struct draws *g, struct system *s, uint32_t degree)
     for (uint32_t i = 0; i < s->n; i++)
         for (uint32_t j = 0; j < s->m; j++)
             row_product(s->p, &s->a[i][j], t.entry[i], &f.entry[0][j], MOST, rank);
-    draw_side(g, s, &t, rank, of_f, degree);
+    for (uint32_t side = 0; side < s->sides; side++)
+        draw_side(g, s, s->b[side], &t, rank, of_f, degree);
+    repeat_sides(g, s);
     make_special(g, s);
 }
 
@@ -198,8 +225,39 @@ void draw_system(struct draws *g, struct system *s)
 {
     s->p = draw_prime(g);
     uint32_t degree = draw_shape(g, s);
+    s->sides = draw_sides(g, s, degree);
     if (chance(g, 15))
         draw_plain(g, s, degree);
     else
         draw_product(g, s, degree);
+}
+
+// a polynomial of as many coefficients as may be
+static void draw_long(struct draws *g, uint32_t p, struct polynomial *f)
+{
+    draw_polynomial(g, p, f, SYSTEM_SIZE - 1, DENSE);
+    resize(f, SYSTEM_SIZE);
+    f->coefficient[SYSTEM_SIZE - 1] = between(g, 1, p - 1);
+}
+
+// All polynomials have 16 coefficients. Columns may repeat others, and right sides columns, so that some have no solution and some one
+// without a denominator; else denominators are the longest.
+void draw_longest(struct draws *g, struct system *s)
+{
+    s->p = draw_prime(g);
+    s->n = s->m = MOST;
+    s->sides = SIDES;
+    uint32_t rank = chance(g, 50) ? MOST : between(g, 1, MOST - 1);
+    for (uint32_t i = 0; i < MOST; i++) {
+        for (uint32_t j = 0; j < MOST; j++)
+            if (j < rank)
+                draw_long(g, s->p, &s->a[i][j]);
+            else
+                copy(&s->a[i][j], &s->a[i][j % rank]);
+        for (uint32_t side = 0; side < SIDES; side++)
+            if (side % 2 == 0)
+                draw_long(g, s->p, &s->b[side][i]);
+            else
+                copy(&s->b[side][i], &s->a[i][side]);
+    }
 }

@@ -1,4 +1,4 @@
-// Random systems: all shapes, degrees and primes, most of them small and special.
+// Random systems: all shapes, degrees, primes and numbers of right sides, most of them small and special.
 #ifndef SAMPLES_H
 #define SAMPLES_H
 #include "draws.h"
@@ -8,4 +8,8 @@ enum form { DENSE, SPARSE, POWER, FACTORS, HIGHEST, FORMS };
 
 void draw_polynomial(struct draws *g, uint32_t p, struct polynomial *f, uint32_t degree, enum form form); // or of less degree
 void draw_system(struct draws *g, struct system *s);
+void draw_longest(struct draws *g, struct system *s); // its file has as many words as any
+
+// one coefficient of f, of degree at most that, becomes another
+void disturb(struct draws *g, uint32_t p, struct polynomial *f, uint32_t degree);
 #endif

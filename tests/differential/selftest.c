@@ -82,29 +82,55 @@ static void expect_kernel(struct set *set, const struct system *s)
         }
 }
 
-// behind the report's text, as one more line, the words of the chosen certificate
-static void add_words(char text[LINE], size_t count, const struct system *s)
+// behind so many characters of the text, as one more line, the words of the chosen certificate of a right side
+static void add_words(char text[LINE], size_t count, const struct system *s, uint32_t side)
 {
     static struct certificate c;
     static struct file written;
-    choose_certificate(s, &c);
+    choose_certificate(s, side, &c);
     write_certificate(&written, s, &c);
     for (size_t i = 0; i < written.count / 4; i++)
         count += (size_t)snprintf(text + count, LINE - count, "%s%08X", i == 0 ? "" : " ", word_at(&written, i));
     snprintf(text + count, LINE - count, "\n");
 }
 
+// the report and the certificate of the first right side
 static void try_solution(struct set *set, const struct file *system)
 {
     static struct answer a;
     static struct system s;
     char text[LINE];
-    answer_to(&a, system);
+    answer_to(&a, system, 0);
     size_t count = report_text(text, &a);
     if (read_system(&s, system).number == 0) {
-        add_words(text, count, &s);
+        add_words(text, count, &s, 0);
         expect_kernel(set, &s);
     }
+    expect(set, text);
+}
+
+static void expect_list(struct set *set, struct file *list)
+{
+    if (!next_list(set, list))
+        fail(set, "the set is broken");
+}
+
+// the certificate of the right side that a second list names, with the number of bytes that are lent
+static void try_side(struct set *set, const struct file *system)
+{
+    static struct file told;
+    static struct system s;
+    char text[LINE];
+    expect_list(set, &told);
+    uint32_t side = word_at(&told, 0);
+    struct refusal r = read_to_side(&s, system, side);
+    if (r.number == 0 && word_at(&told, 1) < 4 * LONGEST_CERTIFICATE)
+        r.number = 11;
+    if (r.number != 0) {
+        expect_refusal(set, r, "");
+        return;
+    }
+    add_words(text, 0, &s, side);
     expect(set, text);
 }
 
@@ -113,7 +139,7 @@ static void try_system(struct set *set, const struct file *system)
     static struct system s;
     char text[64];
     struct refusal r = read_system(&s, system);
-    snprintf(text, sizeof text, "read %u %u %u", s.p, s.n, s.m);
+    snprintf(text, sizeof text, "read %u %u %u %u", s.p, s.n, s.m, s.sides);
     expect_refusal(set, r, text);
 }
 
@@ -133,12 +159,13 @@ static void expect_written(struct set *set, const struct file *system, const str
         fail(set, "the certificate is written in another way");
 }
 
+// the check for the right side that a third list names
 static void try_verdict(struct set *set, const struct file *system)
 {
-    static struct file certificate;
-    if (!next_list(set, &certificate))
-        fail(set, "the set is broken");
-    expect_refusal(set, check_files(system, &certificate), "accepted");
+    static struct file certificate, told;
+    expect_list(set, &certificate);
+    expect_list(set, &told);
+    expect_refusal(set, check_files(system, word_at(&told, 0), &certificate), "accepted");
     expect_written(set, system, &certificate);
 }
 
@@ -159,8 +186,9 @@ int main(int count, char **argument)
 {
     const char *folder = count == 2 ? argument[1] : "target/differential/stored";
     uint32_t solutions = try_set(folder, "solutions", try_solution);
+    uint32_t sides = try_set(folder, "sides", try_side);
     uint32_t systems = try_set(folder, "systems", try_system);
     uint32_t verdicts = try_set(folder, "verdicts", try_verdict);
-    printf("self-test: %u solutions, %u systems, %u verdicts as stored\n", solutions, systems, verdicts);
+    printf("self-test: %u solutions, %u right sides, %u systems, %u verdicts as stored\n", solutions, sides, systems, verdicts);
     return 0;
 }

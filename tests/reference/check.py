@@ -1,14 +1,14 @@
-"""The check: document 01, "The system" (what a right certificate is) and numbers 31 to 36 of "Turned back"."""
+"""The check: document 01, "The system" (what a right certificate is) and numbers 31 to 36 of "Turned back"; document 02, item 1."""
 
 import polynomial as poly
-from reading import read_both
+from reading import read_certificate, read_system
 from words import Absence, Refusal
 
 
-def check_words(system_words, certificate_words):
-    """Nothing where the certificate is accepted, else a refusal: system, then certificate, then 31 to 36."""
-    system, certificate = read_both(system_words, certificate_words)
-    check_values(system, certificate)
+def check_words(system_words, certificate_words, side=0):
+    """Nothing where the certificate is accepted for the right side, else a refusal: system, 40, certificate, 31 to 36."""
+    system = read_system(system_words).side(side)
+    check_values(system, read_certificate(certificate_words, system))
 
 
 def check_values(system, certificate):

@@ -18,9 +18,9 @@ from words import Absence, Refusal, Solution, System
 from writing import write_certificate
 
 
-def solve_words(system_words, lent):
-    """The chosen certificate's words, or a refusal: the system is read, then number 11 is looked at."""
-    system = read_system(system_words)
+def solve_words(system_words, lent, side=0):
+    """The words of the right side's chosen certificate, or a refusal: the system is read, then come 40 and 11."""
+    system = read_system(system_words).side(side)
     if lent < form.LONGEST_CERTIFICATE:
         raise Refusal(11, 0)
     return write_certificate(chosen(system), system)
@@ -88,8 +88,5 @@ def chosen_row(system):
     columns = nonsingular_part(system.matrix, p)[1]
     core = part(system.matrix, pivots, columns)
     q = relation(system, h, pivots, columns, core, determinant(core, p))
-    divisor = poly.ZERO
-    for f in q:
-        divisor = poly.gcd(divisor, f, p)
-    leading = poly.scale(q[h][-1], divisor, p)
+    leading = poly.scale(q[h][-1], poly.common_divisor(q, p), p)
     return [poly.exact_quotient(f, leading, p) for f in q]

@@ -39,7 +39,7 @@ def least_entries(system):
 def certifies(system, d, w, Z):
     """z = Z/w in lowest terms has z·A without denominators, z·b equal to 1/d up to a polynomial, and short entries."""
     p = system.p
-    if not (poly.is_monic(w) and poly.divides(d, w, p) and common_divisor([w] + Z, p) == poly.ONE):
+    if not (poly.is_monic(w) and poly.divides(d, w, p) and poly.common_divisor([w] + Z, p) == poly.ONE):
         return False
     rest = poly.subtract(poly.dot(Z, system.right, p), poly.exact_quotient(w, d, p), p)
     products = [poly.dot(Z, system.column(j), p) for j in range(system.columns())]
@@ -58,16 +58,8 @@ def is_chosen_row(system, q):
         and all(poly.is_monic(q[h]) for h in both - pivots)
         and all(i in both for i, f in enumerate(q) if f)
         and not any(poly.dot(q, system.column(j), p) for j in range(system.columns()))
-        and common_divisor(q, p) == poly.ONE
+        and poly.common_divisor(q, p) == poly.ONE
     )
-
-
-def common_divisor(polynomials, p):
-    """The monic greatest common divisor of all."""
-    divisor = poly.ZERO
-    for f in polynomials:
-        divisor = poly.gcd(divisor, f, p)
-    return divisor
 
 
 def pivot_lengths(matrix, p):

@@ -91,6 +91,19 @@ def long_polynomial(draws, words, limit):
     return replaced(words, draws.choose(places), form.word(form.START, count)) if places else drop(draws, words)
 
 
+def at_fault(words, part, p, limit):
+    """The words with one polynomial at fault in each way, 4 to 8; it stands between the two places of the part."""
+    first, last = part[0], part[1] - 1
+    yield words[:first]
+    yield replaced(words, first, form.word(form.COEFFICIENT, form.payload_of(words[first])))
+    yield replaced(words, first, form.word(form.START, limit + 1))
+    if first < last:
+        yield words[:last]
+        yield replaced(words, last, form.word(form.START, form.payload_of(words[last])))
+        yield replaced(words, first + 1, form.word(form.COEFFICIENT, p))
+        yield replaced(words, last, form.word(form.COEFFICIENT, 0))
+
+
 WAYS = [
     flip_bit, change_kind, change_payload, one_more, drop, insert, swap, truncate, extend, wrong_end, zero_last,
 ]

@@ -1,6 +1,6 @@
 """The eleven systems to try of document 01, as values, and the words that it prints for the first."""
 
-from words import Absence, Solution, System
+from words import Absence, Solution, System, Systems
 
 SYSTEM_1_WORDS = [0x10110002, 0x20000002, 0x30000000, 0x30000001, 0x20000001, 0x30000001, 0x40000007]
 CERTIFICATE_1_WORDS = [
@@ -25,6 +25,20 @@ CASES = [
      Solution([0, 0, 1], [[1], [0, 1]], [0, 0, 1], [[0, 1], [1]]), "accepted"),
     (9, SYSTEM_1, Solution([0, 0, 1], [[0, 1]], [0, 1], [[1]]), "refused 34 at 0"),
     (10, SYSTEM_1, Solution([0, 1], [[1]], [0, 0, 1], [[0, 1]]), "accepted"),
+]
+
+# Cases with one matrix as right sides of one file: their numbers, and the systems.
+SHARED = [
+    ((6, 7), Systems(3, WIDE, [[[0, 1]], [[1]]])),
+    ((7, 6), Systems(3, WIDE, [[[1]], [[0, 1]]])),
+    ((4, 5), Systems(2, [[[]]], [[[]], [[1]]])),
+    ((5, 4, 5), Systems(2, [[[]]], [[[1]], [[]], [[1]]])),
+]
+
+# The words of the first of these.
+SHARED_WORDS = [
+    0x11210003, 0x20000003, 0x30000000, 0x30000000, 0x30000001, 0x20000003, 0x30000000, 0x30000001, 0x30000001,
+    0x20000002, 0x30000000, 0x30000001, 0x20000001, 0x30000001, 0x4000000F,
 ]
 
 # The cases whose certificate is not the one that the solver chooses.
@@ -53,6 +67,22 @@ TABLE_SYSTEMS = [
     ([], "refused 4 at 0"),
 ]
 
+# Words whose head says more than one right side, and what the reader says.
+SIDE_SYSTEMS = [
+    (SHARED_WORDS, "read 3 1 2 2"),
+    ([0x18110002], "refused 1 at 0"),
+    ([0x1F110002], "refused 1 at 0"),
+    ([0x18110004], "refused 1 at 0"),
+    ([0x18010002], "refused 1 at 0"),
+    ([0x17110004], "refused 2 at 0"),
+    ([0x17010002], "refused 3 at 0"),
+    ([0x17110002], "refused 4 at 1"),
+    ([0x11110002] + SYSTEM_1_WORDS[1:], "refused 5 at 6"),
+    ([0x10210003] + SHARED_WORDS[1:], "refused 5 at 12"),
+    (SHARED_WORDS[:-1] + [0x4000000D], "refused 9 at 14"),
+    (SHARED_WORDS + [0], "refused 9 at 15"),
+]
+
 # The table's examples on the reading of certificates for system 1: words, and what the reader says.
 TABLE_CERTIFICATES = [
     ([0x50000003], "refused 21 at 0"),
@@ -63,14 +93,14 @@ TABLE_CERTIFICATES = [
 
 def bounds():
     """Case 11: words of systems at and just beyond each bound, and what the reader says."""
-    for p, says in [(65521, "read 65521 1 1"), (65535, "refused 2 at 0"), (1, "refused 2 at 0"), (0, "refused 2 at 0")]:
+    for p, says in [(65521, "read 65521 1 1 1"), (65535, "refused 2 at 0"), (1, "refused 2 at 0"), (0, "refused 2 at 0")]:
         yield [0x10110000 | p, 0x20000000, 0x20000000, 0x40000004], says
-    yield [0x10180002] + [0x20000000] * 16 + [0x40000012], "read 2 8 1"
+    yield [0x10180002] + [0x20000000] * 16 + [0x40000012], "read 2 8 1 1"
     yield [0x10190002] + [0x20000000] * 18 + [0x40000014], "refused 3 at 0"
-    yield [0x10810002] + [0x20000000] * 9 + [0x4000000B], "read 2 1 8"
+    yield [0x10810002] + [0x20000000] * 9 + [0x4000000B], "read 2 1 8 1"
     yield [0x10910002] + [0x20000000] * 10 + [0x4000000C], "refused 3 at 0"
-    for count, says in [(16, "read 2 1 1"), (17, "refused 6 at 1")]:
+    for count, says in [(16, "read 2 1 1 1"), (17, "refused 6 at 1")]:
         yield [0x10110002, 0x20000000 | count] + [0x30000001] * count + [0x20000000, 0x40000004 + count], says
     for p in (2, 3, 257, 65521):
-        for a, says in [(p - 1, f"read {p} 1 1"), (p, "refused 7 at 2")]:
+        for a, says in [(p - 1, f"read {p} 1 1 1"), (p, "refused 7 at 2")]:
             yield [0x10110000 | p, 0x20000001, 0x30000000 | a, 0x20000000, 0x40000005], says

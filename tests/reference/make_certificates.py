@@ -1,6 +1,6 @@
 """The stored set `certificates`: a case is two lists, the words of a system and of a certificate; both are only read.
 
-Systems are at most 4,904 bytes long here and byte counts are multiples of four, so number 10 never comes into question.
+Systems are at most 8,712 bytes long here and byte counts are multiples of four, so number 10 never comes into question.
 """
 
 import examples
@@ -8,7 +8,7 @@ import words as form
 from cases import CERTIFICATE, CaseSet
 from damage import damaged, noise
 from draws import Draws
-from samples import STRUCTURES, exact, prime, shapes, up_to, vector
+from samples import STRUCTURES, exact, prime, shapes, sharing, up_to, vector
 from says import says_certificate
 from words import Absence, Solution, System
 from writing import write_certificate, write_system
@@ -104,6 +104,23 @@ def other_system(cases, draws):
         add(cases, write_system(second), write_certificate(random_certificate(draws, first, 3), first))
 
 
+def right_sides(cases, draws):
+    """Systems with several right sides: a certificate is for one of them, and has no more entries for more right sides."""
+    for k in range(96):
+        p, n, count = prime(draws), draws.between(1, 3), 1 + k % 8
+        systems = sharing(draws, draws.choose(STRUCTURES)(draws, p, n, draws.between(1, 3), 2), count)
+        system_words, certificate = write_system(systems), random_certificate(draws, systems, draws.between(1, 5))
+        certificate_words = write_certificate(certificate, systems)
+        if k % 4 == 1:
+            kind = form.ABSENCE if isinstance(certificate, Absence) else form.SOLUTION
+            certificate_words = written(kind, certificate.polynomials() + vector(draws, p, n * (count - 1), 2))
+        elif k % 4 > 1:
+            certificate_words = damaged(draws, certificate_words, p, form.CERTIFICATE_LIMIT)
+        if k % 8 == 7:
+            system_words = damaged(draws, system_words, p, form.SYSTEM_LIMIT)
+        add(cases, system_words, certificate_words)
+
+
 def make():
     """Make the set."""
     cases, draws = CaseSet("certificates", CERTIFICATE, 1200), Draws(0x0C)
@@ -117,6 +134,7 @@ def make():
         add(cases, examples.SYSTEM_1_WORDS, noise(draws))
     for length in range(len(examples.CERTIFICATE_1_WORDS)):
         add(cases, examples.SYSTEM_1_WORDS, examples.CERTIFICATE_1_WORDS[:length])
+    right_sides(cases, Draws(0x0C01))
     cases.require([21] + list(range(24, 30)), 20)
     cases.require(range(1, 10), 3)
     return cases

@@ -1,5 +1,5 @@
 """The stored set `solutions`: a case is one list, the bytes of a system's file; the answer is the report and the chosen certificate's
-words on one line.
+words on one line, both for the first right side.
 
 The lines of the report and the words are joined by `; `. Every certificate has passed the check, and its denominator agrees with the
 formula by minors.
@@ -13,9 +13,11 @@ from chosen import solve_words
 from damage import damaged
 from draws import Draws
 from minors import least_denominator
-from reading import read_certificate
+from reading import read_certificate, read_system
 from report import report_on
-from samples import STRUCTURES, chain, common_factor, generic, low_rank, of_rank, outside, powers_of_x, prime, shapes
+from samples import (
+    STRUCTURES, chain, common_factor, generic, longest, low_rank, of_rank, outside, powers_of_x, prime, shapes, sharing,
+)
 from says import says_solved
 from searched import with_denominator
 from words import Absence, System, bytes_of_words
@@ -23,14 +25,21 @@ from writing import write_system
 
 
 def add(cases, system):
-    """A case on a system, its answer found in two ways."""
+    """A case on a system, or on systems that share a matrix."""
     words = write_system(system)
-    certificate_words = solve_words(words, form.LONGEST_CERTIFICATE)
-    check_words(words, certificate_words)
+    certificate, certificate_words = confirmed(words, 0)
+    cases.add([words], "; ".join(report_on(certificate) + [form.hexadecimal(certificate_words)]))
+
+
+def confirmed(words, side):
+    """The chosen certificate of a right side, and its words; its kind and denominator are found in two ways."""
+    system = read_system(words).side(side)
+    certificate_words = solve_words(words, form.LONGEST_CERTIFICATE, side)
+    check_words(words, certificate_words, side)
     certificate = read_certificate(certificate_words, system)
     if least_denominator(system) != (None if isinstance(certificate, Absence) else certificate.d):
         raise SystemExit(f"two answers for {system}")
-    cases.add([words], "; ".join(report_on(certificate) + [form.hexadecimal(certificate_words)]))
+    return certificate, certificate_words
 
 
 def add_bytes(cases, data):
@@ -113,6 +122,26 @@ def refused(cases, draws):
         add_bytes(cases, bytes_of_words(damaged(draws, words, p, form.SYSTEM_LIMIT)))
 
 
+def several_sides(cases, draws):
+    """Several right sides, of which the first decides: document 01's cases, every shape, the longest file, and damaged ones."""
+    for _, systems in examples.SHARED:
+        add(cases, systems)
+    for n, m in shapes():
+        system = draws.choose(STRUCTURES)(draws, prime(draws), n, m, draws.between(1, 3))
+        add(cases, sharing(draws, system, draws.between(2, 8)))
+    for count in range(2, 9):
+        add(cases, sharing(draws, with_denominator(draws, draws.between(1, 3), draws.between(1, 3), 3), count))
+    add(cases, longest(draws, 65521))
+    for words, _ in examples.SIDE_SYSTEMS:
+        add_bytes(cases, bytes_of_words(words))
+    for count in range(2, 9):
+        p = prime(draws)
+        words = write_system(sharing(draws, generic(draws, p, draws.between(1, 2), draws.between(1, 2), 2), count))
+        add_bytes(cases, bytes_of_words(damaged(draws, words, p, form.SYSTEM_LIMIT)))
+    for count in (8708, 8712, 8716):
+        add_bytes(cases, bytes(count))
+
+
 def make():
     """Make the set."""
     cases, draws = CaseSet("solutions", REPORT, 500), Draws(0x0F)
@@ -125,4 +154,5 @@ def make():
     refused(cases, draws)
     every_rank(cases, Draws(0x10))
     long_and_low(cases, Draws(0x11))
+    several_sides(cases, Draws(0x0F01))
     return cases

@@ -1,61 +1,34 @@
-"""The stored set `verdicts`: a case is two lists, the words of a system and of a certificate; the answer is the check's.
+"""The stored set `verdicts`: a case is three lists, the words of a system and of a certificate, and the number of the right side; the
+answer is the check's.
 
-Systems are at most 4,904 bytes long here and byte counts are multiples of four, so number 10 never comes into question.
+Systems are at most 8,712 bytes long here and byte counts are multiples of four, so number 10 never comes into question.
 """
 
 import examples
 import polynomial as poly
 import words as form
 from cases import CHECK, CaseSet
-from check import check_values
 from damage import damaged
 from draws import Draws
-from samples import STRUCTURES, chain, common_factor, exact, generic, low_rank, outside, powers_of_x, prime, shapes, up_to
-from says import says_check
+from samples import chain, common_factor, exact, generic, outside, prime, shapes, up_to
 from searched import with_denominator
-from solve import solve
+from side_verdicts import add_sides
 from variants import of_absence, of_certificate, of_system
+from verdicts import FRUITFUL, add, add_words, solved, some
 from words import Absence, Solution, System
 from writing import write_certificate, write_system
-
-FRUITFUL = STRUCTURES + [low_rank, common_factor, common_factor, powers_of_x, generic]
-
-
-def add(cases, system, certificate):
-    """A case on values."""
-    add_words(cases, write_system(system), write_certificate(certificate, system))
-
-
-def add_words(cases, system_words, certificate_words):
-    """A case on words."""
-    cases.add([system_words, certificate_words], says_check(system_words, certificate_words))
 
 
 def from_document(cases):
     """Cases 1 to 10, the table's examples, and the words of case 1."""
     for _, system, certificate, says in examples.CASES:
-        cases.add([write_system(system), write_certificate(certificate, system)], says)
+        cases.add([write_system(system), write_certificate(certificate, system), [0]], says)
     for system, certificate, says in examples.TABLE_VERDICTS:
-        cases.add([write_system(system), write_certificate(certificate, system)], says)
+        cases.add([write_system(system), write_certificate(certificate, system), [0]], says)
     for words, says in examples.TABLE_CERTIFICATES:
-        cases.add([examples.SYSTEM_1_WORDS, words], says)
+        cases.add([examples.SYSTEM_1_WORDS, words, [0]], says)
     for words, _ in examples.TABLE_SYSTEMS:
         add_words(cases, words, examples.CERTIFICATE_1_WORDS)
-
-
-def solved(system):
-    """A certificate that the check accepts."""
-    certificate = solve(system)
-    check_values(system, certificate)
-    return certificate
-
-
-def some(draws, options, count):
-    """So many of the options, in order."""
-    options = list(options)
-    while len(options) > count:
-        options.pop(draws.below(len(options)))
-    return options
 
 
 def around(cases, draws, system, count):
@@ -170,5 +143,7 @@ def make():
     late_places(cases, draws)
     large(cases, draws)
     damaged_words(cases, draws)
+    add_sides(cases)
     cases.require(range(31, 37), 40)
+    cases.require([40], 100)
     return cases

@@ -1,8 +1,9 @@
 """The stored set `writers`: a case is one list of words: what one writer is given.
 
-These are the kind (0 system, 1 solution, 2 absence), p, n, m, the number of lent words, and then each polynomial in written order
-as its count and its coefficients. Where n or m is outside 1 to 8 no polynomials follow; where a count is above the limit none of
-its coefficients follow. The answer is `wrote COUNT` and the words, or a refusal.
+These are the kind (0 system, 1 solution, 2 absence), p, n, m, the number of right sides (1 for a certificate, which has none), the
+number of lent words, and then each polynomial in written order as its count and its coefficients. Where n, m or the number of right
+sides is outside 1 to 8 none or some polynomials follow; where a count is above the limit none of its coefficients follow. The answer is
+`wrote COUNT` and the words, or a refusal.
 """
 
 import examples
@@ -10,7 +11,7 @@ import words as form
 from cases import WRITER, CaseSet
 from draws import Draws
 from make_certificates import random_certificate
-from samples import STRUCTURES, exact, generic, prime, shapes
+from samples import STRUCTURES, exact, generic, prime, shapes, sharing
 from says import says_written
 from words import Absence
 from writing import pairs, write_certificate_values, write_system_values
@@ -22,17 +23,18 @@ HUGE_COUNTS = [255, 256, 65536, 1 << 28, (1 << 28) + 1, 0xFFFFFFFF]
 STRANGE_PRIMES = [0, 1, 4, 561, 63001, 65520, 65522, 65535, 65536, 65537, 65538, 131073, 0x10000 + 65521, 0x80000002, 0xFFFFFFFB,
                   0xFFFFFFFF]
 STRANGE_SIZES = [0, 9, 15, 16, 17, 255, 256, 257, 65537, 0x80000001, 0xFFFFFFFF]
+STRANGE_SIDES = STRANGE_SIZES + [10, 32, 128, 264, 65536, 65544, 1 << 28, 0xFFFFFFF8]
 WIDE_COEFFICIENTS = [65536, 65537, 0x10000 + 65520, 1 << 28, (1 << 28) + 1, 0x80000000, 0xFFFFFFFF]
 
 
-def add(cases, kind, p, n, m, lent, polynomials):
+def add(cases, kind, p, n, m, lent, polynomials, sides=1):
     """A case; the polynomials are pairs of count and coefficients."""
     packed = [value for count, coefficients in polynomials for value in [count] + coefficients]
     if kind == SYSTEM:
-        line = says_written(write_system_values, p, n, m, polynomials, lent)
+        line = says_written(write_system_values, p, n, m, sides, polynomials, lent)
     else:
         line = says_written(write_certificate_values, kind, p, n, m, polynomials, lent)
-    cases.add([[kind, p, n, m, lent] + packed], line)
+    cases.add([[kind, p, n, m, sides, lent] + packed], line)
 
 
 def values(draws, n, m, size):
@@ -118,10 +120,61 @@ def lengths(cases, draws):
 
 
 def wide_coefficients(cases):
-    """Coefficients beyond 16 bits, in the last cases of the set: refused like all others of p or more."""
+    """Coefficients beyond 16 bits: refused like all others of p or more."""
     for kind, count in ((SYSTEM, 2), (form.SOLUTION, 4), (form.ABSENCE, 1)):
         for a in WIDE_COEFFICIENTS:
             add(cases, kind, 65521, 1, 1, ENOUGH[kind], [(0, [])] * (count - 1) + [(2, [a, 1])])
+
+
+def side_numbers(cases, draws):
+    """Numbers of right sides outside 1 to 8: 1, before 2, 3, any value at fault, and 11."""
+    for sides in STRANGE_SIDES:
+        add(cases, SYSTEM, 2, 1, 1, ENOUGH[SYSTEM], [(1, [1])] * 2, sides)
+        p, n, m = draws.choose(STRANGE_PRIMES + [2]), draws.choose(STRANGE_SIZES + [1]), draws.choose(STRANGE_SIZES + [1])
+        add(cases, SYSTEM, p, n, m, draws.choose([0, ENOUGH[SYSTEM]]), draws.choose([[], [(17, []), (1, [5])]]), sides)
+    for sides in range(12):
+        for p, n, m in ((4, 9, 0), (65537, 1, 1), (2, 0, 1), (2, 1, 9)):
+            add(cases, SYSTEM, p, n, m, 0, [], sides)
+
+
+def whole_sides(cases, draws):
+    """Each number of rows with each number of right sides, with enough lent words; and around what is enough, also for one."""
+    for n in range(1, 9):
+        for sides in range(1, 9):
+            systems = sharing(draws, draws.choose(STRUCTURES)(draws, prime(draws), n, draws.between(1, 4), 2), sides)
+            add_systems(cases, systems, ENOUGH[SYSTEM])
+    for sides in range(1, 9):
+        systems = sharing(draws, generic(draws, prime(draws), draws.between(1, 2), draws.between(1, 2), 3), sides)
+        for lent in (0, 1226, ENOUGH[SYSTEM] - 1, ENOUGH[SYSTEM], ENOUGH[SYSTEM] + 1):
+            add_systems(cases, systems, lent)
+
+
+def add_systems(cases, systems, lent):
+    """A case on systems."""
+    p, n, m = systems.p, systems.rows(), systems.columns()
+    add(cases, SYSTEM, p, n, m, lent, pairs(systems.polynomials()), len(systems.sides))
+
+
+def side_faults(cases, draws):
+    """One or two polynomials at fault, the first of them in a right side; its place counts the words of those before it."""
+    for k in range(80):
+        p, n, m, sides = prime(draws), draws.between(1, 3), draws.between(1, 3), 1 + k % 8
+        polynomials = pairs(sharing(draws, generic(draws, p, n, m, 4), sides).polynomials())
+        for _ in range(1 + k % 2):
+            place = draws.between(n * m, len(polynomials) - 1)
+            if polynomials[place][1] or not polynomials[place][0]:
+                polynomials[place] = faulty(draws, SYSTEM, p, polynomials[place])
+        add(cases, SYSTEM, p, n, m, draws.choose([0, ENOUGH[SYSTEM]]), polynomials, sides)
+
+
+def longest_sides(cases, draws):
+    """The longest system: written where just enough words are lent, and with a fault in its last polynomial."""
+    p = 65521
+    polynomials = pairs(exact(draws, p, form.SYSTEM_LIMIT) for _ in range(128))
+    for lent in (1226, ENOUGH[SYSTEM] - 1, ENOUGH[SYSTEM]):
+        add(cases, SYSTEM, p, 8, 8, lent, polynomials, 8)
+    add(cases, SYSTEM, p, 8, 8, 0, polynomials[:-1] + [(16, [1] * 15 + [0])], 8)
+    add(cases, SYSTEM, p, 8, 8, 0, polynomials[:-1] + [(17, [])], 8)
 
 
 def make():
@@ -133,5 +186,10 @@ def make():
     value_faults(cases, draws)
     lengths(cases, draws)
     wide_coefficients(cases)
-    cases.require([2, 3, 6, 7, 8, 11, 26, 27, 28], 8)
+    draws = Draws(0x1001)
+    side_numbers(cases, draws)
+    whole_sides(cases, draws)
+    side_faults(cases, draws)
+    longest_sides(cases, draws)
+    cases.require([1, 2, 3, 6, 7, 8, 11, 26, 27, 28], 8)
     return cases

@@ -117,6 +117,14 @@ def gcd(f, g, p):
     return monic(f, p)
 
 
+def common_divisor(polynomials, p):
+    """The monic greatest common divisor of all; zero where all are zero."""
+    divisor = ZERO
+    for f in polynomials:
+        divisor = gcd(divisor, f, p)
+    return divisor
+
+
 def inverse(f, g, p):
     """The polynomial of lower degree than g that, times f, leaves 1 modulo g; g is not zero and has no factor in common with f."""
     rest, next_rest, factor, next_factor = g, remainder(f, g, p), ZERO, ONE

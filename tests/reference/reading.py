@@ -2,7 +2,7 @@
 
 import words as form
 from residue import is_prime
-from words import Absence, Refusal, Solution, System
+from words import Absence, Refusal, Solution, Systems
 
 ON_SYSTEM, ON_CERTIFICATE = 0, 20  # numbers 24 to 29 are 4 to 9 on the certificate
 
@@ -62,25 +62,25 @@ class Walk:
 
 
 def system_head(w):
-    """p, n and m of a system's head word, or refusal 1, 2 or 3."""
-    if form.kind_of(w) != form.SYSTEM_HEAD or w >> 24 & 0xF:
+    """p, n, m and the number of right sides of a system's head word, or refusal 1, 2 or 3."""
+    p, n, m, sides = w & 0xFFFF, w >> 16 & 0xF, w >> 20 & 0xF, (w >> 24 & 0xF) + 1
+    if form.kind_of(w) != form.SYSTEM_HEAD or sides > form.MOST_SIDES:
         raise Refusal(1, 0)
-    p, n, m = w & 0xFFFF, w >> 16 & 0xF, w >> 20 & 0xF
     if not is_prime(p):
         raise Refusal(2, 0)
     if not (1 <= n <= form.MOST_ROWS_OR_COLUMNS and 1 <= m <= form.MOST_ROWS_OR_COLUMNS):
         raise Refusal(3, 0)
-    return p, n, m
+    return p, n, m, sides
 
 
 def walk_system(words):
-    """The system that the words write down, and the walk over them."""
+    """The systems that the words of a file write down, and the walk over them."""
     walk = Walk(words, ON_SYSTEM, form.SYSTEM_LIMIT)
-    p, n, m = system_head(walk.any_word())
+    p, n, m, count = system_head(walk.any_word())
     matrix = [[walk.polynomial(p) for _ in range(m)] for _ in range(n)]
-    right = [walk.polynomial(p) for _ in range(n)]
+    sides = [[walk.polynomial(p) for _ in range(n)] for _ in range(count)]
     walk.end()
-    return System(p, matrix, right), walk
+    return Systems(p, matrix, sides), walk
 
 
 def walk_certificate(words, system):
@@ -102,7 +102,7 @@ def walk_certificate(words, system):
 
 
 def read_system(words):
-    """The system that the words write down, or a refusal."""
+    """The systems that the words of a file write down, or a refusal."""
     return walk_system(words)[0]
 
 
@@ -112,6 +112,6 @@ def read_certificate(words, system):
 
 
 def read_both(system_words, certificate_words):
-    """System and certificate; the system is read first, whole."""
-    system = read_system(system_words)
-    return system, read_certificate(certificate_words, system)
+    """The systems of a file, and a certificate for any of them; the system's words are read first, whole."""
+    systems = read_system(system_words)
+    return systems, read_certificate(certificate_words, systems)

@@ -1,4 +1,4 @@
-"""What document 01's program prints for a system's file: "The report"."""
+"""What document 01's program prints for a system's file: "The report", on its first right side."""
 
 import polynomial as poly
 from reading import read_system
@@ -9,7 +9,7 @@ from words import Absence, Refusal, words_of_file
 def report(data):
     """The lines of the report on a system given as bytes."""
     try:
-        certificate = solve(read_system(words_of_file(data)))
+        certificate = solve(read_system(words_of_file(data)).side(0))
     except Refusal as refusal:
         return [str(refusal)]
     return report_on(certificate)

@@ -3,7 +3,7 @@
 import polynomial as poly
 from matrix import nonsingular_part
 from residue import is_prime
-from words import System
+from words import System, Systems
 
 PRIMES = [2, 3, 5, 7, 13, 257, 65521]
 LIMIT = 15  # highest degree in a system
@@ -153,6 +153,41 @@ def chain(p, n, degree):
     power = poly.shift(poly.ONE, degree)
     matrix = [[power if j == i else poly.ONE if j == i + 1 else poly.ZERO for j in range(n)] for i in range(n)]
     return System(p, matrix, [poly.ZERO] * (n - 1) + [poly.ONE])
+
+
+def another_right(draws, system):
+    """One more right side for a system's matrix; d is mostly 1 for columns, and more where a common factor is left out."""
+    p, n, matrix = system.p, system.rows(), system.matrix
+    size = max([1] + [len(f) for row in matrix for f in row])
+    f, g = (system.column(draws.below(system.columns())) for _ in range(2))
+    factor = poly.common_divisor(f, p)
+    ways = [
+        lambda: [poly.ZERO] * n,
+        lambda: vector(draws, p, n, size),
+        lambda: f,
+        lambda: [poly.add(a, poly.scale(draws.below(p), b, p), p) for a, b in zip(f, g)],
+        lambda: [poly.exact_quotient(a, factor, p) for a in f] if factor else f,
+        lambda: [poly.scale(draws.below(p), b, p) for b in system.right],
+        lambda: [exact(draws, p, draws.between(0, size)) if draws.once_in(n) else b for b in system.right],
+    ]
+    return draws.choose(ways)()
+
+
+def longest(draws, p):
+    """A file as long as any, its matrix a polynomial f times constants, of rank 1. The first right side is a multiple of its columns,
+    the second one has the denominator f, and all but the last have solutions."""
+    f, down, across = exact(draws, p, 16), *([draws.between(1, p - 1) for _ in range(8)] for _ in range(2))
+    matrix = [[poly.scale(a * b, f, p) for b in across] for a in down]
+    rights = [f, poly.add(f, poly.ONE, p)] + [exact(draws, p, 16) for _ in range(5)]
+    sides = [[poly.scale(a, g, p) for a in down] for g in rights]
+    return Systems(p, matrix, sides + [[exact(draws, p, 16) for _ in range(8)]])
+
+
+def sharing(draws, system, count):
+    """So many systems with the matrix of this one: its right side, at any place, and others."""
+    sides = [another_right(draws, system) for _ in range(count)]
+    sides[draws.below(count)] = system.right
+    return Systems(system.p, system.matrix, sides)
 
 
 STRUCTURES = [

@@ -17,10 +17,10 @@ def answer(call, *values):
 
 
 def says_system(data):
-    """The reader on a system's bytes: `read P N M`."""
+    """The reader on a system's bytes: `read P N M` and the number of right sides."""
     def call():
-        system = read_system(words_of_file(data))
-        return f"read {system.p} {system.rows()} {system.columns()}"
+        systems = read_system(words_of_file(data))
+        return f"read {systems.p} {systems.rows()} {systems.columns()} {len(systems.sides)}"
     return answer(call)
 
 
@@ -32,10 +32,10 @@ def says_certificate(system_words, certificate_words):
     return answer(call)
 
 
-def says_lookup(system_words, certificate_words, side, number):
+def says_lookup(system_words, certificate_words, of, number):
     """The lookup: `FROM to TO: ` and the words shown."""
     def call():
-        first, behind, words = look_up(system_words, certificate_words, side, number)
+        first, behind, words = look_up(system_words, certificate_words, of, number)
         return f"{first} to {behind}: {hexadecimal(words)}"
     return answer(call)
 
@@ -48,11 +48,18 @@ def says_written(write, *values):
     return answer(call)
 
 
-def says_check(system_words, certificate_words):
-    """The check: `accepted`."""
+def says_check(system_words, certificate_words, side=0):
+    """The check for a right side: `accepted`."""
     def call():
-        check_words(system_words, certificate_words)
+        check_words(system_words, certificate_words, side)
         return "accepted"
+    return answer(call)
+
+
+def says_side(data, side, lent):
+    """The solver on a system's bytes, told the right side and lent so many bytes: the words of the certificate."""
+    def call():
+        return hexadecimal(solve_words(words_of_file(data), lent // 4, side))
     return answer(call)
 
 

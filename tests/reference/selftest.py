@@ -15,13 +15,13 @@ from conditions import is_chosen
 from draws import Draws
 from lookup import IN_SYSTEM
 from minors import least_denominator
-from reading import read_both
+from reading import read_both, read_system
 from report import report
-from samples import STRUCTURES, exact, prime, up_to, vector
+from samples import STRUCTURES, exact, prime, sharing, up_to, vector
 from says import answer, says_certificate, says_check, says_lookup, says_system, says_written
 from solve import solve
 from trials import certificates, polynomials
-from words import Absence, Solution, System, bytes_of_words
+from words import Absence, Solution, System, Systems, bytes_of_words
 from writing import pairs, write_certificate, write_certificate_values, write_system, write_system_values
 
 held = 0
@@ -58,11 +58,23 @@ def printed_words():
     expect(says_certificate(examples.SYSTEM_1_WORDS, examples.CERTIFICATE_1_WORDS), "solution")
 
 
+def shared_words():
+    """Cases with one matrix as right sides of one file: its words, and on each right side the case's own certificate, chosen too."""
+    expect(write_system(examples.SHARED[0][1]), examples.SHARED_WORDS)
+    for numbers, systems in examples.SHARED:
+        words = write_system(systems)
+        for side, number in enumerate(numbers):
+            _, system, certificate, _ = examples.CASES[number - 1]
+            expect(systems.side(side), system)
+            expect(says_check(words, write_certificate(certificate, system), side), "accepted")
+            expect(solve_words(words, form.LONGEST_CERTIFICATE, side), write_certificate(certificate, system))
+
+
 def bounds():
     """Case 11, and the lengths of the longest system and certificate."""
     for words, says in examples.bounds():
         expect(says_system(bytes_of_words(words)), says)
-    system = form.System(2, [[[1] * 16] * 8] * 8, [[1] * 16] * 8)
+    system = form.Systems(2, [[[1] * 16] * 8] * 8, [[[1] * 16] * 8] * 8)
     expect(len(write_system(system)), form.LONGEST_SYSTEM)
     certificate = Solution([1] * 121, [[1] * 121] * 8, [1] * 121, [[1] * 121] * 8)
     expect(len(write_certificate(certificate, system)), form.LONGEST_CERTIFICATE)
@@ -73,9 +85,16 @@ def table():
     for words, says in examples.TABLE_SYSTEMS:
         expect(says_system(bytes_of_words(words)), says)
     expect(says_system(bytes(5)), "refused 10 at 0")
-    expect(says_system(bytes(4908)), "refused 10 at 0")
+    for words, says in examples.SIDE_SYSTEMS:
+        expect(says_system(bytes_of_words(words)), says)
+    expect(says_system(bytes(8712)), "refused 1 at 0")
+    expect(says_system(bytes(8716)), "refused 10 at 0")
     expect(answer(solve_words, examples.SYSTEM_1_WORDS, 2197), "refused 11 at 0")
     expect(len(solve_words(examples.SYSTEM_1_WORDS, 2198)), 12)
+    expect(answer(solve_words, examples.SYSTEM_1_WORDS, 0, 1), "refused 40 at 0")
+    expect(answer(solve_words, examples.SYSTEM_1_WORDS[:-1], 0, 1), "refused 4 at 6")
+    expect(says_check(examples.SYSTEM_1_WORDS, [], 1), "refused 40 at 0")
+    expect(says_check(examples.SYSTEM_1_WORDS[:-1], [], 1), "refused 4 at 6")
     expect(says_lookup(examples.SYSTEM_1_WORDS, examples.CERTIFICATE_1_WORDS, IN_SYSTEM, 2), "refused 12 at 0")
     expect(says_lookup(examples.SYSTEM_1_WORDS, examples.CERTIFICATE_1_WORDS, IN_SYSTEM, 1), "4 to 6: 20000001 30000001")
     for words, says in examples.TABLE_CERTIFICATES:
@@ -85,15 +104,18 @@ def table():
 
 
 def writers():
-    """The writers' order of refusals: 2, 3, the first value at fault, and only then 11."""
+    """The writers' order of refusals: 1, 2, 3, the first value at fault, and only then 11."""
     one = pairs([[0, 1], [1]])
-    expect(says_written(write_system_values, 4, 9, 1, [], 0), "refused 2 at 0")
-    expect(says_written(write_system_values, 2, 9, 1, [], 0), "refused 3 at 0")
-    expect(says_written(write_system_values, 2, 1, 1, [(17, []), (1, [1])], 0), "refused 6 at 1")
-    expect(says_written(write_system_values, 2, 1, 1, pairs([[1], [0, 2]]), 0), "refused 7 at 5")
-    expect(says_written(write_system_values, 2, 1, 1, pairs([[1], [1, 0]]), 0), "refused 8 at 5")
-    expect(says_written(write_system_values, 2, 1, 1, one, 1225), "refused 11 at 0")
-    expect(says_written(write_system_values, 2, 1, 1, one, 1226)[:7], "wrote 7")
+    expect(says_written(write_system_values, 4, 9, 1, 0, [], 0), "refused 1 at 0")
+    expect(says_written(write_system_values, 4, 9, 1, 9, [], 0), "refused 1 at 0")
+    expect(says_written(write_system_values, 2, 1, 1, 2, pairs([[1], [1], [0, 2]]), 0), "refused 7 at 7")
+    expect(says_written(write_system_values, 4, 9, 1, 1, [], 0), "refused 2 at 0")
+    expect(says_written(write_system_values, 2, 9, 1, 1, [], 0), "refused 3 at 0")
+    expect(says_written(write_system_values, 2, 1, 1, 1, [(17, []), (1, [1])], 0), "refused 6 at 1")
+    expect(says_written(write_system_values, 2, 1, 1, 1, pairs([[1], [0, 2]]), 0), "refused 7 at 5")
+    expect(says_written(write_system_values, 2, 1, 1, 1, pairs([[1], [1, 0]]), 0), "refused 8 at 5")
+    expect(says_written(write_system_values, 2, 1, 1, 1, one, 2177), "refused 11 at 0")
+    expect(says_written(write_system_values, 2, 1, 1, 1, one, 2178)[:7], "wrote 7")
     expect(says_written(write_certificate_values, form.ABSENCE, 2, 1, 1, [(122, [])], 0), "refused 26 at 1")
     expect(says_written(write_certificate_values, form.ABSENCE, 2, 1, 1, [(1, [1])], 2197), "refused 11 at 0")
     expect(says_written(write_certificate_values, form.ABSENCE, 2, 1, 1, [(1, [1])], 2198)[:7], "wrote 4")
@@ -152,8 +174,33 @@ def solver():
         system = structure(draws, prime(draws), draws.between(1, 5), draws.between(1, 5), draws.between(1, 6))
         certificate = solve(system)
         expect(check_values(system, certificate), None)
-        expect(read_both(write_system(system), write_certificate(certificate, system)), (system, certificate))
+        alone = Systems(system.p, system.matrix, [system.right])
+        expect(read_both(write_system(system), write_certificate(certificate, system)), (alone, certificate))
         expect(certificate.d if isinstance(certificate, Solution) else None, least_denominator(system))
+
+
+def sides():
+    """Random systems that share a matrix: they survive writing and reading, and the certificate of a right side is that of its system
+    alone, at another place among the right sides too, and where all the others are changed; the check accepts it there."""
+    draws = Draws(0x51DE)
+    for k in range(60):
+        system = draws.choose(STRUCTURES)(draws, prime(draws), draws.between(1, 4), draws.between(1, 4), draws.between(1, 4))
+        systems = sharing(draws, system, 1 + k % 8)
+        words, count = write_system(systems), len(systems.sides)
+        expect(read_system(words), systems)
+        expect(len(words), 2 + sum(1 + len(f) for f in systems.polynomials()))
+        expect(answer(solve_words, words, 0, count), "refused 40 at 0")
+        expect(says_check(words, [], count), "refused 40 at 0")
+        side, place = draws.below(count), draws.below(count)
+        found = solve_words(words, form.LONGEST_CERTIFICATE, side)
+        expect(found, solve_words(write_system(systems.side(side)), form.LONGEST_CERTIFICATE))
+        expect(found, write_certificate(chosen(systems.side(side)), systems))
+        others = sharing(draws, system, count).sides
+        for changed in (systems.sides[side - place:] + systems.sides[:side - place], others):
+            changed[place] = systems.sides[side]
+            words = write_system(Systems(system.p, system.matrix, changed))
+            expect(solve_words(words, form.LONGEST_CERTIFICATE, place), found)
+            expect(says_check(words, found, place), "accepted")
 
 
 def shuffled(draws, system):
@@ -199,7 +246,8 @@ def uniqueness():
 def main():
     """Run all tests."""
     for test in (
-        cases, printed_words, bounds, table, writers, whole_report, primes, arithmetic, solver, conditions, uniqueness,
+        cases, printed_words, shared_words, bounds, table, writers, whole_report, primes, arithmetic, solver, sides, conditions,
+        uniqueness,
     ):
         test()
     print(f"{held} examples and laws hold")

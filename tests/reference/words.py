@@ -1,4 +1,4 @@
-"""The form of words, the limits, and the values that words stand for: document 01, "Bounds" and "Words"."""
+"""The form of words, the limits, and the values that words stand for: document 01, "Bounds" and "Words", and document 02, item 1."""
 
 from typing import NamedTuple
 
@@ -7,9 +7,10 @@ SOLUTION, ABSENCE = 1, 2
 
 LARGEST_PRIME = 65521
 MOST_ROWS_OR_COLUMNS = 8
+MOST_SIDES = 8  # right sides of a system's file
 SYSTEM_LIMIT = 16  # coefficients of a polynomial of a system
 CERTIFICATE_LIMIT = 121  # coefficients of a polynomial of a certificate
-LONGEST_SYSTEM = 1226
+LONGEST_SYSTEM = 2178
 LONGEST_CERTIFICATE = 2198
 
 
@@ -32,9 +33,40 @@ class System(NamedTuple):
         """Column j of A."""
         return [row[j] for row in self.matrix]
 
+    @property
+    def sides(self):
+        """The right side, as the only one of a file."""
+        return [self.right]
+
     def polynomials(self):
         """All polynomials in written order: A row by row, then b."""
         return [f for row in self.matrix for f in row] + self.right
+
+
+class Systems(NamedTuple):
+    """The systems of one file: they share p and A, and each has a right side of its own."""
+
+    p: int
+    matrix: list
+    sides: list
+
+    def rows(self):
+        """Document 01's n."""
+        return len(self.matrix)
+
+    def columns(self):
+        """Document 01's m."""
+        return len(self.matrix[0])
+
+    def polynomials(self):
+        """All polynomials in written order: A row by row, then the right sides one after another."""
+        return [f for row in self.matrix for f in row] + [f for right in self.sides for f in right]
+
+    def side(self, number):
+        """The system of one right side, counted from 0; 40 where there is none."""
+        if number >= len(self.sides):
+            raise Refusal(40, 0)
+        return System(self.p, self.matrix, self.sides[number])
 
 
 class Solution(NamedTuple):
@@ -61,7 +93,7 @@ class Absence(NamedTuple):
 
 
 class Refusal(Exception):
-    """A refusal: its number in document 01's table, and its place."""
+    """A refusal: its number in document 01's table or in document 02, and its place."""
 
     def __init__(self, number, place):
         super().__init__(number, place)

@@ -1,4 +1,4 @@
-"""Writers: values to words, or the refusal of the first value at fault. Document 01, "Turned back", on the writers.
+"""Writers: values to words, or the refusal of the first value at fault. Document 01, "Turned back", on the writers; document 02, item 1.
 
 A value here is whatever a caller may hand over, so a polynomial is a pair: its count and its coefficients. They agree, except
 that a count above the limit need not be followed by that many coefficients.
@@ -39,10 +39,12 @@ def written(head, p, polynomials, limit, base):
     return words + [form.word(form.END, len(words) + 1)]
 
 
-def write_system_values(p, n, m, polynomials, lent):
-    """The words of a system, or a refusal; the number of lent words is looked at last."""
+def write_system_values(p, n, m, sides, polynomials, lent):
+    """The words of a system with so many right sides, or a refusal: 1 comes first, the number of lent words is looked at last."""
+    if not 1 <= sides <= form.MOST_SIDES:
+        raise Refusal(1, 0)
     check_shape(p, n, m)
-    head = form.word(form.SYSTEM_HEAD, p | n << 16 | m << 20)
+    head = form.word(form.SYSTEM_HEAD, p | n << 16 | m << 20 | sides - 1 << 24)
     words = written(head, p, polynomials, form.SYSTEM_LIMIT, ON_SYSTEM)
     if lent < form.LONGEST_SYSTEM:
         raise Refusal(11, 0)
@@ -60,9 +62,9 @@ def write_certificate_values(kind, p, n, m, polynomials, lent):
 
 
 def write_system(system, lent=form.LONGEST_SYSTEM):
-    """The words of a system."""
+    """The words of a system, or of systems that share a matrix."""
     polynomials = pairs(system.polynomials())
-    return write_system_values(system.p, system.rows(), system.columns(), polynomials, lent)
+    return write_system_values(system.p, system.rows(), system.columns(), len(system.sides), polynomials, lent)
 
 
 def write_certificate(certificate, system, lent=form.LONGEST_CERTIFICATE):

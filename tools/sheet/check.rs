@@ -12,9 +12,9 @@ pub struct Fault {
     pub lines: Vec<String>,
 }
 
-/// The fault of a certificate that was read for this system; nothing where it is right.
-pub fn first_fault(certificate: &Certificate, system: &System, notation: Notation) -> Option<Fault> {
-    let trial = Trial { system, notation };
+/// The fault of a certificate that was read for this system, as one for the right side of this number; nothing where it is right.
+pub fn first_fault(certificate: &Certificate, system: &System, side: usize, notation: Notation) -> Option<Fault> {
+    let trial = Trial { system, side, notation };
     match certificate {
         Certificate::Solution { denominator: d, numerators, certifying_denominator: w, certifying_numerators } => trial
             .monic("d", d, 0)
@@ -26,15 +26,30 @@ pub fn first_fault(certificate: &Certificate, system: &System, notation: Notatio
     }
 }
 
-/// A system, and how polynomials are shown.
+/// A system, the number of its right side that is meant, and how polynomials are shown.
 struct Trial<'a> {
     system: &'a System,
+    side: usize,
     notation: Notation,
 }
 
 impl Trial<'_> {
     fn modulus(&self) -> u32 {
         self.system.modulus
+    }
+
+    /// b.
+    fn right(&self) -> &[Polynomial] {
+        &self.system.sides[self.side]
+    }
+
+    /// Lines on b, and behind them which right side it is, where there are several.
+    fn on_right(&self, mut lines: Vec<String>) -> Vec<String> {
+        let count = self.system.sides.len();
+        if count > 1 {
+            lines.push(format!("b is right side {}, and the sheet has {count}", self.side));
+        }
+        lines
     }
 
     fn shown(&self, polynomial: &Polynomial) -> String {
@@ -55,10 +70,11 @@ impl Trial<'_> {
 
     /// 32: A·N is not d·b in a row.
     fn rows(&self, d: &Polynomial, numerators: &[Polynomial]) -> Option<Fault> {
-        self.system.matrix.iter().zip(&self.system.right).enumerate().find_map(|(row, (entries, right))| {
+        self.system.matrix.iter().zip(self.right()).enumerate().find_map(|(row, (entries, right))| {
             let left = sum_of_products(entries.iter().zip(numerators), self.modulus());
             let names = [format!("row {row} of A*N"), format!("row {row} of d*b")];
-            self.difference(names, &left, &multiply(d, right, self.modulus())).map(|lines| Fault { number: 32, place: row, lines })
+            let lines = self.difference(names, &left, &multiply(d, right, self.modulus()))?;
+            Some(Fault { number: 32, place: row, lines: self.on_right(lines) })
         })
     }
 
@@ -85,7 +101,7 @@ impl Trial<'_> {
         let mut lines =
             vec![format!("Z*b is {}", self.shown(&product)), format!("its divisor in common with w is {}", self.shown(&common))];
         lines.extend(self.difference(names, &certified, d)?);
-        Some(Fault { number: 34, place: 0, lines })
+        Some(Fault { number: 34, place: 0, lines: self.on_right(lines) })
     }
 
     /// 35: q·A is not zero in a column.
@@ -99,7 +115,7 @@ impl Trial<'_> {
 
     /// 36: q·b is zero.
     fn right_side(&self, kernel: &[Polynomial]) -> Option<Fault> {
-        let lines = vec!["q*b is 0, and must not be".to_string()];
+        let lines = self.on_right(vec!["q*b is 0, and must not be".to_string()]);
         self.side_product(kernel).is_empty().then_some(Fault { number: 36, place: 0, lines })
     }
 
@@ -110,10 +126,10 @@ impl Trial<'_> {
 
     /// A row vector times b.
     fn side_product(&self, vector: &[Polynomial]) -> Polynomial {
-        sum_of_products(vector.iter().zip(&self.system.right), self.modulus())
+        sum_of_products(vector.iter().zip(self.right()), self.modulus())
     }
 
-    /// Two sides that should be equal, and the highest power at which they are not; nothing where they are.
+    /// Two polynomials that should be equal, and the highest power at which they are not; nothing where they are.
     fn difference(&self, names: [String; 2], left: &Polynomial, right: &Polynomial) -> Option<Vec<String>> {
         let at = |f: &Polynomial, power: usize| f.get(power).copied().unwrap_or(0);
         let power = (0..left.len().max(right.len())).rev().find(|power| at(left, *power) != at(right, *power))?;

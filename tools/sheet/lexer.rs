@@ -73,6 +73,15 @@ impl Cursor {
         matches!(self.token(), Token::EndOfLine | Token::EndOfText)
     }
 
+    /// Whether the next token begins a number right behind the name of one letter that was passed last: `b0`, `b_0`, `b₀`.
+    pub fn is_index(&self) -> bool {
+        let [.., name, next] = &self.lexemes[..=self.next] else {
+            return false;
+        };
+        let adjacent = next.at.line == name.at.line && next.at.column == name.at.column + 1;
+        adjacent && matches!(next.token, Token::Number(_) | Token::Superscript(_) | Token::Symbol('_' | '₀'..='₉'))
+    }
+
     pub fn skip_empty_lines(&mut self) {
         while *self.token() == Token::EndOfLine {
             self.advance();
@@ -118,7 +127,8 @@ fn describe(token: &Token) -> String {
     }
 }
 
-fn shortened(text: &str) -> String {
+/// The text, cut where an error would show too much of it.
+pub fn shortened(text: &str) -> String {
     match text.char_indices().nth(SHOWN) {
         Some((end, _)) => format!("{}...", &text[..end]),
         None => text.to_string(),

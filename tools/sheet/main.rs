@@ -13,7 +13,8 @@ mod text;
 mod values;
 mod words;
 
-use refusal::Side;
+use lexer::shortened;
+use refusal::Subject;
 use show::Notation;
 use std::ffi::{OsStr, OsString};
 use std::fs::{canonicalize, metadata, remove_file, File};
@@ -26,14 +27,15 @@ use values::{System, LONGEST_CERTIFICATE, LONGEST_SYSTEM};
 
 /// The commands; NAME stands for the name that the tool is called by.
 const HELP: &str = "\
-NAME write TEXT SHEET            write the system in the file TEXT to the file SHEET
-NAME write TEXT > SHEET          the same
-NAME show [--signed] SHEET       show a system as text that `write` reads
-NAME show [--signed] SHEET CARD  show a certificate for that system, and what is wrong with it
-NAME explain NUMBER              say what a refusal means and what to do
-NAME --help                      show this
+NAME write TEXT SHEET                   write the system in the file TEXT to the file SHEET
+NAME write TEXT > SHEET                 the same
+NAME show [--signed] SHEET              show a system as text that `write` reads
+NAME show [--signed] SHEET CARD [SIDE]  show a certificate for that system, and what is wrong with it
+NAME explain NUMBER                     say what a refusal means and what to do
+NAME --help                             show this
 
---signed shows p - 1 as -1 and so on; - is standard input. A text, in which # begins a comment:
+--signed shows p - 1 as -1 and so on; - is standard input. SIDE says which right side is meant: they count from
+0, which is taken where none is given. A text, in which # begins a comment and a further b the next right side:
 
   p 3
   A
@@ -58,13 +60,28 @@ struct Answer {
     error: String,
 }
 
+/// Why there is no answer, as it is said on standard error: the command is at fault, or a file or a number is.
+enum Failure {
+    Command(String),
+    File(String),
+}
+
+impl From<String> for Failure {
+    fn from(error: String) -> Failure {
+        Failure::File(error)
+    }
+}
+
 fn main() -> ExitCode {
     let arguments: Vec<OsString> = std::env::args_os().skip(1).collect();
-    let Some(result) = command(&arguments) else {
-        eprint!("this is no command; these are:\n\n{}", help());
-        return ExitCode::from(2);
+    let answer = match command(&arguments) {
+        Ok(answer) => answer,
+        Err(Failure::File(error)) => Answer { error, ..Answer::default() },
+        Err(Failure::Command(error)) => {
+            eprint!("{error}");
+            return ExitCode::from(2);
+        }
     };
-    let answer = result.unwrap_or_else(|error| Answer { error, ..Answer::default() });
     let put = put(&answer.output);
     eprint!("{}{}", answer.error, put.as_ref().err().map_or("", String::as_str));
     if put.is_ok() && answer.error.is_empty() {
@@ -80,30 +97,46 @@ fn help() -> String {
     HELP.replace("NAME", &shown(name))
 }
 
-/// The answer to a command, or why there is none; nothing where it is no command.
-fn command(arguments: &[OsString]) -> Option<Result<Answer, String>> {
-    let (name, rest) = arguments.split_first()?;
-    let rest: Vec<&OsStr> = rest.iter().map(OsString::as_os_str).collect();
-    let output = match (name.to_str()?, &rest[..]) {
-        ("--help" | "-h" | "help", []) => Ok(help().into()),
-        ("write", [text]) => write_to_output(text),
-        ("write", [text, sheet]) => write_to_file(text, sheet),
-        ("explain", [number]) => explanation(number),
-        ("show", files) => return show(files),
-        _ => return None,
-    };
-    Some(output.map(|output| Answer { output, ..Answer::default() }))
+fn no_command() -> Failure {
+    Failure::Command(format!("this is no command; these are:\n\n{}", help()))
 }
 
-/// One or two files, with the option before, between or behind them.
-fn show(arguments: &[&OsStr]) -> Option<Result<Answer, String>> {
-    let (options, files): (Vec<&OsStr>, Vec<&OsStr>) = arguments.iter().partition(|argument| **argument == "--signed");
+/// The answer to a command, or why there is none.
+fn command(arguments: &[OsString]) -> Result<Answer, Failure> {
+    let (name, rest) = arguments.split_first().ok_or_else(no_command)?;
+    let rest: Vec<&OsStr> = rest.iter().map(OsString::as_os_str).collect();
+    let output = match (name.to_str().unwrap_or_default(), &rest[..]) {
+        ("--help" | "-h" | "help", []) => help().into(),
+        ("write", [text]) => write_to_output(text)?,
+        ("write", [text, sheet]) => write_to_file(text, sheet)?,
+        ("explain", [number]) => explanation(number)?,
+        ("show", files) => return show(files),
+        _ => return Err(no_command()),
+    };
+    Ok(Answer { output, ..Answer::default() })
+}
+
+/// One file, or two and the number of a right side, with the option before, between or behind them.
+fn show(arguments: &[&OsStr]) -> Result<Answer, Failure> {
+    let (options, others): (Vec<&OsStr>, Vec<&OsStr>) = arguments.iter().partition(|argument| **argument == "--signed");
     let signed = !options.is_empty();
-    match files[..] {
-        [sheet] => Some(show_system(sheet, signed)),
-        [sheet, card] if sheet != "-" || card != "-" => Some(show_certificate(sheet, card, signed)),
-        _ => None,
+    match others[..] {
+        [sheet] => Ok(show_system(sheet, signed)?),
+        [sheet, card, ref rest @ ..] if rest.len() <= 1 && (sheet != "-" || card != "-") => {
+            let side = rest.first().map_or(Ok("0"), |side| digits(side))?;
+            Ok(show_certificate(sheet, card, side, signed)?)
+        }
+        _ => Err(no_command()),
     }
+}
+
+/// The digits, as many as there are, of an argument that is the number of a right side.
+fn digits(argument: &OsStr) -> Result<&str, Failure> {
+    let digits = argument.to_str().filter(|text| !text.is_empty() && text.bytes().all(|c| c.is_ascii_digit()));
+    digits.ok_or_else(|| {
+        let found = shortened(&shown(argument));
+        Failure::Command(format!("SIDE is the number of a right side, in digits, from 0; `{found}` is not\n"))
+    })
 }
 
 /// To standard output. A reader that has seen enough, as `head` has, is no error worth a line.
@@ -219,7 +252,7 @@ fn card_bytes(card: &OsStr) -> Result<Vec<u8>, String> {
     let deciding = 4 * (LONGEST_CERTIFICATE as u64 + 1);
     let read = (&mut file).take(deciding).read_to_end(&mut bytes).and_then(|_| length_of(&mut file, bytes.len() as u64));
     let length = read.map_err(|error| fault(card, error))?;
-    reading::file(Side::Certificate, length as usize).map_err(|refusal| refusal.report(&shown(card)))?;
+    reading::file(Subject::Certificate, length as usize).map_err(|refusal| refusal.report(&shown(card)))?;
     Ok(bytes)
 }
 
@@ -239,16 +272,27 @@ fn length_of(file: &mut File, read: u64) -> IoResult<u64> {
     Ok(read + rest)
 }
 
-/// Number 10, of either file, comes before what is wrong with their words. A certificate that reads is shown, right or not.
-fn show_certificate(sheet: &OsStr, card: &OsStr, signed: bool) -> Result<Answer, String> {
+/// The right side that these digits are the number of, or refusal 40.
+fn side_of(system: &System, sheet: &OsStr, digits: &str) -> Result<usize, String> {
+    let count = system.sides.len();
+    digits.parse().ok().filter(|side| *side < count).ok_or_else(|| {
+        let there = if count == 1 { "right side 0 only".to_string() } else { format!("right sides 0 to {}", count - 1) };
+        refusal::report(40, 0, &shown(sheet), &[format!("it has {there}, and {} is asked for", shortened(digits))])
+    })
+}
+
+/// Number 10, of either file, comes before what is wrong with their words, and 40 behind what is wrong with the system's. A certificate
+/// that reads is shown, right or not.
+fn show_certificate(sheet: &OsStr, card: &OsStr, digits: &str, signed: bool) -> Result<Answer, String> {
     let written = sheet_bytes(sheet)?;
-    reading::file(Side::System, written.len()).map_err(|refusal| refusal.report(&shown(sheet)))?;
+    reading::file(Subject::System, written.len()).map_err(|refusal| refusal.report(&shown(sheet)))?;
     let bytes = card_bytes(card)?;
     let system = system_of(sheet, &written)?;
+    let side = side_of(&system, sheet, digits)?;
     let certificate = reading::certificate(&bytes, &system).map_err(|refusal| refusal.report(&shown(card)))?;
     let notation = Notation { modulus: system.modulus, signed };
-    let text = notation.certificate(&certificate);
-    Ok(match check::first_fault(&certificate, &system, notation) {
+    let text = notation.certificate(&certificate, (system.sides.len() > 1).then_some(side));
+    Ok(match check::first_fault(&certificate, &system, side, notation) {
         None => Answer { output: (text + ACCEPTED).into(), ..Answer::default() },
         Some(mut fault) => {
             fault.lines.push(UNPROVED.to_string());

@@ -1,12 +1,12 @@
 //! Bytes of files to systems and certificates, or the refusal of the first word at fault (docs/REFUSALS.md).
 
-use crate::refusal::{Reason, Refusal, Side};
-use crate::values::{modulus_fault, Certificate, Polynomial, System, LONGEST_SYSTEM, MOST_COLUMNS, MOST_ROWS};
-use crate::words::{has_kind, payload, words_of, Kind, ABSENCE, SOLUTION};
+use crate::refusal::{Reason, Refusal, Subject};
+use crate::values::{modulus_fault, Certificate, Polynomial, System, LONGEST_SYSTEM, MOST_COLUMNS, MOST_ROWS, MOST_SIDES};
+use crate::words::{has_kind, payload, sides_in, words_of, Kind, ABSENCE, SOLUTION};
 
 /// The words of a file from the first on.
 struct Walk {
-    side: Side,
+    subject: Subject,
     words: Vec<u32>,
     /// How many are read.
     count: usize,
@@ -15,7 +15,7 @@ struct Walk {
 impl Walk {
     /// A refusal of the word that was read last.
     fn refuse<T>(&self, reason: Reason) -> Result<T, Refusal> {
-        Err(Refusal { side: self.side, reason, place: self.count.saturating_sub(1) })
+        Err(Refusal { subject: self.subject, reason, place: self.count.saturating_sub(1) })
     }
 
     /// The next word; `due` says which kind it should be.
@@ -38,7 +38,7 @@ impl Walk {
 
     fn polynomial(&mut self, modulus: u32) -> Result<Polynomial, Refusal> {
         let size = self.payload(Kind::Start)?;
-        if size as usize > self.side.size() {
+        if size as usize > self.subject.size() {
             return self.refuse(Reason::Size { found: size });
         }
         let mut coefficients = Vec::new();
@@ -59,6 +59,11 @@ impl Walk {
         (0..length).map(|_| self.polynomial(modulus)).collect()
     }
 
+    /// So many vectors, of one length.
+    fn vectors(&mut self, modulus: u32, count: usize, length: usize) -> Result<Vec<Vec<Polynomial>>, Refusal> {
+        (0..count).map(|_| self.vector(modulus, length)).collect()
+    }
+
     /// The end word, with no word behind it.
     fn end(&mut self) -> Result<(), Refusal> {
         let found = self.payload(Kind::End)?;
@@ -75,29 +80,40 @@ impl Walk {
 }
 
 /// Number 10, of a file of so many bytes: they are not whole words, or more than a system has.
-pub fn file(side: Side, bytes: usize) -> Result<(), Refusal> {
-    if bytes % 4 != 0 || side == Side::System && bytes > 4 * LONGEST_SYSTEM {
-        return Err(Refusal { side, reason: Reason::Bytes { found: bytes }, place: 0 });
+pub fn file(subject: Subject, bytes: usize) -> Result<(), Refusal> {
+    if bytes % 4 != 0 || subject == Subject::System && bytes > 4 * LONGEST_SYSTEM {
+        return Err(Refusal { subject, reason: Reason::Bytes { found: bytes }, place: 0 });
     }
     Ok(())
 }
 
 /// The system of a file's bytes. Number 10 comes before all others.
 pub fn system(bytes: &[u8]) -> Result<System, Refusal> {
-    file(Side::System, bytes.len())?;
-    let mut walk = Walk { side: Side::System, words: words_of(bytes), count: 0 };
-    let (modulus, rows, columns) = system_head(&mut walk)?;
-    let matrix = (0..rows).map(|_| walk.vector(modulus, columns)).collect::<Result<_, _>>()?;
-    let right = walk.vector(modulus, rows)?;
+    file(Subject::System, bytes.len())?;
+    let mut walk = Walk { subject: Subject::System, words: words_of(bytes), count: 0 };
+    let head = system_head(&mut walk)?;
+    let matrix = walk.vectors(head.modulus, head.rows, head.columns)?;
+    let sides = walk.vectors(head.modulus, head.sides, head.rows)?;
     walk.end()?;
-    Ok(System { modulus, matrix, right })
+    Ok(System { modulus: head.modulus, matrix, sides })
 }
 
-/// Modulus, rows and columns.
-fn system_head(walk: &mut Walk) -> Result<(u32, usize, usize), Refusal> {
+/// What the head of a system says.
+struct Head {
+    modulus: u32,
+    rows: usize,
+    columns: usize,
+    sides: usize,
+}
+
+fn system_head(walk: &mut Walk) -> Result<Head, Refusal> {
     let found = walk.next(Kind::SystemHead)?;
-    if !has_kind(found, Kind::SystemHead) || found >> 24 & 0xF != 0 {
+    if !has_kind(found, Kind::SystemHead) {
         return walk.refuse(Reason::Head { found });
+    }
+    let sides = sides_in(found);
+    if sides > MOST_SIDES {
+        return walk.refuse(Reason::Sides { found });
     }
     let (modulus, rows, columns) = (found & 0xFFFF, found >> 16 & 0xF, found >> 20 & 0xF);
     if modulus_fault(modulus).is_some() {
@@ -107,12 +123,12 @@ fn system_head(walk: &mut Walk) -> Result<(u32, usize, usize), Refusal> {
     if !(1..=MOST_ROWS).contains(&n) || !(1..=MOST_COLUMNS).contains(&m) {
         return walk.refuse(Reason::Shape { rows, columns });
     }
-    Ok((modulus, n, m))
+    Ok(Head { modulus, rows: n, columns: m, sides })
 }
 
 /// The certificate of a file's bytes, which are whole words, for a system of this shape.
 pub fn certificate(bytes: &[u8], system: &System) -> Result<Certificate, Refusal> {
-    let mut walk = Walk { side: Side::Certificate, words: words_of(bytes), count: 0 };
+    let mut walk = Walk { subject: Subject::Certificate, words: words_of(bytes), count: 0 };
     let (modulus, rows, columns) = (system.modulus, system.matrix.len(), system.columns());
     let found = walk.next(Kind::CertificateHead)?;
     let certificate = match payload(found) {

@@ -1,12 +1,12 @@
 //! Refusals: the sentence of the table for a number, and, of files that are not well formed, what is found there.
 
 use crate::refusals::{Entry, TABLE};
-use crate::values::{modulus_fault, CERTIFICATE_SIZE, LONGEST_SYSTEM, SYSTEM_SIZE};
-use crate::words::{has_kind, Kind};
+use crate::values::{modulus_fault, CERTIFICATE_SIZE, LONGEST_SYSTEM, MOST_SIDES, SYSTEM_SIZE};
+use crate::words::{has_kind, sides_in, Kind};
 
 /// What is read.
 #[derive(Clone, Copy, PartialEq)]
-pub enum Side {
+pub enum Subject {
     System,
     Certificate,
 }
@@ -14,6 +14,7 @@ pub enum Side {
 /// What is wrong, with the values that are found there.
 pub enum Reason {
     Head { found: u32 },
+    Sides { found: u32 },
     Modulus { found: u32 },
     Shape { rows: u32, columns: u32 },
     Missing { due: Kind },
@@ -27,24 +28,24 @@ pub enum Reason {
 }
 
 pub struct Refusal {
-    pub side: Side,
+    pub subject: Subject,
     pub reason: Reason,
     pub place: usize,
 }
 
-impl Side {
+impl Subject {
     /// The most coefficients of a polynomial.
     pub fn size(self) -> usize {
         match self {
-            Side::System => SYSTEM_SIZE,
-            Side::Certificate => CERTIFICATE_SIZE,
+            Subject::System => SYSTEM_SIZE,
+            Subject::Certificate => CERTIFICATE_SIZE,
         }
     }
 
     fn name(self) -> &'static str {
         match self {
-            Side::System => "sheet",
-            Side::Certificate => "card",
+            Subject::System => "sheet",
+            Subject::Certificate => "card",
         }
     }
 }
@@ -65,7 +66,7 @@ impl Refusal {
     /// The number in the table. On a certificate all but 10 are larger by 20.
     pub fn number(&self) -> u32 {
         let number = match self.reason {
-            Reason::Head { .. } => 1,
+            Reason::Head { .. } | Reason::Sides { .. } => 1,
             Reason::Modulus { .. } => 2,
             Reason::Shape { .. } => 3,
             Reason::Missing { .. } => 4,
@@ -76,7 +77,7 @@ impl Refusal {
             Reason::Count { .. } | Reason::Behind => 9,
             Reason::Bytes { .. } => return 10,
         };
-        if self.side == Side::System {
+        if self.subject == Subject::System {
             number
         } else {
             number + 20
@@ -92,6 +93,9 @@ impl Refusal {
         let word = format!("word {}", self.place);
         match self.reason {
             Reason::Head { found } => format!("{word} is {found:08X}, and {}", self.head(found)),
+            Reason::Sides { found } => {
+                format!("{word} is {found:08X}, and says {} right sides: a sheet has 1 to {MOST_SIDES}", sides_in(found))
+            }
             Reason::Modulus { found } => format!("p in {word} is {}", modulus_fault(found).unwrap_or_default()),
             Reason::Shape { rows, columns } => format!("{word} says {rows} rows and {columns} columns"),
             Reason::Missing { due } => format!("{word}, which should be {}, is missing", self.due(due)),
@@ -106,19 +110,21 @@ impl Refusal {
     }
 
     fn head(&self, found: u32) -> &'static str {
-        match self.side {
-            Side::System if has_kind(found, Kind::CertificateHead) => "begins a card, not a sheet: `show SHEET CARD` shows a card",
-            Side::System => "the head of a sheet has 1 as its first digit and 0 as its second",
-            Side::Certificate if has_kind(found, Kind::SystemHead) => {
+        match self.subject {
+            Subject::System if has_kind(found, Kind::CertificateHead) => {
+                "begins a card, not a sheet: `show SHEET CARD` shows a card"
+            }
+            Subject::System => "the head of a sheet has 1 as its first digit",
+            Subject::Certificate if has_kind(found, Kind::SystemHead) => {
                 "begins a sheet, not a card: `show SHEET CARD` has the sheet first"
             }
-            Side::Certificate => "the head of a card is 50000001 for a solution, 50000002 for an absence",
+            Subject::Certificate => "the head of a card is 50000001 for a solution, 50000002 for an absence",
         }
     }
 
     fn bytes(&self, found: usize) -> String {
         let most = 4 * LONGEST_SYSTEM;
-        if self.side == Side::System && found > most {
+        if self.subject == Subject::System && found > most {
             format!("this file has more than {most} bytes")
         } else {
             format!("this file has {found} bytes")
@@ -127,7 +133,7 @@ impl Refusal {
 
     fn due(&self, kind: Kind) -> String {
         match kind {
-            Kind::SystemHead | Kind::CertificateHead => format!("the head of a {}", self.side.name()),
+            Kind::SystemHead | Kind::CertificateHead => format!("the head of a {}", self.subject.name()),
             Kind::Start => "the start of a polynomial (2.......)".to_string(),
             Kind::Coefficient => "a coefficient (3.......)".to_string(),
             Kind::End => "the end (4.......)".to_string(),

@@ -8,12 +8,12 @@ pub struct Entry {
     pub remedy: &'static str,
 }
 
-pub const TABLE: [Entry; 25] = [
+pub const TABLE: [Entry; 26] = [
     Entry {
         number: 1,
-        meaning: "the first word is not the head of a sheet: its kind is not 1, or bits 24 to 27 are not zero",
+        meaning: "the first word is not the head of a sheet: its kind is not 1, or bits 24 to 27 are above 7; or, by a writer of sheets, there are not 1 to 8 right sides",
         place: "0",
-        remedy: "See whether the file is a sheet. A card begins with kind 5; write of tools/sheet makes a sheet of a text; else the bytes of a word may stand in the wrong order.",
+        remedy: "See whether the file is a sheet. A card begins with kind 5; write of tools/sheet makes a sheet of a text; else the bytes of a word may stand in the wrong order. More than 8 right sides take several sheets.",
     },
     Entry {
         number: 2,
@@ -37,7 +37,7 @@ pub const TABLE: [Entry; 25] = [
         number: 5,
         meaning: "the start of a polynomial, a coefficient or the end of the sheet is due, and another kind of word is found",
         place: "that word",
-        remedy: "Compare the count in the last start word with the coefficients behind it, and the number of polynomials with the head.",
+        remedy: "Compare the count in the last start word with the coefficients behind it, and the number of polynomials with the rows, the columns and the number of right sides in the head.",
     },
     Entry {
         number: 6,
@@ -65,7 +65,7 @@ pub const TABLE: [Entry; 25] = [
     },
     Entry {
         number: 10,
-        meaning: "a file is not whole words of four bytes, or that of a sheet has more than 4,904 bytes",
+        meaning: "a file is not whole words of four bytes, or that of a sheet has more than 8,712 bytes",
         place: "0",
         remedy: "Take the whole file, copied as bytes and not as text.",
     },
@@ -73,13 +73,13 @@ pub const TABLE: [Entry; 25] = [
         number: 11,
         meaning: "fewer words are lent than the longest card has, or, by a writer of sheets, than the longest sheet has",
         place: "0",
-        remedy: "Lend 2,198 words (8,792 bytes) for a card, 1,226 words (4,904 bytes) for a sheet, whatever their length will be.",
+        remedy: "Lend 2,198 words (8,792 bytes) for a card, 2,178 words (8,712 bytes) for a sheet, whatever their length will be.",
     },
     Entry {
         number: 12,
         meaning: "there is no polynomial of that number",
         place: "0",
-        remedy: "Polynomials count from 0 in written order, on each side: a sheet has n*m + n, a solution card m + n + 2, an absence card n.",
+        remedy: "Polynomials count from 0 in written order, in each file: a sheet with k right sides has n*m + k*n, a solution card m + n + 2, an absence card n.",
     },
     Entry {
         number: 21,
@@ -133,7 +133,7 @@ pub const TABLE: [Entry; 25] = [
         number: 32,
         meaning: "A*N is not d*b",
         place: "the first such row",
-        remedy: "N/d does not solve the system: see whether sheet and card are a pair.",
+        remedy: "N/d does not solve the system: see whether sheet and card are a pair, and the card is for the right side that is meant.",
     },
     Entry {
         number: 33,
@@ -157,6 +157,12 @@ pub const TABLE: [Entry; 25] = [
         number: 36,
         meaning: "q*b is zero",
         place: "0",
-        remedy: "q does not show that there is no solution; there may be one.",
+        remedy: "q does not show that there is no solution; there may be one. See whether the card is for the right side that is meant.",
+    },
+    Entry {
+        number: 40,
+        meaning: "the sheet has no right side of that number",
+        place: "0",
+        remedy: "Right sides count from 0: a sheet with one has number 0 only. show of tools/sheet shows each right side of a sheet as a b. A program that was compiled before 0.10 passes no right side: compile it anew.",
     },
 ];

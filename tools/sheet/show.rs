@@ -12,13 +12,18 @@ pub struct Notation {
 impl Notation {
     pub fn system(self, system: &System) -> String {
         let rows = self.matrix_lines(&system.matrix);
-        format!("p {}\n{}{}", self.modulus, part("A", &rows), self.vector("b", &system.right))
+        let several = system.sides.len() > 1;
+        let name = |number: usize| if several { format!("b  # right side {number}") } else { "b".to_string() };
+        let sides: String = system.sides.iter().enumerate().map(|(number, b)| self.vector(&name(number), b)).collect();
+        format!("p {}\n{}{sides}", self.modulus, part("A", &rows))
     }
 
-    pub fn certificate(self, certificate: &Certificate) -> String {
+    /// The number is that of the right side that the certificate is held to, where there are several: it does not say which it is for.
+    pub fn certificate(self, certificate: &Certificate, number: Option<usize>) -> String {
+        let of = number.map(|number| format!("held to right side {number}; ")).unwrap_or_default();
         match certificate {
             Certificate::Solution { denominator, numerators, certifying_denominator, certifying_numerators } => format!(
-                "card solution  # claims y = N/d, with z = Z/w against a smaller d\np {}\n{}{}{}{}",
+                "card solution  # {of}claims y = N/d, with z = Z/w against a smaller d\np {}\n{}{}{}{}",
                 self.modulus,
                 part("d", &[self.polynomial(denominator)]),
                 self.vector("N", numerators),
@@ -26,7 +31,7 @@ impl Notation {
                 self.vector("Z", certifying_numerators)
             ),
             Certificate::Absence { kernel } => {
-                format!("card absence  # claims q*A = 0, with q*b not 0\np {}\n{}", self.modulus, self.vector("q", kernel))
+                format!("card absence  # {of}claims q*A = 0, with q*b not 0\np {}\n{}", self.modulus, self.vector("q", kernel))
             }
         }
     }

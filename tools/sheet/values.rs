@@ -3,22 +3,24 @@
 pub const LARGEST_MODULUS: u32 = 65_521;
 pub const MOST_ROWS: usize = 8;
 pub const MOST_COLUMNS: usize = 8;
+/// Right sides of a system; they count from 0.
+pub const MOST_SIDES: usize = 8;
 /// Coefficients of a polynomial of a system: one more than the degree.
 pub const SYSTEM_SIZE: usize = 16;
 /// Coefficients of a polynomial of a certificate.
 pub const CERTIFICATE_SIZE: usize = 121;
 /// Words of the longest system, and of the longest certificate.
-pub const LONGEST_SYSTEM: usize = 1_226;
+pub const LONGEST_SYSTEM: usize = 2_178;
 pub const LONGEST_CERTIFICATE: usize = 2_198;
 
 /// The coefficients, lowest power first, the last one not 0; none for zero.
 pub type Polynomial = Vec<u32>;
 
-/// A·y = b modulo p. The matrix is A, row by row; the right side is b.
+/// A·y = b modulo p, for each b of the right sides. The matrix is A, row by row.
 pub struct System {
     pub modulus: u32,
     pub matrix: Vec<Vec<Polynomial>>,
-    pub right: Vec<Polynomial>,
+    pub sides: Vec<Vec<Polynomial>>,
 }
 
 impl System {

@@ -29,11 +29,16 @@ pub fn payload(word: u32) -> u32 {
     word & ((1 << PAYLOAD_BITS) - 1)
 }
 
-/// Head, A row by row, b, end. The system is within the limits.
+/// The number of right sides that the head of a system says.
+pub fn sides_in(head: u32) -> usize {
+    (head >> 24 & 0xF) as usize + 1
+}
+
+/// Head, A row by row, the right sides one after another, end. The system is within the limits.
 pub fn system_words(system: &System) -> Vec<u32> {
-    let (rows, columns) = (system.matrix.len() as u32, system.columns() as u32);
-    let mut words = vec![word(Kind::SystemHead, columns << 20 | rows << 16 | system.modulus)];
-    for polynomial in system.matrix.iter().flatten().chain(&system.right) {
+    let (rows, columns, sides) = (system.matrix.len() as u32, system.columns() as u32, system.sides.len() as u32);
+    let mut words = vec![word(Kind::SystemHead, (sides - 1) << 24 | columns << 20 | rows << 16 | system.modulus)];
+    for polynomial in system.matrix.iter().chain(&system.sides).flatten() {
         push_polynomial(&mut words, polynomial);
     }
     words.push(word(Kind::End, words.len() as u32 + 1));

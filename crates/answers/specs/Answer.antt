@@ -3,6 +3,7 @@ use Prim.Native.Nat.{ℕ}
 use Rattle.words.specs.Outcome.{Outcome}
 use Rattle.words.specs.Outcome.Outcome.{accepted, refused}
 use Rattle.words.specs.System.{Shape}
+use Rattle.words.specs.Systems.{Head}
 use Rattle.words.specs.Certificate.{Form}
 use Rattle.words.specs.Certificate.Form.{solving, absent}
 use Rattle.answers.specs.declared.answer.Refusal.{Refusal}
@@ -11,10 +12,13 @@ use Rattle.answers.specs.declared.answer.Counted.the-variants as counted
 use Rattle.answers.specs.declared.answer.Verdict.{Verdict}
 use Rattle.answers.specs.declared.answer.Verdict.the-variants as verdict
 use Rattle.answers.specs.declared.shape.Shape.{Shape as ShapeValue}
+use Rattle.answers.specs.declared.shape.Head.{Head as HeadValue}
 use Rattle.answers.specs.declared.shape.Form.{Form as FormValue}
 use Rattle.answers.specs.declared.shape.Form.the-variants as form
 use Rattle.answers.specs.declared.shape.SystemRead.{SystemRead}
 use Rattle.answers.specs.declared.shape.SystemRead.the-variants as system
+use Rattle.answers.specs.declared.shape.LineRead.{LineRead}
+use Rattle.answers.specs.declared.shape.LineRead.the-variants as line
 use Rattle.answers.specs.declared.shape.CertificateRead.{CertificateRead}
 use Rattle.answers.specs.declared.shape.CertificateRead.the-variants as certificate
 
@@ -35,10 +39,18 @@ verdictOutcome (verdict.Refused r) = refused (r .number) (r .place)
 abbrev pub shapeOf : ShapeValue → Shape
 shapeOf h = record { modulus = h .modulus; rows = h .rows; columns = h .columns }
 
--- p, n and m
-abbrev pub systemOutcome : SystemRead → Outcome Shape
-systemOutcome (system.Accepted h) = accepted (shapeOf h)
+abbrev pub headOf : HeadValue → Head
+headOf h = record { shape = shapeOf (h .shape); sides = h .sides }
+
+-- p, n, m and the number of right sides
+abbrev pub systemOutcome : SystemRead → Outcome Head
+systemOutcome (system.Accepted h) = accepted (headOf h)
 systemOutcome (system.Refused r) = refused (r .number) (r .place)
+
+-- p, n and m, of one line
+abbrev pub lineOutcome : LineRead → Outcome Shape
+lineOutcome (line.Accepted h) = accepted (shapeOf h)
+lineOutcome (line.Refused r) = refused (r .number) (r .place)
 
 abbrev pub formOf : FormValue → Form
 formOf form.Solution = solving

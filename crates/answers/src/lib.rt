@@ -13,5 +13,7 @@ pub use answer::Refusal;
 pub use answer::Verdict;
 pub use shape::CertificateRead;
 pub use shape::Form;
+pub use shape::Head;
+pub use shape::LineRead;
 pub use shape::Shape;
 pub use shape::SystemRead;

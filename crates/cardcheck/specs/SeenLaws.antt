@@ -1,5 +1,5 @@
 -- What is looked at of a file decides: the verdict on it is that on the whole file, however long that is.
-use Prim.Native.Nat.{ℕ, _+_, _*_, _/_, _%_, _≤_, _<_}
+use Prim.Native.Nat.{ℕ, _+_, _*_, _/_, _%_, _≤_, _<_, min}
 use native.Mathlib.Decide.{decLt}
 use native.Mathlib.Omega.{arith}
 use mathlib.Core.Path.{_≡_, refl, sym, ap, ap₂, _∙_}
@@ -18,6 +18,10 @@ use Rattle.words.specs.BytesLaws.{length-wordsOf, wordsOf-at}
 use Rattle.truth.specs.Verdict.{verdict}
 use Rattle.truth.specs.Prefix.{verdict-prefix}
 use Rattle.verifier.specs.File.{fileVerdict}
+use Rattle.truth.specs.Lines.{line-verdict}
+use Rattle.files.specs.OpeningBoth.{filesBroken}
+use Rattle.streams.specs.Side.{mostSide}
+use Rattle.streams.specs.SideLaws.{capped-line}
 use Rattle.streams.specs.Seen.{fileSpace, bytesSeen}
 
 -- the words of a file's start are the first of its words
@@ -74,39 +78,39 @@ module _ (file : List ℕ) where
         let words : bytesSeen (length file) / wordBytes ≡ longestCertificate office + 1 = omega (arith, seen-long) in
         words-of-start (bytesSeen (length file)) file (omega (arith, seen-long)) ∙ ap (λ k. take k (wordsOf file)) words
 
-module _ (system certificate : List ℕ) where
-  certificate-start : fileVerdict office system (fileStart certificate) ≡ fileVerdict office system certificate
+module _ (k : ℕ) (system certificate : List ℕ) where
+  certificate-start : fileVerdict office k system (fileStart certificate) ≡ fileVerdict office k system certificate
   unfolding fileVerdict
   certificate-start = by (decLt (length certificate) fileSpace)
     where
       by : Dec (length certificate < fileSpace)
-          → fileVerdict office system (fileStart certificate) ≡ fileVerdict office system certificate
-      by (yes h) = ap (fileVerdict office system) (start-short certificate h)
+          → fileVerdict office k system (fileStart certificate) ≡ fileVerdict office k system certificate
+      by (yes h) = ap (fileVerdict office k system) (start-short certificate h)
       by (no h) =
           let long : fileSpace ≤ length certificate = omega arith in
           ap₂ (λ b o. refuse ((broken system || tooLong office system) || b) 10 0 o) (start-broken certificate long)
-          (ap (verdict office (wordsOf system)) (start-words certificate long)
-          ∙ verdict-prefix office office-fits (wordsOf system) (wordsOf certificate) (longestCertificate office + 1) (omega arith)
+          (ap (verdict office k (wordsOf system)) (start-words certificate long)
+          ∙ verdict-prefix office office-fits k (wordsOf system) (wordsOf certificate) (longestCertificate office + 1) (omega arith)
           (omega (arith, length-wordsOf certificate)))
 
   -- a system's file that is too long is 10 at 0
-  too-long : (file : List ℕ) → tooLong office file ≡ true → fileVerdict office file certificate ≡ refused 10 0
+  too-long : (file : List ℕ) → tooLong office file ≡ true → fileVerdict office k file certificate ≡ refused 10 0
   unfolding fileVerdict
   too-long file e =
-      ap (λ t. refuse ((broken file || t) || broken certificate) 10 0 (verdict office (wordsOf file) (wordsOf certificate))) e
+      ap (λ t. refuse ((broken file || t) || broken certificate) 10 0 (verdict office k (wordsOf file) (wordsOf certificate))) e
       ∙ by (broken file)
     where
       by : (b : Bool)
-          → refuse ((b || true) || broken certificate) 10 0 (verdict office (wordsOf file) (wordsOf certificate)) ≡ refused 10 0
+          → refuse ((b || true) || broken certificate) 10 0 (verdict office k (wordsOf file) (wordsOf certificate)) ≡ refused 10 0
       by true = refl
       by false = refl
 
-  system-start : fileVerdict office (fileStart system) certificate ≡ fileVerdict office system certificate
+  system-start : fileVerdict office k (fileStart system) certificate ≡ fileVerdict office k system certificate
   system-start = by (decLt (length system) fileSpace)
     where
       by : Dec (length system < fileSpace)
-          → fileVerdict office (fileStart system) certificate ≡ fileVerdict office system certificate
-      by (yes h) = ap (λ s. fileVerdict office s certificate) (start-short system h)
+          → fileVerdict office k (fileStart system) certificate ≡ fileVerdict office k system certificate
+      by (yes h) = ap (λ s. fileVerdict office k s certificate) (start-short system h)
       by (no h) =
           let long : fileSpace ≤ length system = omega arith in
           let limit = wordBytes * longestSystem office in
@@ -114,6 +118,15 @@ module _ (system certificate : List ℕ) where
           ∙ sym (too-long system (lt-ltb limit (length system) (omega arith)))
 
 -- the verdict on what is looked at is that on the files
-pub verdict-seen : (system certificate : List ℕ)
-    → fileVerdict office (fileStart system) (fileStart certificate) ≡ fileVerdict office system certificate
-verdict-seen system certificate = system-start system (fileStart certificate) ∙ certificate-start system certificate
+pub verdict-seen : (k : ℕ) (system certificate : List ℕ)
+    → fileVerdict office k (fileStart system) (fileStart certificate) ≡ fileVerdict office k system certificate
+verdict-seen k system certificate = system-start k system (fileStart certificate) ∙ certificate-start k system certificate
+
+-- nor does it matter that right sides above the most that an argument is read as are taken for it
+pub verdict-capped : (k : ℕ) (system certificate : List ℕ)
+    → fileVerdict office (min k mostSide) system certificate ≡ fileVerdict office k system certificate
+unfolding fileVerdict
+verdict-capped k system certificate =
+    ap (refuse (filesBroken office system certificate) 10 0)
+    (line-verdict office (min k mostSide) k (wordsOf system) (wordsOf system) (capped-line k (wordsOf system))
+    (wordsOf certificate))

@@ -5,7 +5,7 @@ use Prim.Native.Nat.{ℕ, _+_, _*_, _≤_, _<_}
 use native.Mathlib.Omega.{arith}
 use lib.ListN.{length, getD, length-append, List·getD-append}
 use lib.Seq.{getD-append-add}
-use Rattle.words.specs.System.{System, systemEntries}
+use Rattle.words.specs.System.{System}
 use Rattle.truth.specs.Listed.{listed, listed-is}
 use Rattle.loader.specs.Slot.{slot, InSlots}
 use Rattle.loader.specs.Widths.{systemWidth, certificateWidth}
@@ -21,7 +21,7 @@ vector-is area all fs count start stands long inside same =
     listed-is count (λ k. slot certificateWidth area (start + k)) fs [] long
     (λ k lt. stands .slots (start + k) (omega arith) ∙ same k lt)
 
-module _ (l : Dimensions) (area : List ℕ) (s : System) (stands : InSlots systemWidth area (systemEntries s)) where
+module _ (l : Dimensions) (area : List ℕ) (s : System) (stands : InSlots systemWidth area (s .matrix ++ s .side)) where
   matrix-is : length (s .matrix) ≡ l .rows * l .columns → listed (l .rows * l .columns) (slot systemWidth area) ≡ s .matrix
   matrix-is e =
       listed-is (l .rows * l .columns) (slot systemWidth area) (s .matrix) [] e (λ k lt.

@@ -11,8 +11,8 @@ use Rattle.files.specs.Opening.{Opened}
 use Rattle.files.specs.declared.opening.FilesOpened.{FilesOpened}
 use Rattle.files.specs.declared.opening.FilesOpened.the-variants.{Words, Refused}
 
--- "10: file of bytes not a multiple of four, or over 4,904; 0". It is said of either file that is not whole words; the length limit
--- is the system's alone, since a certificate's file may be longer.
+-- 10 at 0: "file of bytes not a multiple of four", or of more than 8,712. It is said of either file that is not whole words; the
+-- length limit is the system's alone, since a certificate's file may be longer.
 abbrev pub filesBroken : Limits → List ℕ → List ℕ → Bool
 filesBroken limits system certificate = (broken system || tooLong limits system) || broken certificate
 

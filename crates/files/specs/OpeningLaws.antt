@@ -14,8 +14,8 @@ use Rattle.words.specs.Limits.{Limits, longestSystem}
 use Rattle.words.specs.Outcome.{Outcome, refuse}
 use Rattle.words.specs.Outcome.Outcome.{accepted, refused}
 use Rattle.words.specs.OutcomeLaws.{refused-accepted}
-use Rattle.words.specs.System.{readSystem}
-use Rattle.words.specs.Bytes.{wordsOf, broken, readSystemFile, wordBytes}
+use Rattle.words.specs.Systems.{readSystems, readLine}
+use Rattle.words.specs.Bytes.{wordsOf, broken, readSystemsFile, readLineFile, wordBytes}
 use Rattle.words.specs.BytesLaws.{length-wordsOf, or-right}
 use Rattle.files.specs.Opening.{turnedBack, firstWords, openedWords, Opened}
 
@@ -96,16 +96,29 @@ module _ {limit : ℕ} {bytes before after : List ℕ} {told : Outcome ℕ} (ope
         ∙ ap (λ (i : ℕ). take i (wordsOf bytes)) (min-eq-left {m = length before} (omega (arith, length-wordsOf bytes, short)))
         ∙ take-length (wordsOf bytes)
 
--- a system's file
+-- a sheet's file
 module _ (limits : Limits) {bytes before after : List ℕ} {told : Outcome ℕ}
     (opened : Opened (wordBytes * longestSystem limits) bytes before after told) where
-  pub system-file-refused : {number place : ℕ} → told ≡ refused number place → readSystemFile limits bytes ≡ refused number place
-  unfolding readSystemFile
-  system-file-refused e = opened-stops opened e (readSystem limits (wordsOf bytes))
+  pub system-file-refused : {number place : ℕ} → told ≡ refused number place → readSystemsFile limits bytes ≡ refused number place
+  unfolding readSystemsFile
+  system-file-refused e = opened-stops opened e (readSystems limits (wordsOf bytes))
 
   pub system-file-read : longestSystem limits ≤ length before → {n : ℕ} → told ≡ accepted n
-      → readSystemFile limits bytes ≡ readSystem limits (take n after)
-  unfolding readSystemFile
+      → readSystemsFile limits bytes ≡ readSystems limits (take n after)
+  unfolding readSystemsFile
   system-file-read room e =
-      opened-passes opened e (readSystem limits (wordsOf bytes))
-      ∙ ap (readSystem limits) (sym (opened-all opened e (omega arith)))
+      opened-passes opened e (readSystems limits (wordsOf bytes))
+      ∙ ap (readSystems limits) (sym (opened-all opened e (omega arith)))
+
+  -- of which one line is read
+  module _ (k : ℕ) where
+    pub line-file-refused : {number place : ℕ} → told ≡ refused number place → readLineFile limits k bytes ≡ refused number place
+    unfolding readLineFile
+    line-file-refused e = opened-stops opened e (readLine limits k (wordsOf bytes))
+
+    pub line-file-read : longestSystem limits ≤ length before → {n : ℕ} → told ≡ accepted n
+        → readLineFile limits k bytes ≡ readLine limits k (take n after)
+    unfolding readLineFile
+    line-file-read room e =
+        opened-passes opened e (readLine limits k (wordsOf bytes))
+        ∙ ap (readLine limits k) (sym (opened-all opened e (omega arith)))

@@ -7,6 +7,7 @@ limitsOf v =
     record {
       rows = v .rows;
       columns = v .columns;
+      sides = v .sides;
       systemCoefficients = v .coefficients;
       certificateCoefficients = v .«certificate_coefficients»;
     }

@@ -9,13 +9,15 @@ pub struct Limits {
     // The most rows, and the most columns.
     pub rows: u8,
     pub columns: u8,
+    // The most right sides.
+    pub sides: u8,
     // The most coefficients of a polynomial, in a system and in a certificate.
     pub coefficients: u16,
     pub certificate_coefficients: u16,
 }
 
 // Counts a head, `count` polynomials of `coefficients` coefficients, and an end.
-fn words_for(count: u16, coefficients: u16) -> usize
+fn words_for(count: u32, coefficients: u16) -> usize
     ensures { λ r. ⌜ r ≡ wordsFor count coefficients ⌝ }
 {
     2 + (count as usize) * (1 + coefficients as usize)
@@ -26,17 +28,18 @@ impl Limits {
     pub fn system_words(self) -> usize
         ensures { λ r. ⌜ r ≡ longestSystem (limitsOf self) ⌝ }
     {
-        let rows = self.rows as u16;
-        let columns = self.columns as u16;
-        words_for(rows * columns + rows, self.coefficients)
+        let rows = self.rows as u32;
+        let columns = self.columns as u32;
+        let sides = self.sides as u32;
+        words_for(rows * columns + sides * rows, self.coefficients)
     }
 
     // Counts the words of the longest certificate.
     pub fn certificate_words(self) -> usize
         ensures { λ r. ⌜ r ≡ longestCertificate (limitsOf self) ⌝ }
     {
-        let rows = self.rows as u16;
-        let columns = self.columns as u16;
+        let rows = self.rows as u32;
+        let columns = self.columns as u32;
         words_for(1 + columns + 1 + rows, self.certificate_coefficients)
     }
 }
@@ -49,16 +52,18 @@ impl Office {
 
     pub const COLUMNS: u8 = 8;
 
+    pub const SIDES: u8 = 8;
+
     pub const COEFFICIENTS: u16 = 16;
 
     pub const CERTIFICATE_COEFFICIENTS: u16 = 121;
 
     // The most polynomials of a system, and of a certificate.
-    pub const SYSTEM_POLYNOMIALS: usize = 72;
+    pub const SYSTEM_POLYNOMIALS: usize = 128;
 
     pub const CERTIFICATE_POLYNOMIALS: usize = 18;
 
-    pub const SYSTEM_WORDS: usize = 1226;
+    pub const SYSTEM_WORDS: usize = 2178;
 
     pub const CERTIFICATE_WORDS: usize = 2198;
 
@@ -74,6 +79,7 @@ impl Office {
         Limits {
             rows: Office::ROWS,
             columns: Office::COLUMNS,
+            sides: Office::SIDES,
             coefficients: Office::COEFFICIENTS,
             certificate_coefficients: Office::CERTIFICATE_COEFFICIENTS,
         }
@@ -102,6 +108,8 @@ impl Panel {
 
     pub const COLUMNS: u8 = 4;
 
+    pub const SIDES: u8 = 1;
+
     pub const COEFFICIENTS: u16 = 8;
 
     pub const CERTIFICATE_COEFFICIENTS: u16 = 29;
@@ -117,6 +125,7 @@ impl Panel {
         Limits {
             rows: Panel::ROWS,
             columns: Panel::COLUMNS,
+            sides: Panel::SIDES,
             coefficients: Panel::COEFFICIENTS,
             certificate_coefficients: Panel::CERTIFICATE_COEFFICIENTS,
         }

@@ -1,5 +1,5 @@
 -- interface, what contracts, other crates and documents cite: Theorems, Packed, PackedLaws, Checked, Together, NumberLaws, FileLaws
--- the three demands; what the exported calls give, as one number
+-- the three demands, and what is asked of lines that share a matrix; what the exported calls give, as one number
 pub mod Theorems
 pub mod Packed
 -- what that number means: taken apart, of two files, of the two calls together

@@ -22,10 +22,10 @@ by-rows : {A : Type 0} {low high : ℕ} {o : Outcome A} (rows : List Row) → Re
 by-rows {low = low} {high} rows h e = record { each = λ n k r. numbers-between n k low high rows e (h .in-rows n k r) }
 
 module _ (limits : Limits) where
-  pub solver-numbers : (file entry exit : List ℕ) (answer : Outcome ℕ) → SolvesFile limits file entry exit answer
-      → Numbers 1 11 answer
-  solver-numbers file entry exit answer h =
-      by-rows (solverFileRows (wordsOf file)) (solve-file-rows limits file entry exit answer h) refl
+  pub solver-numbers : (k : ℕ) (file entry exit : List ℕ) (answer : Outcome ℕ) → SolvesFile limits k file entry exit answer
+      → Numbers 1 40 answer
+  solver-numbers k file entry exit answer h =
+      by-rows (solverFileRows (wordsOf file)) (solve-file-rows limits k file entry exit answer h) refl
 
-  pub check-numbers : LimitsFit limits → (f g : List ℕ) → Numbers 1 36 (fileVerdict limits f g)
-  check-numbers fit f g = by-rows _ (files-rows limits fit f g) refl
+  pub check-numbers : LimitsFit limits → (k : ℕ) (f g : List ℕ) → Numbers 1 40 (fileVerdict limits k f g)
+  check-numbers fit k f g = by-rows _ (files-rows limits fit k f g) refl

@@ -9,11 +9,11 @@ use Rattle.answers.specs.Packed.{packed}
 use Rattle.solver.specs.Solving.{SolvesFile}
 use Rattle.report.specs.Reporting.{ReportsFile}
 
--- the solver's answer, packed: as in `SolvesFile` the certificate is the chosen one (`Gives`), so that it is the only answer
--- (`packed-unique`)
-pub record SolvesPacked (limits : Limits) (file entry exit : List ℕ) (r : ℕ) : Type 0 where
+-- the solver's answer for right side k, packed: as in `SolvesFile` the certificate is the chosen one (`Gives`), so that it is the
+-- only answer (`packed-unique`)
+pub record SolvesPacked (limits : Limits) (k : ℕ) (file entry exit : List ℕ) (r : ℕ) : Type 0 where
   pub answer : Outcome ℕ
-  pub solves : SolvesFile limits file entry exit answer
+  pub solves : SolvesFile limits k file entry exit answer
   pub packs : r ≡ packed answer
 
 -- the number of the report's bytes, packed: it refuses nothing

@@ -1,34 +1,42 @@
--- The customer's three demands, each sentence as a field, each proved from the laws below it. "Sheet" is a system here, "card" a
--- certificate. What a call gives is what its contract says: `Solves` and `verdict` for the solver and the check on words,
--- `SolvesPacked` for the number and the bytes of `yezsdolak_solve`, `checkGives` for the number of `yezsdolak_check`, `GivesPacked`
--- and `packed` for `yezsdolak_write_system`, `_lookup`, `_shape` and `_kind`, `Writes` for the writers, `LoadsSystem` and
--- `LoadsCertificate` for the calls that hand out values, `polynomialLookup` for the lookup, `Opened` for the words of a file. Each
--- of these has a contract without `requires`, so it is proved for all that is lent that the call reads and writes nothing beside it
--- and returns.
-use Prim.Native.Nat.{ℕ, _+_, _*_, _/_, _%_, _≤_}
-use mathlib.Core.Path.{_≡_}
+-- The customer's three demands, each sentence as a field, each proved from the laws below it; and behind them what document 02,
+-- item 1, asks of lines that share a matrix. "Sheet" is a system here, or several with one matrix, "card" a certificate. What a
+-- call gives is what its contract says: `Solves` and `verdict` for the solver and the check on words, `SolvesPacked` for the number
+-- and the bytes of `yezsdolak_solve`, `checkGives` for the number of `yezsdolak_check`, `GivesPacked` and `packed` for
+-- `yezsdolak_write_system`, `_lookup`, `_shape` and `_kind`, `Writes` for the writers, `LoadsSystem` and `LoadsCertificate` for the
+-- calls that hand out values, `polynomialLookup` for the lookup, `Opened` for the words of a file. Each of these has a contract
+-- without `requires`, so it is proved for all that is lent that the call reads and writes nothing beside it and returns.
+use Prim.Native.Nat.{ℕ, _+_, _*_, _/_, _%_, _≤_, _<_}
+use mathlib.Core.Path.{_≡_, refl, ap, subst}
 use mathlib.Core.Logic.{_↔_}
+use mathlib.Core.Bool.{Bool, true, false, _||_}
 use mathlib.Core.List.{List}
 use native.Mathlib.Omega.{arith}
 use lib.ListN.{length, take}
+use borrow.Author.Tests.{le-ltb}
 use Rattle.words.specs.Limits.{office, systemCount, solutionCount, longestSystem, longestCertificate}
 use Rattle.words.specs.LimitsLaws.{office-fits}
 use Rattle.words.specs.Word.{Bytes}
-use Rattle.words.specs.Outcome.{Outcome}
+use Rattle.words.specs.Outcome.{Outcome, refuse, mapped, followedBy}
 use Rattle.words.specs.Outcome.Outcome.{accepted, refused}
-use Rattle.words.specs.System.{System, Shape, ShapeWithin, SystemWithin, shape, systemWords, readSystem}
-use Rattle.words.specs.SystemLaws.{system-accepted-iff, system-read-of-written, systemWords-injective}
+use Rattle.words.specs.System.{System, Shape, shape, ShapeWithin, SystemWithin}
+use Rattle.words.specs.Systems.{Systems, Head, SystemsWithin, systemsWords, line, single, readSystems, readLine}
+use Rattle.words.specs.SystemsLaws.{systems-accepted-iff, systemsWords-injective}
+use Rattle.words.specs.Line.{LineIn, LineRefused}
+use Rattle.words.specs.LineLaws.{line-within, line-read-of-written, line-refused-iff}
+use Rattle.words.specs.LineFileLaws.{line-file-refused-iff}
+use Rattle.words.specs.Before.{ZeroBits, readBefore, longestBefore, readBeforeFile}
+use Rattle.words.specs.BeforeLaws.{before-read, before-line, before-accepted, before-file, before-line-file}
 use Rattle.words.specs.Certificate.{Certificate, Form, CertificateWithin, certificateForm, certificateWords, readCertificate}
 use Rattle.words.specs.CertificateLaws.{certificate-accepted-iff, certificateWords-injective}
-use Rattle.words.specs.Bytes.{bytesOf, readSystemFile, wordBytes}
+use Rattle.words.specs.Bytes.{wordsOf, bytesOf, broken, readSystemsFile, readLineFile, wordBytes}
 use Rattle.words.specs.Table.{ByTable, systemTable, certificateTable, PolynomialsByTable}
 use Rattle.words.specs.Reading.{used}
 use Rattle.words.specs.Polynomial.{polynomialFrom, polynomialsFrom}
 use Rattle.words.specs.PolynomialsRefused.{polynomial-refused-iff, polynomials-refused-iff}
-use Rattle.words.specs.TenFirst.{FileRefused}
-use Rattle.words.specs.Pair.{PairRefused}
-use Rattle.words.specs.RefusedLaws.{system-refused-iff, certificate-refused-iff, file-refused-iff}
-use Rattle.truth.specs.Verdict.{verdict}
+use Rattle.words.specs.TenFirst.{FileRefused, LineFileRefused}
+use Rattle.words.specs.Pair.{PairRefused, whole, oneLine}
+use Rattle.words.specs.RefusedLaws.{systems-refused-iff, certificate-refused-iff, file-refused-iff}
+use Rattle.truth.specs.Verdict.{certificateVerdict, verdict}
 use Rattle.truth.specs.Accepted.{AcceptedWords}
 use Rattle.truth.specs.CertifiedWords.{CertifiedWords, accepted-iff-certified}
 use Rattle.truth.specs.TurnedBack.{Fault}
@@ -37,9 +45,11 @@ use Rattle.truth.specs.DemandLaws.{Says, Agree, accepted-says, verdicts-agree}
 use Rattle.truth.specs.Chosen.{Chosen}
 use Rattle.files.specs.Opening.{Opened}
 use Rattle.files.specs.OpeningLaws.{opened-unchanged}
+use Rattle.files.specs.OpeningBoth.{filesBroken}
+use Rattle.verifier.specs.File.{fileVerdict}
 use Rattle.verifier.specs.Checked.{CertifiedFiles}
 use Rattle.verifier.specs.FilesRefused.{FilesRefused}
-use Rattle.lookup.specs.Lookup.{Side, polynomialLookup}
+use Rattle.lookup.specs.Lookup.{Of, polynomialLookup}
 use Rattle.lookup.specs.RefusedLaws.{NoPolynomial, lookup-refused-iff}
 use Rattle.answers.specs.declared.answer.Counted.{Counted}
 use Rattle.answers.specs.declared.answer.Counted.the-variants.{Count, Refused}
@@ -47,8 +57,8 @@ use Rattle.answers.specs.declared.answer.Refusal.{Refusal}
 use Rattle.answers.specs.declared.shape.SystemRead.{SystemRead}
 use Rattle.answers.specs.declared.shape.CertificateRead.{CertificateRead}
 use Rattle.answers.specs.Answer.{systemOutcome, certificateOutcome}
-use Rattle.answers.specs.Packed.{packed, placeUnit, numberMost}
-use Rattle.writer.specs.Writing.{writeSystem, writeCertificate, Writes}
+use Rattle.answers.specs.Packed.{packed, packedVerdict, placeUnit, numberMost}
+use Rattle.writer.specs.Writing.{writeSystems, writeCertificate, Writes}
 use Rattle.writer.specs.Values.{systemInArrays, certificateIn, certificateStride}
 use Rattle.writer.specs.Refused.{SystemFault, CertificateFault}
 use Rattle.writer.specs.RefusedLaws.{system-refused-iff-fault, certificate-refused-iff-fault, refused-lent}
@@ -61,18 +71,21 @@ use Rattle.values.specs.RoundTrip.{SystemRoom, CertificateRoom, WritesSystem, W
 use Rattle.values.specs.RoundTrip.{system-writes-form, certificate-writes-form}
 use Rattle.values.specs.RoundTrip.{system-reads-back, system-loads-back, certificate-reads-back, certificate-loads-back}
 use Rattle.solve_meaning.specs.Existence.{officeCertificate, office-suffices, chosenCertificate-chosen, chosenCertificate-same}
-use Rattle.solver.specs.Solving.{Solves, systemToSolve}
-use Rattle.solver.specs.SolvingLaws.{every-system-solved, refused-unchanged as words-unchanged}
+use Rattle.solver.specs.Solving.{Solves, systemToSolve, withRoom, SolvesOr, certificateBytes}
+use Rattle.solver.specs.SolvingLaws.{line-of-written, every-system-solved, refused-unchanged as words-unchanged}
 use Rattle.solver.specs.RefusedLaws.{RoomLast, solve-refused-iff}
-use Rattle.solver.specs.OneCertificate.{GivesWords, solved-certificate}
+use Rattle.solver.specs.OneCertificate.{GivesWords, Call, SameGiven, solved-certificate}
+use Rattle.solver.specs.SameLine.{SameLine, same-line-given, alone-given}
 use Rattle.link.specs.Packed.{SolvesPacked}
-use Rattle.link_values.specs.Files.{fileShape, fileKind, fileLookup, writeSystemFile}
+use Rattle.link_values.specs.Files.{fileShape, fileKind, fileLookup, writeSystemsFile}
 use Rattle.link_values.specs.Giving.{GivesPacked}
 use Rattle.link_values.specs.RefusedLaws.{FilesRefusedBy, NothingTried, shape-gives-iff, kind-gives-iff, lookup-gives-iff}
 use Rattle.link_values.specs.RefusedLaws.{write-gives-iff, unchanged-lookup, unchanged-write}
 use Rattle.link.specs.PackedLaws.{solver-refused-iff, packed-same, packed-unique}
-use Rattle.link.specs.Checked.{checkGives, checked-iff, checked-says, checked-refused-iff, checked-agree}
-use Rattle.link.specs.Together.{checkedAfter, CertificateBytesIn, every-system-checked, every-system-certificate}
+use Rattle.link.specs.Checked.{checkGives, checked-iff, checked-says, checked-refused-iff, checked-agree, checked-same}
+use Rattle.link.specs.Checked.{checked-alone, checked-no-side}
+use Rattle.link.specs.Together.{checkedAfter, lineCertificate, CertificateBytesIn, every-system-checked}
+use Rattle.link.specs.Together.{every-system-certificate, SameBytes, same-line-bytes, alone-bytes, solved-no-side}
 use Rattle.link.specs.Together.{refused-unchanged}
 
 -- 1. "No words handed in, for sheet or card, can make a call read outside them, fail to end, or change a lent word when it refuses;
@@ -80,11 +93,12 @@ use Rattle.link.specs.Together.{refused-unchanged}
 pub record Demand1 : Type 0 where
   -- a refusal of the solver, of the writers, of the calls that hand out values, on words and on files, and of the call that opens a
   -- file. What other calls are lent they cannot change, but for the report, which refuses nothing.
-  pub unchanged-solve : (ws entry exit : List ℕ) (answer : Outcome ℕ) → Solves office ws entry exit answer → {number place : ℕ}
-      → answer ≡ refused number place → exit ≡ entry
+  pub unchanged-solve : (k : ℕ) (ws entry exit : List ℕ) (answer : Outcome ℕ) → Solves office k ws entry exit answer
+      → {number place : ℕ} → answer ≡ refused number place → exit ≡ entry
   pub unchanged-open : {limit : ℕ} {bytes entry exit : List ℕ} {told : Outcome ℕ} → Opened limit bytes entry exit told
       → {number place : ℕ} → told ≡ refused number place → exit ≡ entry
-  pub unchanged : {file entry exit : List ℕ} {r : ℕ} → SolvesPacked office file entry exit r → ¬ (r % placeUnit ≡ 0) → exit ≡ entry
+  pub unchanged : {k : ℕ} {file entry exit : List ℕ} {r : ℕ} → SolvesPacked office k file entry exit r → ¬ (r % placeUnit ≡ 0)
+      → exit ≡ entry
   pub unchanged-writing : {o : Outcome (List ℕ)} {entry exit : List ℕ} {r : Refusal} → Writes o entry (Refused r) exit
       → exit ≡ entry
   pub unchanged-system : {ws sizes sizes′ values values′ : List ℕ} {answer : SystemRead}
@@ -93,19 +107,24 @@ pub record Demand1 : Type 0 where
   pub unchanged-certificate : {h : Shape} {cs sizes sizes′ values values′ : List ℕ} {answer : CertificateRead}
       → LoadsCertificate office h cs answer sizes sizes′ values values′ → {number place : ℕ}
       → certificateOutcome answer ≡ refused number place → (sizes′ ≡ sizes) × (values′ ≡ values)
-  pub unchanged-lookup : (f g : List ℕ) (side : Side) (k : ℕ) {entry exit : List ℕ} {r : ℕ}
-      → GivesPacked (fileLookup office f g side k) entry exit r → ¬ (r % placeUnit ≡ 0) → exit ≡ entry
-  pub unchanged-write-file : (h : Shape) (sizes values : List ℕ) {entry exit : List ℕ} {r : ℕ}
-      → GivesPacked (writeSystemFile office (length entry) (systemInArrays office h sizes values)) entry exit r
+  pub unchanged-lookup : (f g : List ℕ) (of : Of) (k : ℕ) {entry exit : List ℕ} {r : ℕ}
+      → GivesPacked (fileLookup office f g of k) entry exit r → ¬ (r % placeUnit ≡ 0) → exit ≡ entry
+  pub unchanged-write-file : (h : Head) (sizes values : List ℕ) {entry exit : List ℕ} {r : ℕ}
+      → GivesPacked (writeSystemsFile office (length entry) (systemInArrays office h sizes values)) entry exit r
       → ¬ (r % placeUnit ≡ 0)
       → exit ≡ entry
-  -- rows 1 to 9, of a sheet's words; 21 and 24 to 29, of a card's; 10 before all others, of a file
+  -- rows 1 to 9, of a sheet's words; behind them 40, of one right side; 21 and 24 to 29, of a card's words; 10 before all others,
+  -- of a file
   pub system : (ws : List ℕ) (number place : ℕ)
-      → (readSystem office ws ≡ refused number place) ↔ ByTable (systemTable office) 0 ws number place
+      → (readSystems office ws ≡ refused number place) ↔ ByTable (systemTable office) 0 ws number place
+  pub one-line : (k : ℕ) (ws : List ℕ) (number place : ℕ)
+      → (readLine office k ws ≡ refused number place) ↔ LineRefused office k ws number place
   pub certificate : (h : Shape) (cs : List ℕ) (number place : ℕ)
       → (readCertificate office h cs ≡ refused number place) ↔ ByTable (certificateTable office h) 20 cs number place
   pub file : (bytes : List ℕ) (number place : ℕ)
-      → (readSystemFile office bytes ≡ refused number place) ↔ FileRefused office bytes number place
+      → (readSystemsFile office bytes ≡ refused number place) ↔ FileRefused office bytes number place
+  pub line-file : (k : ℕ) (bytes : List ℕ) (number place : ℕ)
+      → (readLineFile office k bytes ≡ refused number place) ↔ LineFileRefused office k bytes number place
   -- 4 to 8, of a polynomial that is read alone, and of several
   pub polynomial : (p limit : ℕ) (ws : List ℕ) (number place : ℕ)
       → (used (polynomialFrom p limit) ws ≡ refused number place) ↔ PolynomialsByTable p limit 1 ws number place
@@ -122,56 +141,64 @@ pub record Demand1 : Type 0 where
   -- of the number for the shape of a sheet's file
   pub shape-of-file : (f : List ℕ) (number place : ℕ) → 1 ≤ number → number ≤ numberMost
       → (packed (fileShape office f) ≡ placeUnit * place + number) ↔ FileRefused office f number place
-  -- of the number for a card's kind: 10 before all others, then the sheet's rows and the card's
+  -- of the number for a card's kind: 10 before all others, then the sheet's rows and the card's; no right side is asked for
   pub kind-of-files : (f g : List ℕ) (number place : ℕ) → 1 ≤ number → number ≤ numberMost
       → (packed (fileKind office f g) ≡ placeUnit * place + number) ↔ FilesRefusedBy office NothingTried f g number place
-  -- of the check: the sheet's rows, the card's, and 31 to 36; of its number on files, 10 before all others
-  pub check-words : (ws cs : List ℕ) (number place : ℕ)
-      → (verdict office ws cs ≡ refused number place) ↔ PairRefused office Fault ws cs number place
-  pub check : (f g : List ℕ) (number place : ℕ) → 1 ≤ number → number ≤ numberMost
-      → (checkGives f g ≡ placeUnit * place + number) ↔ FilesRefused office f g number place
-  -- of the solver: the sheet's rows, and then 11; of its number those of the sheet's file, and then 11
-  pub solve-words : (ws entry exit : List ℕ) (answer : Outcome ℕ) → Solves office ws entry exit answer → (number place : ℕ)
-      → (answer ≡ refused number place)
-      ↔ RoomLast (ByTable (systemTable office) 0 ws) (λ s. (ws ≡ systemWords s) × SystemWithin office s)
-      (longestCertificate office) (length entry) number place
-  pub solve : {file entry exit : List ℕ} {r : ℕ} → Bytes file → SolvesPacked office file entry exit r → (number place : ℕ)
-      → 1 ≤ number → number ≤ numberMost → (r ≡ placeUnit * place + number)
-      ↔ RoomLast (FileRefused office file) (λ s. (file ≡ bytesOf (systemWords s)) × SystemWithin office s)
+  -- of the check: the sheet's rows, 40, the card's, and 31 to 36; of its number on files, 10 before all others
+  pub check-words : (k : ℕ) (ws cs : List ℕ) (number place : ℕ)
+      → (verdict office k ws cs ≡ refused number place) ↔ PairRefused office (oneLine office k) Fault ws cs number place
+  pub check : (k : ℕ) (f g : List ℕ) (number place : ℕ) → 1 ≤ number → number ≤ numberMost
+      → (checkGives k f g ≡ placeUnit * place + number) ↔ FilesRefused office k f g number place
+  -- of the solver: the sheet's rows, 40, and then 11; of its number those of the sheet's file, 40, and then 11
+  pub solve-words : (k : ℕ) (ws entry exit : List ℕ) (answer : Outcome ℕ) → Solves office k ws entry exit answer
+      → (number place : ℕ) → (answer ≡ refused number place)
+      ↔ RoomLast (LineRefused office k ws) (λ s. LineIn office k s ws) (longestCertificate office) (length entry) number place
+  pub solve : {k : ℕ} {file entry exit : List ℕ} {r : ℕ} → Bytes file → SolvesPacked office k file entry exit r
+      → (number place : ℕ) → 1 ≤ number → number ≤ numberMost → (r ≡ placeUnit * place + number)
+      ↔ RoomLast (LineFileRefused office k file) (λ s. (ws : List ℕ) × (file ≡ bytesOf ws) × LineIn office k s ws)
       (wordBytes * longestCertificate office) (length entry) number place
-  -- of the lookup: the sheet's rows, the card's, and then 12
-  pub lookup : (ws cs : List ℕ) (side : Side) (k number place : ℕ)
-      → (polynomialLookup office ws cs side k ≡ refused number place) ↔ PairRefused office (NoPolynomial side k) ws cs number place
+  -- of both, 40 at 0 of a right side that the sheet does not have, "after the sheet has been read and before 11 or the card"
+  -- (document 02, item 1)
+  pub no-side-checked : (k : ℕ) (f g : List ℕ) → filesBroken office f g ≡ false → {s : Systems}
+      → readSystems office (wordsOf f) ≡ accepted s → s .head .sides ≤ k → checkGives k f g ≡ 40
+  pub no-side-solved : {k : ℕ} {file entry exit : List ℕ} {r : ℕ} {s : Systems} → SolvesPacked office k file entry exit r
+      → readSystemsFile office file ≡ accepted s → s .head .sides ≤ k → (r ≡ 40) × (exit ≡ entry)
+  -- of the lookup, which counts all right sides: the sheet's rows, the card's, and then 12
+  pub lookup : (ws cs : List ℕ) (of : Of) (k number place : ℕ)
+      → (polynomialLookup office ws cs of k ≡ refused number place)
+      ↔ PairRefused office (whole office) (NoPolynomial of k) ws cs number place
   -- of its number on files: 10 before all others
-  pub lookup-in-files : (f g : List ℕ) (side : Side) (k : ℕ) {entry exit : List ℕ} {r : ℕ}
-      → GivesPacked (fileLookup office f g side k) entry exit r → (number place : ℕ) → 1 ≤ number → number ≤ numberMost
-      → (r ≡ placeUnit * place + number) ↔ FilesRefusedBy office (NoPolynomial side k) f g number place
-  -- of the writers: 2, 3, then the first value at fault, then 11
-  pub write-system : (lent : ℕ) (s : System) (number place : ℕ)
-      → (writeSystem office lent s ≡ refused number place) ↔ SystemFault office lent s number place
+  pub lookup-in-files : (f g : List ℕ) (of : Of) (k : ℕ) {entry exit : List ℕ} {r : ℕ}
+      → GivesPacked (fileLookup office f g of k) entry exit r → (number place : ℕ) → 1 ≤ number → number ≤ numberMost
+      → (r ≡ placeUnit * place + number) ↔ FilesRefusedBy office (NoPolynomial of k) f g number place
+  -- of the writers: of a sheet's 1, of the number of right sides; 2, 3, then the first value at fault, then 11
+  pub write-system : (lent : ℕ) (s : Systems) (number place : ℕ)
+      → (writeSystems office lent s ≡ refused number place) ↔ SystemFault office lent s number place
   pub write-certificate : (lent : ℕ) (h : Shape) (c : Certificate) (number place : ℕ)
       → (writeCertificate office lent h c ≡ refused number place) ↔ CertificateFault office lent h c number place
   -- of the number for a sheet's file: the same, on as many words as there are whole in the lent bytes
-  pub write-system-file : (h : Shape) (sizes values : List ℕ) {entry exit : List ℕ} {r : ℕ}
-      → GivesPacked (writeSystemFile office (length entry) (systemInArrays office h sizes values)) entry exit r → (number place : ℕ)
-      → 1 ≤ number → number ≤ numberMost
+  pub write-system-file : (h : Head) (sizes values : List ℕ) {entry exit : List ℕ} {r : ℕ}
+      → GivesPacked (writeSystemsFile office (length entry) (systemInArrays office h sizes values)) entry exit r
+      → (number place : ℕ) → 1 ≤ number → number ≤ numberMost
       → (r ≡ placeUnit * place + number)
       ↔ SystemFault office (length entry / wordBytes) (systemInArrays office h sizes values) number place
 
 pub demand-1 : Demand1
 demand-1 = record {
-  unchanged-solve = λ ws entry exit answer h.
-      words-unchanged office certificateWords (systemToSolve office (length entry) ws) entry exit answer h;
+  unchanged-solve = λ k ws entry exit answer h.
+      words-unchanged office certificateWords (systemToSolve office k (length entry) ws) entry exit answer h;
   unchanged-open = λ opened. opened-unchanged opened;
   unchanged = refused-unchanged;
   unchanged-writing = refused-lent;
   unchanged-system = system-load-refused;
   unchanged-certificate = certificate-load-refused;
-  unchanged-lookup = λ f g side k gives. unchanged-lookup office f g side k gives;
+  unchanged-lookup = λ f g of k gives. unchanged-lookup office f g of k gives;
   unchanged-write-file = λ h sizes values gives. unchanged-write office h sizes values gives;
-  system = system-refused-iff office;
+  system = systems-refused-iff office;
+  one-line = line-refused-iff office office-fits;
   certificate = certificate-refused-iff office;
   file = file-refused-iff office;
+  line-file = λ k. line-file-refused-iff office k office-fits;
   polynomial = polynomial-refused-iff;
   polynomials = polynomials-refused-iff;
   load-system = λ loads. system-load-refused-iff loads;
@@ -180,10 +207,12 @@ demand-1 = record {
   kind-of-files = kind-gives-iff office office-fits;
   check-words = words-refused-iff office office-fits;
   check = checked-refused-iff;
-  solve-words = λ ws entry exit answer h. solve-refused-iff office ws entry exit answer h office-fits;
+  solve-words = λ k ws entry exit answer h. solve-refused-iff office k ws entry exit answer h office-fits;
   solve = λ small h. solver-refused-iff office-fits small h;
-  lookup = λ ws cs side k. lookup-refused-iff office ws cs side k office-fits;
-  lookup-in-files = λ f g side k gives. lookup-gives-iff office f g side k gives office-fits;
+  no-side-checked = checked-no-side;
+  no-side-solved = solved-no-side;
+  lookup = λ ws cs of k. lookup-refused-iff office ws cs of k office-fits;
+  lookup-in-files = λ f g of k gives. lookup-gives-iff office f g of k gives office-fits;
   write-system = system-refused-iff-fault office;
   write-certificate = certificate-refused-iff-fault office;
   write-system-file = λ h sizes values gives. write-gives-iff office h sizes values gives;
@@ -194,11 +223,11 @@ demand-1 = record {
 -- sheet and card within the limits has one written form; it reads back as the same values, and every accepted form writes back as
 -- the same words."
 pub record Demand2 : Type 0 where
-  pub accepts-words : (ws cs : List ℕ) → (verdict office ws cs ≡ accepted tt) ↔ CertifiedWords office ws cs
-  pub accepts : (f g : List ℕ) → Bytes f → Bytes g → (checkGives f g ≡ 0) ↔ CertifiedFiles office f g
-  pub system-form : (ws : List ℕ) (s : System) → (readSystem office ws ≡ accepted s)
-      ↔ ((ws ≡ systemWords s) × SystemWithin office s)
-  pub system-once : (s t : System) → SystemWithin office s → SystemWithin office t → systemWords s ≡ systemWords t → s ≡ t
+  pub accepts-words : (k : ℕ) (ws cs : List ℕ) → (verdict office k ws cs ≡ accepted tt) ↔ CertifiedWords office k ws cs
+  pub accepts : (k : ℕ) (f g : List ℕ) → Bytes f → Bytes g → (checkGives k f g ≡ 0) ↔ CertifiedFiles office k f g
+  pub system-form : (ws : List ℕ) (s : Systems) → (readSystems office ws ≡ accepted s)
+      ↔ ((ws ≡ systemsWords s) × SystemsWithin office s)
+  pub system-once : (s t : Systems) → SystemsWithin office s → SystemsWithin office t → systemsWords s ≡ systemsWords t → s ≡ t
   pub certificate-form : (h : Shape) → ShapeWithin office h → (cs : List ℕ) (c : Certificate)
       → (readCertificate office h cs ≡ accepted c) ↔ ((cs ≡ certificateWords c) × CertificateWithin office h c)
   pub certificate-once : (h : Shape) → ShapeWithin office h → (c e : Certificate) → CertificateWithin office h c
@@ -206,22 +235,22 @@ pub record Demand2 : Type 0 where
       → certificateWords c ≡ certificateWords e → c ≡ e
   -- of the calls: the arrays hold every value within the limits; such a value is written as its form; what is written is loaded as
   -- the same values, and what is loaded is written as the same words
-  pub system-fits : (s : System) → SystemWithin office s
-      → InArrays (systemCount (office .rows) (office .columns))
-      (office .systemCoefficients * systemCount (office .rows) (office .columns))
-      (λ sizes values. systemInArrays office (shape s) sizes values ≡ s)
-  pub system-writes : (sizes values : List ℕ) {entry exit : List ℕ} {s : System} → SystemWithin office s
-      → systemInArrays office (shape s) sizes values ≡ s → longestSystem office ≤ length entry
-      → {answer : Counted} → WritesSystem office office-fits sizes values (shape s) entry answer exit
-      → WritesBack (systemWords s) entry answer exit
-  pub system-back : (sizes values : List ℕ) {entry exit : List ℕ} {h : Shape} {n : ℕ}
+  pub system-fits : (s : Systems) → SystemsWithin office s
+      → InArrays (systemCount (office .rows) (office .columns) (office .sides))
+      (office .systemCoefficients * systemCount (office .rows) (office .columns) (office .sides))
+      (λ sizes values. systemInArrays office (s .head) sizes values ≡ s)
+  pub system-writes : (sizes values : List ℕ) {entry exit : List ℕ} {s : Systems} → SystemsWithin office s
+      → systemInArrays office (s .head) sizes values ≡ s → longestSystem office ≤ length entry
+      → {answer : Counted} → WritesSystem office office-fits sizes values (s .head) entry answer exit
+      → WritesBack (systemsWords s) entry answer exit
+  pub system-back : (sizes values : List ℕ) {entry exit : List ℕ} {h : Head} {n : ℕ}
       → WritesSystem office office-fits sizes values h entry (Count n) exit
       → {lentSizes sizes′ lentValues values′ : List ℕ} {answer : SystemRead}
       → LoadsSystem office (take n exit) answer lentSizes sizes′ lentValues values′ → SystemRoom office office-fits lentValues
       → (systemOutcome answer ≡ accepted h) × (systemInArrays office h sizes′ values′ ≡ systemInArrays office h sizes values)
   pub words-back : (sizes values : List ℕ) {entry exit ws lentSizes lentValues : List ℕ} {read : SystemRead}
       → LoadsSystem office ws read lentSizes sizes lentValues values → SystemRoom office office-fits lentValues
-      → {h : Shape} → systemOutcome read ≡ accepted h → longestSystem office ≤ length entry
+      → {h : Head} → systemOutcome read ≡ accepted h → longestSystem office ≤ length entry
       → {answer : Counted} → WritesSystem office office-fits sizes values h entry answer exit → WritesBack ws entry answer exit
   pub certificate-fits : (h : Shape) → ShapeWithin office h → (c : Certificate) → CertificateWithin office h c
       → InArrays (solutionCount (office .rows) (office .columns))
@@ -249,8 +278,8 @@ pub demand-2 : Demand2
 demand-2 = record {
   accepts-words = accepted-iff-certified office office-fits;
   accepts = checked-iff;
-  system-form = system-accepted-iff office office-fits;
-  system-once = systemWords-injective office office-fits;
+  system-form = systems-accepted-iff office office-fits;
+  system-once = systemsWords-injective office office-fits;
   certificate-form = λ h within. certificate-accepted-iff office h office-fits within;
   certificate-once = λ h within. certificateWords-injective office h office-fits within;
   system-fits = system-held office office-fits;
@@ -270,58 +299,175 @@ demand-2 = record {
 -- the system, and the denominator it states is that solution's own and divides the denominator of every rational solution; or, on a
 -- card of absence, no rational solution exists. No sheet can have accepted cards of both kinds. For every sheet within the limits,
 -- whatever stood in the space lent for the card, if it is the stated space or more, the solver gives a card there, and the check
--- accepts that card for that sheet."
+-- accepts that card for that sheet." It "is meant for each right side that the sheet has, by itself" (document 02, item 1): k is
+-- its number.
 pub record Demand3 : Type 0 where
-  pub truth-words : (ws cs : List ℕ) → verdict office ws cs ≡ accepted tt
-      → (a : AcceptedWords office ws cs) × Says (a .system) (a .certificate)
-  pub truth : (f g : List ℕ) → Bytes f → Bytes g → checkGives f g ≡ 0 → (a : CertifiedFiles office f g)
-      × Says (a .system) (a .certificate)
-  pub one-kind-words : (ws cs es : List ℕ) → verdict office ws cs ≡ accepted tt → verdict office ws es ≡ accepted tt
-      → (a : AcceptedWords office ws cs) × (b : AcceptedWords office ws es) × Agree (a .certificate) (b .certificate)
-  pub one-kind : (f g h : List ℕ) → Bytes f → Bytes g → Bytes h → checkGives f g ≡ 0 → checkGives f h ≡ 0
-      → (a : CertifiedFiles office f g) × (b : CertifiedFiles office f h) × Agree (a .certificate) (b .certificate)
-  pub solved-words : (s : System) → SystemWithin office s → (entry exit : List ℕ) (answer : Outcome ℕ)
-      → longestCertificate office ≤ length entry → Solves office (systemWords s) entry exit answer
-      → (count : ℕ) × (answer ≡ accepted count) × (verdict office (systemWords s) (take count exit) ≡ accepted tt)
-  pub solved : (s : System) → SystemWithin office s → {entry exit : List ℕ} {r : ℕ}
+  pub truth-words : (k : ℕ) (ws cs : List ℕ) → verdict office k ws cs ≡ accepted tt
+      → (a : AcceptedWords office k ws cs) × Says (a .system) (a .certificate)
+  pub truth : (k : ℕ) (f g : List ℕ) → Bytes f → Bytes g → checkGives k f g ≡ 0 → (a : CertifiedFiles office k f g)
+      × Says (a .written .system) (a .written .certificate)
+  pub one-kind-words : (k : ℕ) (ws cs es : List ℕ) → verdict office k ws cs ≡ accepted tt → verdict office k ws es ≡ accepted tt
+      → (a : AcceptedWords office k ws cs) × (b : AcceptedWords office k ws es) × Agree (a .certificate) (b .certificate)
+  pub one-kind : (k : ℕ) (f g h : List ℕ) → Bytes f → Bytes g → Bytes h → checkGives k f g ≡ 0 → checkGives k f h ≡ 0
+      → (a : CertifiedFiles office k f g) × (b : CertifiedFiles office k f h)
+      × Agree (a .written .certificate) (b .written .certificate)
+  pub solved-words : (s : Systems) → SystemsWithin office s → (k : ℕ) → k < s .head .sides
+      → (entry exit : List ℕ) (answer : Outcome ℕ) → longestCertificate office ≤ length entry
+      → Solves office k (systemsWords s) entry exit answer
+      → (count : ℕ) × (answer ≡ accepted count) × (verdict office k (systemsWords s) (take count exit) ≡ accepted tt)
+  pub solved : (s : Systems) → SystemsWithin office s → (k : ℕ) → k < s .head .sides → {entry exit : List ℕ} {r : ℕ}
       → wordBytes * longestCertificate office ≤ length entry
-      → SolvesPacked office (bytesOf (systemWords s)) entry exit r
-      → (r % placeUnit ≡ 0) × (checkedAfter (bytesOf (systemWords s)) exit r ≡ 0)
-  -- which card it is, is a function of the sheet: what the call returns and leaves is the written form of the sheet's own card, the
+      → SolvesPacked office k (bytesOf (systemsWords s)) entry exit r
+      → (r % placeUnit ≡ 0) × (checkedAfter k (bytesOf (systemsWords s)) exit r ≡ 0)
+  -- which card it is, is a function of the line: what the call returns and leaves is the written form of the line's own card, the
   -- chosen one, whatever proof the function is handed
   pub certificate-chosen : (s : System) (h : SystemWithin office s) → Chosen s (officeCertificate s h)
   pub certificate-same : (s : System) (h h₁ : SystemWithin office s) → officeCertificate s h ≡ officeCertificate s h₁
-  pub certificate-given-words : (s : System) (h : SystemWithin office s) (entry exit : List ℕ) (answer : Outcome ℕ)
-      → longestCertificate office ≤ length entry → Solves office (systemWords s) entry exit answer
-      → GivesWords (certificateWords (officeCertificate s h)) entry exit answer
-  pub certificate-given : (s : System) (h : SystemWithin office s) → {entry exit : List ℕ} {r : ℕ}
-      → wordBytes * longestCertificate office ≤ length entry
-      → SolvesPacked office (bytesOf (systemWords s)) entry exit r
-      → CertificateBytesIn (certificateWords (officeCertificate s h)) entry exit r
-  -- so calls on the same sheet give the same number and the same bytes, whatever stood there and whatever file it was read from
-  pub one-certificate : {file file₁ entry exit entry₁ exit₁ : List ℕ} {r r₁ : ℕ}
-      → readSystemFile office file ≡ readSystemFile office file₁
-      → SolvesPacked office file entry exit r → SolvesPacked office file₁ entry₁ exit₁ r₁ → r % placeUnit ≡ 0 → r₁ % placeUnit ≡ 0
-      → (r ≡ r₁) × (take (r / placeUnit) exit ≡ take (r₁ / placeUnit) exit₁)
-  -- and all is the same where the same was lent, refusals too
-  pub one-answer : {file file₁ entry exit exit₁ : List ℕ} {r r₁ : ℕ} → readSystemFile office file ≡ readSystemFile office file₁
-      → SolvesPacked office file entry exit r → SolvesPacked office file₁ entry exit₁ r₁ → (exit ≡ exit₁) × (r ≡ r₁)
+  pub certificate-given-words : (s : Systems) (h : SystemsWithin office s) (k : ℕ) (has : k < s .head .sides)
+      (entry exit : List ℕ) (answer : Outcome ℕ) → longestCertificate office ≤ length entry
+      → Solves office k (systemsWords s) entry exit answer
+      → GivesWords (certificateWords (lineCertificate s h k has)) entry exit answer
+  pub certificate-given : (s : Systems) (h : SystemsWithin office s) (k : ℕ) (has : k < s .head .sides)
+      → {entry exit : List ℕ} {r : ℕ} → wordBytes * longestCertificate office ≤ length entry
+      → SolvesPacked office k (bytesOf (systemsWords s)) entry exit r
+      → CertificateBytesIn (certificateWords (lineCertificate s h k has)) entry exit r
 
 pub demand-3 : Demand3
 demand-3 = record {
   truth-words = accepted-says office office-fits;
   truth = checked-says;
   one-kind-words = verdicts-agree office office-fits;
-  one-kind = checked-agree;
-  solved-words = λ s within entry exit answer room. every-system-solved office office-fits s within entry exit room answer;
-  solved = λ s within room. every-system-checked s within room;
+  one-kind = λ k f g h small-f. checked-agree k k f f refl g h small-f small-f;
+  solved-words = λ s within k has entry exit answer room.
+      every-system-solved office s within k has office-fits entry exit room answer;
+  solved = λ s within k has room. every-system-checked s within k has room;
   certificate-chosen = λ s h. chosenCertificate-chosen office s h (office-suffices s h);
   certificate-same = λ s h h₁. chosenCertificate-same office office s h h₁ (office-suffices s h) (office-suffices s h₁);
-  certificate-given-words = λ s h entry exit answer room solves.
-      solved-certificate office h (office-suffices s h) entry exit answer (systemWords s)
-      (system-read-of-written office office-fits s h)
-      room solves;
-  certificate-given = every-system-certificate;
-  one-certificate = λ {file} {file₁} same. packed-same office office-fits file file₁ same;
-  one-answer = λ {file} {file₁} {entry} same. packed-unique office office-fits file file₁ same entry;
+  certificate-given-words = λ s h k has entry exit answer room solves.
+      let within = line-within office s h k has in
+      solved-certificate office within (office-suffices (line s k) within) entry exit answer k (systemsWords s)
+      (line-read-of-written office office-fits k (systemsWords s) (line-of-written office s h k has)) room solves;
+  certificate-given = λ s h k has room. every-system-certificate s h k has room;
+}
+
+-- Document 02, item 1: "Between two accepted sheets that agree in p, A and one line's right side, that line's card has the same
+-- words, and they are those of its single sheet." The line may stand at different places in the two, or twice in one.
+pub record SameLines : Type 0 where
+  -- where both are lent the stated space or more, the two calls give the same words, or bytes, and as many
+  pub same-words : {s s₁ : Systems} {k k₁ : ℕ} → SameLine s k s₁ k₁ → (x y : Call) (ws ws₁ : List ℕ)
+      → readSystems office ws ≡ accepted s → readSystems office ws₁ ≡ accepted s₁
+      → Solves office k ws (x .entry) (x .exit) (x .answer) → Solves office k₁ ws₁ (y .entry) (y .exit) (y .answer)
+      → longestCertificate office ≤ length (x .entry) → longestCertificate office ≤ length (y .entry) → SameGiven x y
+  pub same-bytes : {s s₁ : Systems} {k k₁ : ℕ} → SameLine s k s₁ k₁ → {file file₁ entry exit entry₁ exit₁ : List ℕ} {r r₁ : ℕ}
+      → readSystemsFile office file ≡ accepted s → readSystemsFile office file₁ ≡ accepted s₁
+      → SolvesPacked office k file entry exit r → SolvesPacked office k₁ file₁ entry₁ exit₁ r₁
+      → wordBytes * longestCertificate office ≤ length entry → wordBytes * longestCertificate office ≤ length entry₁
+      → SameBytes entry exit entry₁ exit₁ r r₁
+  pub single-words : {s : Systems} (k : ℕ) → k < s .head .sides → (x y : Call) (ws : List ℕ) → readSystems office ws ≡ accepted s
+      → Solves office k ws (x .entry) (x .exit) (x .answer)
+      → Solves office 0 (systemsWords (single (line s k))) (y .entry) (y .exit) (y .answer)
+      → longestCertificate office ≤ length (x .entry) → longestCertificate office ≤ length (y .entry) → SameGiven x y
+  pub single-bytes : {s : Systems} (k : ℕ) → k < s .head .sides → {file entry exit entry₁ exit₁ : List ℕ} {r r₁ : ℕ}
+      → readSystemsFile office file ≡ accepted s → SolvesPacked office k file entry exit r
+      → SolvesPacked office 0 (bytesOf (systemsWords (single (line s k)))) entry₁ exit₁ r₁
+      → wordBytes * longestCertificate office ≤ length entry → wordBytes * longestCertificate office ≤ length entry₁
+      → SameBytes entry exit entry₁ exit₁ r r₁
+  -- whatever is lent, where both calls count; and all is the same where the same is lent, refusals too
+  pub one-certificate : (k k₁ : ℕ) {file file₁ entry exit entry₁ exit₁ : List ℕ} {r r₁ : ℕ}
+      → readLineFile office k file ≡ readLineFile office k₁ file₁
+      → SolvesPacked office k file entry exit r → SolvesPacked office k₁ file₁ entry₁ exit₁ r₁
+      → r % placeUnit ≡ 0 → r₁ % placeUnit ≡ 0
+      → (r ≡ r₁) × (take (r / placeUnit) exit ≡ take (r₁ / placeUnit) exit₁)
+  pub one-answer : (k k₁ : ℕ) {file file₁ entry exit exit₁ : List ℕ} {r r₁ : ℕ}
+      → readLineFile office k file ≡ readLineFile office k₁ file₁
+      → SolvesPacked office k file entry exit r → SolvesPacked office k₁ file₁ entry exit₁ r₁ → (exit ≡ exit₁) × (r ≡ r₁)
+  -- the check says the same of them, and of the single sheet; and they have no accepted cards of both kinds
+  pub same-check : (k k₁ : ℕ) (file file₁ : List ℕ) {s : System} → readLineFile office k file ≡ accepted s
+      → readLineFile office k₁ file₁ ≡ accepted s → (g : List ℕ) → checkGives k file g ≡ checkGives k₁ file₁ g
+  pub single-check : (k : ℕ) (file : List ℕ) {s : System} → readLineFile office k file ≡ accepted s → (g : List ℕ)
+      → checkGives k file g ≡ checkGives 0 (bytesOf (systemsWords (single s))) g
+  pub one-kind : (k k₁ : ℕ) (file file₁ g h : List ℕ) → readLineFile office k file ≡ readLineFile office k₁ file₁ → Bytes file
+      → Bytes file₁ → Bytes g → Bytes h → checkGives k file g ≡ 0 → checkGives k₁ file₁ h ≡ 0
+      → (a : CertifiedFiles office k file g) × (b : CertifiedFiles office k₁ file₁ h)
+      × Agree (a .written .certificate) (b .written .certificate)
+
+pub same-lines : SameLines
+same-lines = record {
+  same-words = λ L x y ws ws₁ is is₁ h h₁. same-line-given office office-fits L x y ws ws₁ is is₁ h h₁;
+  same-bytes = λ L is is₁ x y room room₁. same-line-bytes x y L is is₁ room room₁;
+  single-words = λ k has x y ws is h h₁. alone-given office office-fits k has x y ws is h h₁;
+  single-bytes = λ k has is x y room room₁. alone-bytes x y is has room room₁;
+  one-certificate = λ k k₁ {file} {file₁} same. packed-same office office-fits k k₁ file file₁ same;
+  one-answer = λ k k₁ {file} {file₁} {entry} same. packed-unique office office-fits k k₁ file file₁ same entry;
+  same-check = checked-same;
+  single-check = checked-alone;
+  one-kind = λ k k₁ file file₁ g h same. checked-agree k k₁ file file₁ same g h;
+}
+
+-- Document 02, item 1: "Sheets of before read as they did." `readBefore` and `readBeforeFile` are document 01's reading, whose
+-- sheets have one right side and zeros where the head now has their number; on files, up to the 4,904 bytes of its number 10.
+pub record OfBefore : Type 0 where
+  pub words : (ws : List ℕ) → ZeroBits ws → readSystems office ws ≡ mapped single (readBefore office ws)
+  pub one-line : (ws : List ℕ) → ZeroBits ws → readLine office 0 ws ≡ readBefore office ws
+  pub files : (file : List ℕ) → length file ≤ wordBytes * longestBefore office → ZeroBits (wordsOf file)
+      → readSystemsFile office file ≡ mapped single (readBeforeFile office file)
+  -- all that was read before is read as it was, so no sheet of before is turned away
+  pub still-read : (ws : List ℕ) (s : System) → readBefore office ws ≡ accepted s → readSystems office ws ≡ accepted (single s)
+  -- what the solver answers and leaves, and what the check says, is what it was
+  pub solved : {file entry exit : List ℕ} {r : ℕ} → length file ≤ wordBytes * longestBefore office → ZeroBits (wordsOf file)
+      → SolvesPacked office 0 file entry exit r
+      → (answer : Outcome ℕ) × SolvesOr office certificateBytes
+      (withRoom (wordBytes * longestCertificate office) (length entry) (readBeforeFile office file)) entry exit answer
+      × (r ≡ packed answer)
+  pub checked-words : (ws cs : List ℕ) → ZeroBits ws
+      → verdict office 0 ws cs
+      ≡ followedBy (readBefore office ws) (λ s. followedBy (readCertificate office (shape s) cs) (certificateVerdict s))
+  pub checked : (f g : List ℕ) → length f ≤ wordBytes * longestBefore office → ZeroBits (wordsOf f)
+      → checkGives 0 f g
+      ≡ packedVerdict (refuse (broken g) 10 0 (followedBy (readBeforeFile office f) (λ s.
+      followedBy (readCertificate office (shape s) (wordsOf g)) (certificateVerdict s))))
+
+-- 10 of either file is the same, whichever is looked at first
+ten-of-either : (b c : Bool) {A B : Type 0} (reading : Outcome A) (next : A → Outcome B)
+    → refuse ((b || false) || c) 10 0 (followedBy reading next) ≡ refuse c 10 0 (followedBy (refuse (b || false) 10 0 reading) next)
+ten-of-either true true reading next = refl
+ten-of-either true false reading next = refl
+ten-of-either false true reading next = refl
+ten-of-either false false reading next = refl
+
+checked-before : (f g : List ℕ) → length f ≤ wordBytes * longestBefore office → ZeroBits (wordsOf f)
+    → fileVerdict office 0 f g ≡ refuse (broken g) 10 0 (followedBy (readBeforeFile office f) (λ s.
+    followedBy (readCertificate office (shape s) (wordsOf g)) (certificateVerdict s)))
+unfolding fileVerdict verdict readBeforeFile
+checked-before f g few zeros =
+    rw (
+      le-ltb (wordBytes * longestSystem office) (length f) (omega arith),
+      le-ltb (wordBytes * longestBefore office) (length f) few,
+      before-line office (omega arith) office-fits (wordsOf f) zeros,
+    )
+    (ten-of-either (broken f) (broken g) (readBefore office (wordsOf f)) (λ s.
+    followedBy (readCertificate office (shape s) (wordsOf g)) (certificateVerdict s)))
+
+pub of-before : OfBefore
+unfolding verdict
+of-before = record {
+  words = before-read office (omega arith);
+  one-line = before-line office (omega arith) office-fits;
+  files = before-file office (omega arith);
+  still-read = before-accepted office (omega arith);
+  solved = λ {file} {entry} {exit} few zeros x.
+      let same = before-line-file office (omega arith) office-fits file few zeros in (
+        x .answer,
+        subst
+            (λ o. SolvesOr office certificateBytes (withRoom (wordBytes * longestCertificate office) (length entry) o) entry exit
+            (x .answer))
+            same
+            (x .solves),
+        x .packs,
+      );
+  checked-words = λ ws cs zeros.
+      ap
+      (λ o. followedBy o (λ s. followedBy (readCertificate office (shape s) cs) (certificateVerdict s)))
+      (before-line office (omega arith) office-fits ws zeros);
+  checked = λ f g few zeros. ap packedVerdict (checked-before f g few zeros);
 }

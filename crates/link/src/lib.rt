@@ -18,10 +18,10 @@ ghost use mathlib.Core.Path.{_≡_};
 ghost use lib.ListN.{length};
 ghost use Rattle.words.specs.Limits.{office};
 ghost use Rattle.answers.specs.Packed.{packed, packedVerdict};
-ghost use Rattle.writer.specs.Values.{shapeWith, systemInArrays};
+ghost use Rattle.writer.specs.Values.{headWith, systemInArrays};
 ghost use Rattle.verifier.specs.File.{fileVerdict};
 ghost use Rattle.answers.specs.Version.{version};
-ghost use Rattle.link_values.specs.Files.{fileShape, fileKind, sideNumbered, fileLookup, writeSystemFile};
+ghost use Rattle.link_values.specs.Files.{fileShape, fileKind, ofNumbered, fileLookup, writeSystemsFile};
 ghost use Rattle.link_values.specs.Giving.{GivesPacked};
 ghost use Rattle.link.specs.Packed.{SolvesPacked, ReportsPacked};
 
@@ -33,25 +33,26 @@ pub extern "C" fn yezsdolak_version() -> u64
     library_version()
 }
 
-// Writes the file of a system's chosen certificate over the first of the lent bytes. Returns the number of its bytes, or the
-// refusal, as one number.
+// Writes the file of the chosen certificate of a system, with right side `side`, counted from 0, over the first of the lent bytes.
+// Returns the number of its bytes, or the refusal, as one number.
 #[no_mangle]
-pub extern "C" fn yezsdolak_solve(system: &[u8], certificate: &mut [u8]) -> u64
-    ensures { λ r. ⌜ SolvesPacked office (now (system .entry)) (now (certificate .entry)) (now (certificate .exit)) r ⌝ }
+pub extern "C" fn yezsdolak_solve(system: &[u8], side: u64, certificate: &mut [u8]) -> u64
+    ensures { λ r. ⌜ SolvesPacked office side (now (system .entry)) (now (certificate .entry)) (now (certificate .exit)) r ⌝ }
 {
-    pack_counted(solve_file(certificate, system))
+    pack_counted(solve_file(certificate, system, side as usize))
 }
 
-// Tells whether a certificate's file is right for a system's: returns 0, or the refusal as one number.
+// Tells whether a certificate's file is right for a system's, with right side `side`, counted from 0: returns 0, or the refusal as
+// one number.
 #[no_mangle]
-pub extern "C" fn yezsdolak_check(system: &[u8], certificate: &[u8]) -> u64
-    ensures { λ r. ⌜ r ≡ packedVerdict (fileVerdict office (now (system .entry)) (now (certificate .entry))) ⌝ }
+pub extern "C" fn yezsdolak_check(system: &[u8], side: u64, certificate: &[u8]) -> u64
+    ensures { λ r. ⌜ r ≡ packedVerdict (fileVerdict office side (now (system .entry)) (now (certificate .entry))) ⌝ }
 {
-    pack_verdict(check_files(system, certificate))
+    pack_verdict(check_files(system, certificate, side as usize))
 }
 
-// Writes the report of a system's file over the first of the lent bytes. Returns the number of its bytes as one number; 0, and
-// nothing written, where fewer than 1,024 are lent.
+// Writes the report of a system's file, of its first right side, over the first of the lent bytes. Returns the number of its bytes
+// as one number; 0, and nothing written, where fewer than 1,024 are lent.
 #[no_mangle]
 pub extern "C" fn yezsdolak_report(system: &[u8], text: &mut [u8]) -> u64
     ensures { λ r. ⌜ ReportsPacked office (now (system .entry)) (now (text .entry)) (now (text .exit)) r ⌝ }
@@ -65,19 +66,21 @@ pub extern "C" fn yezsdolak_write_system(
     modulus: u32,
     rows: u32,
     columns: u32,
+    sides: u32,
     sizes: &[usize; Office::SYSTEM_POLYNOMIALS],
     coefficients: &[u64; SYSTEM_VALUES],
     system: &mut [u8],
 ) -> u64
     ensures { λ r. ⌜ GivesPacked
-        (writeSystemFile office (length (now (system .entry)))
-        (systemInArrays office (shapeWith modulus rows columns) (now (sizes .entry)) (now (coefficients .entry))))
+        (writeSystemsFile office (length (now (system .entry)))
+        (systemInArrays office (headWith modulus rows columns sides) (now (sizes .entry)) (now (coefficients .entry))))
         (now (system .entry)) (now (system .exit)) r ⌝ }
 {
-    write_system_file(system, sizes, coefficients, rows, columns, modulus)
+    write_system_file(system, sizes, coefficients, rows, columns, sides, modulus)
 }
 
-// Reads the modulus, the rows and the columns of the system in a file. Returns them, or the refusal, as one number.
+// Reads the modulus, the rows, the columns and the number of right sides of the system in a file. Returns them, or the refusal, as
+// one number.
 #[no_mangle]
 pub extern "C" fn yezsdolak_shape(system: &[u8]) -> u64
     ensures { λ r. ⌜ r ≡ packed (fileShape office (now (system .entry))) ⌝ }
@@ -93,18 +96,18 @@ pub extern "C" fn yezsdolak_kind(system: &[u8], certificate: &[u8]) -> u64
     kind_of_files(system, certificate)
 }
 
-// Writes the coefficients of a polynomial of the system in a file or of the certificate in another over the first of the lent
-// numbers. Returns how many there are, or the refusal, as one number.
+// Writes the coefficients of a polynomial of the system in a file, where `of` is 0, or else of the certificate in another over the
+// first of the lent numbers. Returns how many there are, or the refusal, as one number.
 #[no_mangle]
 pub extern "C" fn yezsdolak_lookup(
     system: &[u8],
     certificate: &[u8],
-    side: u64,
+    of: u64,
     number: u64,
     coefficients: &mut [u64; COEFFICIENTS],
 ) -> u64
-    ensures { λ r. ⌜ GivesPacked (fileLookup office (now (system .entry)) (now (certificate .entry)) (sideNumbered side) number)
+    ensures { λ r. ⌜ GivesPacked (fileLookup office (now (system .entry)) (now (certificate .entry)) (ofNumbered of) number)
         (now (coefficients .entry)) (now (coefficients .exit)) r ⌝ }
 {
-    lookup_in_files(coefficients, system, certificate, side, number)
+    lookup_in_files(coefficients, system, certificate, of, number)
 }

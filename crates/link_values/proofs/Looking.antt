@@ -16,10 +16,10 @@ use Rattle.words.specs.Word.{payload}
 use Rattle.words.specs.Polynomial.{polynomialWords}
 use Rattle.words.specs.PolynomialLaws.{length-polynomialWords}
 use Rattle.words.specs.PlaceLaws.{coefficient-at}
-use Rattle.words.specs.System.{System, shape, readSystem}
-use Rattle.words.specs.SystemLaws.{system-written-of-read}
+use Rattle.words.specs.Systems.{Systems, readSystems}
+use Rattle.words.specs.SystemsLaws.{systems-written-of-read}
 use Rattle.words.specs.Certificate.{Certificate, readCertificate}
-use Rattle.lookup.specs.Lookup.{Side, Part, entriesOn, shown, polynomialLookup, wordsShown, companion}
+use Rattle.lookup.specs.Lookup.{Of, Part, entriesOn, shown, polynomialLookup, wordsShown, companion}
 use Rattle.lookup.specs.LookupLaws.{Shows, lookup-shown}
 use Rattle.vector.specs.Stored.{stored}
 use Rattle.loader.specs.StoredLaws.{stored-list}
@@ -30,31 +30,31 @@ use Rattle.link_values.specs.GivingLaws.{gives-list}
 
 -- ---- what is looked up, by the words that the lookup shows
 
-module _ (ws cs : List ℕ) (side : Side) (k : ℕ) where
+module _ (ws cs : List ℕ) (of : Of) (k : ℕ) where
   abbrev Told : Limits → Outcome Part
-  Told limits = polynomialLookup limits ws cs side k
+  Told limits = polynomialLookup limits ws cs of k
 
   -- the coefficients that are due
   abbrev pub Sought : Outcome (List ℕ)
-  Sought = lookupOf side k (readBoth office ws cs)
+  Sought = lookupOf of k (readBoth office ws cs)
 
   by-row : {A B : Type 0} (t : Bool) (a : A) (b : B) {number place : ℕ} → refuse t 12 0 (accepted a) ≡ refused number place
       → refuse t 12 0 (accepted b) ≡ refused number place
   by-row true a b e = cc
   by-row false a b e = absurd (refused-accepted (sym e))
 
-  by-values : (o : Outcome System) {number place : ℕ}
-      → followedBy o (λ s. followedBy (readCertificate office (shape s) cs) (λ c. shown k (entriesOn side s c)))
+  by-values : (o : Outcome Systems) {number place : ℕ}
+      → followedBy o (λ s. followedBy (readCertificate office (s .head .shape) cs) (λ c. shown k (entriesOn of s c)))
       ≡ refused number place
-      → lookupOf side k (followedBy o (λ s. mapped (λ c. record { system = s; certificate = c })
-      (readCertificate office (shape s) cs)))
+      → lookupOf of k (followedBy o (λ s. mapped (λ c. record { system = s; certificate = c })
+      (readCertificate office (s .head .shape) cs)))
       ≡ refused number place
   by-values (refused n p) e = cc
-  by-values (accepted s) {number} {place} e = by (readCertificate office (shape s) cs) e
+  by-values (accepted s) {number} {place} e = by (readCertificate office (s .head .shape) cs) e
     where
-      by : (o : Outcome Certificate) → followedBy o (λ c. shown k (entriesOn side s c)) ≡ refused number place
-          → lookupOf side k (mapped (λ c. record { system = s; certificate = c }) o) ≡ refused number place
-      by (accepted c) r = by-row (leb (length (entriesOn side s c)) k) _ _ r
+      by : (o : Outcome Certificate) → followedBy o (λ c. shown k (entriesOn of s c)) ≡ refused number place
+          → lookupOf of k (mapped (λ c. record { system = s; certificate = c }) o) ≡ refused number place
+      by (accepted c) r = by-row (leb (length (entriesOn of s c)) k) _ _ r
       by (refused n p) r = cc
 
   -- words that stand for a polynomial: its size, then its coefficients
@@ -65,25 +65,25 @@ module _ (ws cs : List ℕ) (side : Side) (k : ℕ) where
     pub few : length coefficients ≤ office .certificateCoefficients
     pub each : (i : ℕ) → i < length coefficients → payload (getD words (1 + i) 0) ≡ getD coefficients i 0
 
-  found : {words : List ℕ} (part : Part) → Shows office ws cs side k part → words ≡ part .words → Found words
+  found : {words : List ℕ} (part : Part) → Shows office ws cs of k part → words ≡ part .words → Found words
   found {words} part s same =
       let v : Pair = record { system = s .system; certificate = s .certificate } in
       let r : ReadAs office ws cs v = record { system = s .read-system; certificate = s .read-certificate } in
-      let f = getD (entriesOn side (s .system) (s .certificate)) k [] in
-      let p = system-written-of-read office office-fits ws (s .system) (s .read-system) .1 .shape .modulus in
+      let f = getD (entriesOn of (s .system) (s .certificate)) k [] in
+      let p = systems-written-of-read office office-fits ws (s .system) (s .read-system) .1 .head .shape .modulus in
       let is : words ≡ polynomialWords f = same ∙ s .words in
       record {
         coefficients = f;
         sought =
-            ap (lookupOf side k) (both-accepted office ws cs (s .read-system) (s .read-certificate))
-            ∙ simp (lt-leb (length (entriesOn side (s .system) (s .certificate))) k (s .number));
+            ap (lookupOf of k) (both-accepted office ws cs (s .read-system) (s .read-certificate))
+            ∙ simp (lt-leb (length (entriesOn of (s .system) (s .certificate))) k (s .number));
         size = ap length is ∙ length-polynomialWords f ∙ omega arith;
-        few = lookup-size office (omega arith) ws cs v r side k;
+        few = lookup-size office (omega arith) ws cs v r of k;
         each = λ i lt.
             let next : 1 + i ≡ suc i = omega arith in
             ap (λ (j : ℕ). payload (getD words j 0)) next
             ∙ ap (λ (l : List ℕ). payload (getD l (suc i) 0)) (is ∙ sym (append-nil (polynomialWords f)))
-            ∙ coefficient-at (s .system .modulus) (omega arith) f [] (lookup-canonical office ws cs v r side k) i lt;
+            ∙ coefficient-at (s .system .head .shape .modulus) (omega arith) f [] (lookup-canonical office ws cs v r of k) i lt;
       }
 
   -- the limits as the code has them
@@ -91,7 +91,7 @@ module _ (ws cs : List ℕ) (side : Side) (k : ℕ) where
     pub sought-refused : {number place : ℕ} → refused number place ≡ companion (Told limits) → Sought ≡ refused number place
     unfolding polynomialLookup readBoth
     sought-refused e =
-        by-values (readSystem office ws)
+        by-values (readSystems office ws)
         (ap Told (sym is) ∙ mapped-refused (λ part. tt) (Told limits) (sym e))
 
     -- the words that are shown
@@ -100,13 +100,13 @@ module _ (ws cs : List ℕ) (side : Side) (k : ℕ) where
       none-shown none limits′ is′ passed =
           let same = ap (λ l. companion (Told l)) (is ∙ sym is′) in
           let part = mapped-accepted (λ part. tt) (Told limits) (same ∙ sym passed) in
-          let s = lookup-shown limits ws cs side k (part .0) (part .1) in
+          let s = lookup-shown limits ws cs of k (part .0) (part .1) in
           omega (
             arith,
             none,
             ap length (shows ∙ ap wordsShown (part .1) ∙ s .words),
             length-polynomialWords
-                (getD (entriesOn side (s .system) (s .certificate)) k []),
+                (getD (entriesOn of (s .system) (s .certificate)) k []),
           )
 
       pub some-shown : ¬ (length words ≡ 0) → Found words
@@ -115,7 +115,7 @@ module _ (ws cs : List ℕ) (side : Side) (k : ℕ) where
           by : (o : Outcome Part) → Told limits ≡ o → Found words
           by (refused number place) e = absurd (some (ap length (shows ∙ ap wordsShown e)))
           by (accepted part) e =
-              found part (lookup-shown office ws cs side k part (ap Told (sym is) ∙ e)) (shows ∙ ap wordsShown e)
+              found part (lookup-shown office ws cs of k part (ap Told (sym is) ∙ e)) (shows ∙ ap wordsShown e)
 
   -- ---- what is left
 

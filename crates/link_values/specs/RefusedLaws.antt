@@ -11,24 +11,25 @@ use Rattle.words.specs.LimitsLaws.{LimitsFit}
 use Rattle.words.specs.Outcome.{Outcome, followedBy, mapped}
 use Rattle.words.specs.Outcome.Outcome.{accepted, refused}
 use Rattle.words.specs.OutcomeLaws.{refused-accepted, mapped-refused-iff}
-use Rattle.words.specs.System.{System, Shape, shape}
+use Rattle.words.specs.Systems.{Systems, Head, systemsHead}
 use Rattle.words.specs.Certificate.{Certificate, certificateForm}
-use Rattle.words.specs.Bytes.{wordsOf, bytesOf, readSystemFile, wordBytes}
+use Rattle.words.specs.Bytes.{wordsOf, bytesOf, readSystemsFile, wordBytes}
 use Rattle.words.specs.TenFirst.{TenFirst, FileRefused}
-use Rattle.words.specs.Pair.{PairRefused}
+use Rattle.words.specs.Pair.{PairRefused, whole}
 use Rattle.words.specs.PairLaws.{pair-refused-iff}
+use Rattle.words.specs.SourceLaws.{whole-laws}
 use Rattle.words.specs.RefusedLaws.{ten-first-iff, file-refused-iff}
-use Rattle.lookup.specs.Lookup.{Side, entriesOn}
+use Rattle.lookup.specs.Lookup.{Of, entriesOn}
 use Rattle.lookup.specs.RefusedLaws.{NoPolynomial, no-polynomial-iff}
 use Rattle.files.specs.OpeningBoth.{filesBroken}
 use Rattle.answers.specs.Packed.{packed, placeUnit, numberMost}
-use Rattle.writer.specs.Writing.{writeSystem}
+use Rattle.writer.specs.Writing.{writeSystems}
 use Rattle.writer.specs.Values.{systemInArrays}
 use Rattle.writer.specs.Refused.{SystemFault}
 use Rattle.writer.specs.RefusedLaws.{system-refused-iff-fault}
-use Rattle.answers.specs.Heads.{shapeNumber, kindNumber}
+use Rattle.answers.specs.Heads.{headNumber, kindNumber}
 use Rattle.link_values.specs.Files.{Pair, fileShape, readFiles, fileKind, polynomialLooked}
-use Rattle.link_values.specs.Files.{fileLookup, writeSystemFile}
+use Rattle.link_values.specs.Files.{fileLookup, writeSystemsFile}
 use Rattle.link_values.specs.FilesLaws.{asked, files-then, shape-numbers, kind-numbers, lookup-numbers}
 use Rattle.link_values.specs.WritingLaws.{write-numbers}
 use Rattle.link_values.specs.Refusals.{Numbers, numbers-wider}
@@ -39,35 +40,36 @@ use Rattle.link_values.specs.Unpacked.{packed-refused-iff, given-refused
 
 pub shape-refused-iff : (limits : Limits) (f : List ℕ) (n k : ℕ) → (fileShape limits f ≡ refused n k) ↔ FileRefused limits f n k
 shape-refused-iff limits f =
-    mapped-refused-iff shapeNumber (mapped shape (readSystemFile limits f)) _
-    (mapped-refused-iff shape (readSystemFile limits f) _ (file-refused-iff limits f))
+    mapped-refused-iff headNumber (mapped systemsHead (readSystemsFile limits f)) _
+    (mapped-refused-iff systemsHead (readSystemsFile limits f) _ (file-refused-iff limits f))
 
 -- as the writer on so many whole words as are lent
-pub write-file-refused-iff : (limits : Limits) (lent : ℕ) (s : System) (n k : ℕ)
-    → (writeSystemFile limits lent s ≡ refused n k) ↔ SystemFault limits (lent / wordBytes) s n k
+pub write-file-refused-iff : (limits : Limits) (lent : ℕ) (s : Systems) (n k : ℕ)
+    → (writeSystemsFile limits lent s ≡ refused n k) ↔ SystemFault limits (lent / wordBytes) s n k
 write-file-refused-iff limits lent s =
-    mapped-refused-iff bytesOf (writeSystem limits (lent / wordBytes) s) _ (system-refused-iff-fault limits (lent / wordBytes) s)
+    mapped-refused-iff bytesOf (writeSystems limits (lent / wordBytes) s) _ (system-refused-iff-fault limits (lent / wordBytes) s)
 
 -- ---- a system's file and a certificate's
 
 -- 10 of either file, then those of the system's words, those of the certificate's, and last what is tried of the values
-abbrev pub FilesRefusedBy : Limits → (System → Certificate → (number place : ℕ) → Type 0) → (f g : List ℕ) (number place : ℕ)
+abbrev pub FilesRefusedBy : Limits → (Systems → Certificate → (number place : ℕ) → Type 0) → (f g : List ℕ) (number place : ℕ)
     → Type 0
-FilesRefusedBy limits Of f g = TenFirst (filesBroken limits f g) (PairRefused limits Of (wordsOf f) (wordsOf g))
+FilesRefusedBy limits Of f g = TenFirst (filesBroken limits f g) (PairRefused limits (whole limits) Of (wordsOf f) (wordsOf g))
 
 -- nothing is tried of them
-abbrev pub NothingTried : System → Certificate → (number place : ℕ) → Type 0
+abbrev pub NothingTried : Systems → Certificate → (number place : ℕ) → Type 0
 NothingTried s c number place = ⊥
 
 module _ (limits : Limits) (fit : LimitsFit limits) (f g : List ℕ) where
-  module _ {A : Type 0} (next : System → Certificate → Outcome A) (Of : System → Certificate → (number place : ℕ) → Type 0)
-      (values : (s : System) (c : Certificate) (n k : ℕ) → (next s c ≡ refused n k) ↔ Of s c n k) where
+  module _ {A : Type 0} (next : Systems → Certificate → Outcome A) (Of : Systems → Certificate → (number place : ℕ) → Type 0)
+      (values : (s : Systems) (c : Certificate) (n k : ℕ) → (next s c ≡ refused n k) ↔ Of s c n k) where
     pub files-then-refused-iff : (n k : ℕ)
         → (followedBy (readFiles limits f g) (asked limits next) ≡ refused n k) ↔ FilesRefusedBy limits Of f g n k
     files-then-refused-iff n k =
         let is = files-then limits next f g in
         let iff = ten-first-iff (filesBroken limits f g) _ _
-        (pair-refused-iff limits fit next (wordsOf f) (wordsOf g) Of (λ s _ c _. values s c)) n k in
+        (pair-refused-iff limits (whole limits) next (wordsOf f) (wordsOf g) fit (whole-laws limits fit) Of
+        (λ s _ c _. values s c)) n k in
         (λ e. iff .0 (sym is ∙ e), λ t. is ∙ iff .1 t)
 
   pub kind-refused-iff : (n k : ℕ) → (fileKind limits f g ≡ refused n k) ↔ FilesRefusedBy limits NothingTried f g n k
@@ -75,7 +77,7 @@ module _ (limits : Limits) (fit : LimitsFit limits) (f g : List ℕ) where
       let iff = files-then-refused-iff kind NothingTried (λ s c n k. (λ e. refused-accepted (sym e), λ t. absurd t)) n k in
       (λ e. iff .0 (sym (as-kind (readFiles limits f g)) ∙ e), λ t. as-kind (readFiles limits f g) ∙ iff .1 t)
     where
-      kind : System → Certificate → Outcome ℕ
+      kind : Systems → Certificate → Outcome ℕ
       kind s c = accepted (kindNumber (certificateForm c))
 
       as-kind : (o : Outcome Pair)
@@ -84,11 +86,11 @@ module _ (limits : Limits) (fit : LimitsFit limits) (f g : List ℕ) where
       as-kind (refused number place) = refl
 
   -- 12 last
-  pub lookup-file-refused-iff : (side : Side) (i n k : ℕ)
-      → (fileLookup limits f g side i ≡ refused n k) ↔ FilesRefusedBy limits (NoPolynomial side i) f g n k
-  lookup-file-refused-iff side i =
-      files-then-refused-iff (λ s c. polynomialLooked i (entriesOn side s c)) (NoPolynomial side i)
-      (λ s c. no-polynomial-iff (getD (entriesOn side s c) i []) (entriesOn side s c) i)
+  pub lookup-file-refused-iff : (of : Of) (i n k : ℕ)
+      → (fileLookup limits f g of i ≡ refused n k) ↔ FilesRefusedBy limits (NoPolynomial of i) f g n k
+  lookup-file-refused-iff of i =
+      files-then-refused-iff (λ s c. polynomialLooked i (entriesOn of s c)) (NoPolynomial of i)
+      (λ s c. no-polynomial-iff (getD (entriesOn of s c) i []) (entriesOn of s c) i)
 
 -- ---- by the numbers that the calls give
 
@@ -109,26 +111,26 @@ module _ (limits : Limits) where
       let iff = kind-refused-iff limits fit f g number place in
       (λ e. iff .0 (gives .0 e), λ t. gives .1 (iff .1 t))
 
-  module _ (f g : List ℕ) (side : Side) (i : ℕ) {entry exit : List ℕ} {r : ℕ}
-      (gives : GivesPacked (fileLookup limits f g side i) entry exit r) where
-    abbrev looked-numbers : Numbers 1 numberMost (fileLookup limits f g side i)
-    looked-numbers = numbers-wider 1 29 (omega arith) (omega arith) (lookup-numbers limits f g side i)
+  module _ (f g : List ℕ) (of : Of) (i : ℕ) {entry exit : List ℕ} {r : ℕ}
+      (gives : GivesPacked (fileLookup limits f g of i) entry exit r) where
+    abbrev looked-numbers : Numbers 1 numberMost (fileLookup limits f g of i)
+    looked-numbers = numbers-wider 1 29 (omega arith) (omega arith) (lookup-numbers limits f g of i)
 
     pub lookup-gives-iff : LimitsFit limits → (number place : ℕ) → 1 ≤ number → number ≤ numberMost
-        → (r ≡ placeUnit * place + number) ↔ FilesRefusedBy limits (NoPolynomial side i) f g number place
+        → (r ≡ placeUnit * place + number) ↔ FilesRefusedBy limits (NoPolynomial of i) f g number place
     lookup-gives-iff fit number place l m =
-        let given = given-refused-iff (fileLookup limits f g side i) looked-numbers gives number place l m in
-        let iff = lookup-file-refused-iff limits fit f g side i number place in
+        let given = given-refused-iff (fileLookup limits f g of i) looked-numbers gives number place l m in
+        let iff = lookup-file-refused-iff limits fit f g of i number place in
         (λ e. iff .0 (given .0 e), λ t. given .1 (iff .1 t))
 
     pub unchanged-lookup : ¬ (r % placeUnit ≡ 0) → exit ≡ entry
-    unchanged-lookup some = given-refused (fileLookup limits f g side i) looked-numbers gives some .1
+    unchanged-lookup some = given-refused (fileLookup limits f g of i) looked-numbers gives some .1
 
-  module _ (h : Shape) (sizes coefficients : List ℕ) {entry exit : List ℕ} {r : ℕ}
-      (gives : GivesPacked (writeSystemFile limits (length entry) (systemInArrays limits h sizes coefficients)) entry exit r) where
+  module _ (h : Head) (sizes coefficients : List ℕ) {entry exit : List ℕ} {r : ℕ}
+      (gives : GivesPacked (writeSystemsFile limits (length entry) (systemInArrays limits h sizes coefficients)) entry exit r) where
     abbrev written-numbers : Numbers 1 numberMost
-        (writeSystemFile limits (length entry) (systemInArrays limits h sizes coefficients))
-    written-numbers = numbers-wider 2 11 (omega arith) (omega arith) (write-numbers limits (length entry) h sizes coefficients)
+        (writeSystemsFile limits (length entry) (systemInArrays limits h sizes coefficients))
+    written-numbers = numbers-wider 1 11 (omega arith) (omega arith) (write-numbers limits (length entry) h sizes coefficients)
 
     pub write-gives-iff : (number place : ℕ) → 1 ≤ number → number ≤ numberMost
         → (r ≡ placeUnit * place + number)

@@ -14,20 +14,22 @@ use Rattle.words.specs.LimitsLaws.{LimitsFit, office-fits, systemCount-most, wo
 use Rattle.words.specs.Outcome.{Outcome, mapped}
 use Rattle.words.specs.Outcome.Outcome.{accepted, refused}
 use Rattle.words.specs.OutcomeLaws.{refused-accepted, mapped-accepted, refuse-passed, passed-refuse}
-use Rattle.words.specs.System.{System, Shape, ShapeWithin, shape, oneTo, systemEntries, systemWords, readSystem}
-use Rattle.words.specs.SystemLaws.{systemWords-most}
-use Rattle.words.specs.Bytes.{wordsOf, bytesOf, broken, tooLong, readSystemFile, wordBytes}
+use Rattle.words.specs.System.{Shape, oneTo}
+use Rattle.words.specs.Systems.{Head, Systems, HeadWithin, systemsHead, systemsEntries, systemsWords, readSystems}
+use Rattle.words.specs.SystemsLaws.{systemsWords-most}
+use Rattle.words.specs.Bytes.{wordsOf, bytesOf, broken, tooLong, readSystemsFile, wordBytes}
 use Rattle.words.specs.BytesLaws.{length-bytesOf, file-read-of-written}
 use Rattle.answers.specs.Packed.{placeUnit}
 use Rattle.write_frame.specs.Trial.{passed, last?, refuseCoefficients, refusePolynomials}
-use Rattle.write_frame.specs.TrialLaws.{nextAfter, polynomials-first}
+use Rattle.write_frame.specs.TrialLaws.{nextAfter, refuse-after, polynomials-first}
 use Rattle.write_frame.specs.ValuesLaws.{length-polynomialsIn}
-use Rattle.writer.specs.Writing.{refuseShape, refuseRoom, writeSystem}
+use Rattle.writer.specs.Writing.{refuseSides, refuseShape, refuseRoom, writeSystems}
 use Rattle.writer.specs.WritingLaws.{shape-first, shape-passed}
 use Rattle.writer.specs.WrittenLaws.{system-accepted}
+use Rattle.writer.specs.RefusedLaws.{sides-iff}
 use Rattle.writer.specs.Values.{systemInArrays}
-use Rattle.answers.specs.Heads.{shapeNumber}
-use Rattle.link_values.specs.Files.{Pair, fileShape, readFiles, writeSystemFile}
+use Rattle.answers.specs.Heads.{headNumber}
+use Rattle.link_values.specs.Files.{Pair, fileShape, readFiles, writeSystemsFile}
 use Rattle.link_values.specs.FilesLaws.{files-read}
 use Rattle.link_values.specs.Giving.{GivesPacked}
 use Rattle.link_values.specs.Refusals.{Refusals, Numbers, Places, refusals-row, refusals-mapped}
@@ -36,28 +38,30 @@ use Rattle.link_values.specs.Unpacked.{given-counted}
 
 -- ---- the room is tried last: whatever is lent, the values are refused alike
 
-module _ (limits : Limits) (s : System) where
-  abbrev shape-trial : Outcome (Unit {0})
-  shape-trial = refuseShape limits (shape s) passed
+module _ (limits : Limits) (s : Systems) where
+  abbrev head-trial : Outcome (Unit {0})
+  head-trial = refuseSides limits (s .head .sides) (refuseShape limits (s .head .shape) passed)
 
   abbrev entries-trial : Outcome (Unit {0})
-  entries-trial = refusePolynomials (s .modulus) (limits .systemCoefficients) 0 1 (systemEntries s) passed
+  entries-trial = refusePolynomials (s .head .shape .modulus) (limits .systemCoefficients) 0 1 (systemsEntries s) passed
 
   abbrev room-trial : ℕ → Outcome (List ℕ)
-  room-trial lent = refuseRoom (longestSystem limits) lent (accepted (systemWords s))
+  room-trial lent = refuseRoom (longestSystem limits) lent (accepted (systemsWords s))
 
-  in-turn : (lent : ℕ) → writeSystem limits lent s ≡ nextAfter shape-trial (nextAfter entries-trial (room-trial lent))
-  unfolding writeSystem
+  in-turn : (lent : ℕ) → writeSystems limits lent s ≡ nextAfter head-trial (nextAfter entries-trial (room-trial lent))
+  unfolding writeSystems
   in-turn lent =
-      shape-first limits (shape s) _
-      ∙ ap (nextAfter shape-trial) (polynomials-first (s .modulus) (limits .systemCoefficients) 0 (room-trial lent) 1
-      (systemEntries s))
+      let shape-trial = refuseShape limits (s .head .shape) passed in
+      refuse-after (not (oneTo (limits .sides) (s .head .sides))) 1 0 shape-trial (nextAfter entries-trial (room-trial lent))
+      (shape-first limits (s .head .shape) _
+      ∙ ap (nextAfter shape-trial) (polynomials-first (s .head .shape .modulus) (limits .systemCoefficients) 0 (room-trial lent) 1
+      (systemsEntries s)))
 
   module _ (lent : ℕ) where
     abbrev with-room : Outcome (List ℕ)
-    with-room = writeSystem limits (longestSystem limits) s
+    with-room = writeSystems limits (longestSystem limits) s
 
-    roomy : room-trial (longestSystem limits) ≡ accepted (systemWords s)
+    roomy : room-trial (longestSystem limits) ≡ accepted (systemsWords s)
     roomy = simp (le-ltb (longestSystem limits) (longestSystem limits) (omega arith))
 
     after-refused : (a b : Outcome (Unit {0})) {number place : ℕ}
@@ -74,27 +78,27 @@ module _ (limits : Limits) (s : System) where
     after-passed (accepted u) (refused n p) e = absurd (refused-accepted e)
     after-passed (accepted u) (accepted v) e = ap (refuseRoom (longestSystem limits) lent) (sym roomy ∙ e)
 
-    pub values-refused : {number place : ℕ} → with-room ≡ refused number place → writeSystem limits lent s ≡ refused number place
+    pub values-refused : {number place : ℕ} → with-room ≡ refused number place → writeSystems limits lent s ≡ refused number place
     values-refused e =
-        in-turn lent ∙ after-refused shape-trial entries-trial (sym (in-turn (longestSystem limits)) ∙ e)
+        in-turn lent ∙ after-refused head-trial entries-trial (sym (in-turn (longestSystem limits)) ∙ e)
 
     pub values-passed : {ws : List ℕ} → with-room ≡ accepted ws
-        → writeSystem limits lent s ≡ refuseRoom (longestSystem limits) lent (accepted ws)
-    values-passed e = in-turn lent ∙ after-passed shape-trial entries-trial (sym (in-turn (longestSystem limits)) ∙ e)
+        → writeSystems limits lent s ≡ refuseRoom (longestSystem limits) lent (accepted ws)
+    values-passed e = in-turn lent ∙ after-passed head-trial entries-trial (sym (in-turn (longestSystem limits)) ∙ e)
 
 -- as bytes, four to a word, where so many bytes lent
-module _ (limits : Limits) (s : System) (lent : ℕ) where
-  pub write-refused : {number place : ℕ} → writeSystem limits (longestSystem limits) s ≡ refused number place
-      → writeSystemFile limits lent s ≡ refused number place
+module _ (limits : Limits) (s : Systems) (lent : ℕ) where
+  pub write-refused : {number place : ℕ} → writeSystems limits (longestSystem limits) s ≡ refused number place
+      → writeSystemsFile limits lent s ≡ refused number place
   write-refused e = ap (mapped bytesOf) (values-refused limits s (lent / wordBytes) e)
 
-  module _ {ws : List ℕ} (e : writeSystem limits (longestSystem limits) s ≡ accepted ws) where
-    pub write-short : lent < wordBytes * longestSystem limits → writeSystemFile limits lent s ≡ refused 11 0
+  module _ {ws : List ℕ} (e : writeSystems limits (longestSystem limits) s ≡ accepted ws) where
+    pub write-short : lent < wordBytes * longestSystem limits → writeSystemsFile limits lent s ≡ refused 11 0
     write-short few =
         ap (mapped bytesOf) (values-passed limits s (lent / wordBytes) e)
         ∙ simp (lt-ltb (lent / wordBytes) (longestSystem limits) (omega arith))
 
-    pub write-whole : wordBytes * longestSystem limits ≤ lent → writeSystemFile limits lent s ≡ accepted (bytesOf ws)
+    pub write-whole : wordBytes * longestSystem limits ≤ lent → writeSystemsFile limits lent s ≡ accepted (bytesOf ws)
     write-whole room =
         ap (mapped bytesOf) (values-passed limits s (lent / wordBytes) e)
         ∙ simp (le-ltb (lent / wordBytes) (longestSystem limits) (omega arith))
@@ -123,88 +127,94 @@ module _ {A : Type 0} {P : ℕ → ℕ → Type 0} (p limit : ℕ) (next : Outco
       coefficients-refusals (place + 1) f _ (omega arith)
       (polynomials-refusals (place + 1 + length f) fs (omega arith)))
 
-module _ (limits : Limits) (lent : ℕ) (h : Shape) (sizes coefficients : List ℕ) where
-  abbrev system : System
+module _ (limits : Limits) (lent : ℕ) (h : Head) (sizes coefficients : List ℕ) where
+  abbrev system : Systems
   system = systemInArrays limits h sizes coefficients
 
-  entries-most : ShapeWithin limits h → 1 + length (systemEntries system) * (1 + limits .systemCoefficients) ≤ longestSystem limits
+  entries-most : HeadWithin limits h → 1 + length (systemsEntries system) * (1 + limits .systemCoefficients) ≤ longestSystem limits
   unfolding systemInArrays
   entries-most within =
       let stride = limits .systemCoefficients in
       let matrix = system .matrix in
-      let side = system .side in
-      let count : length (matrix ++ side) ≡ systemCount (h .rows) (h .columns) =
-      length-append matrix side
+      let right = system .sideEntries in
+      let count : length (matrix ++ right) ≡ systemCount (h .shape .rows) (h .shape .columns) (h .sides) =
+      length-append matrix right
       ∙ ap₂ _+_ (length-polynomialsIn stride sizes coefficients _ _) (length-polynomialsIn stride sizes coefficients _ _) in
-      let most = systemCount-most (within .rows .1) (within .columns .1) in
+      let most = systemCount-most (within .shape .rows .1) (within .shape .columns .1) (within .sides .1) in
       omega (arith, wordsFor-most stride most, ap (λ n. n * (1 + stride)) count)
 
-  -- 2, 3, 6 to 8 at a word of the longest system or before, 11
-  module _ {P : ℕ → ℕ → Type 0} (two : P 2 0) (three : P 3 0) (eleven : P 11 0)
+  -- 1, 2, 3, 6 to 8 at a word of the longest system or before, 11
+  module _ {P : ℕ → ℕ → Type 0} (one : P 1 0) (two : P 2 0) (three : P 3 0) (eleven : P 11 0)
       (value : (number place : ℕ) → 6 ≤ number → number ≤ 8 → place < longestSystem limits → P number place) where
-    write-refusals : Refusals P (writeSystem limits lent system)
-    unfolding writeSystem systemInArrays
+    write-refusals : Refusals P (writeSystems limits lent system)
+    unfolding writeSystems systemInArrays
     write-refusals =
-        refusals-row (not (prime? (h .modulus)) || ltb largestModulus (h .modulus)) 2 0 _ two (λ prime.
-        refusals-row (not (oneTo (limits .rows) (h .rows) && oneTo (limits .columns) (h .columns))) 3 0 _ three (λ counts.
+        refusals-row (not (oneTo (limits .sides) (h .sides))) 1 0 _ one (λ some.
+        refusals-row (not (prime? (g .modulus)) || ltb largestModulus (g .modulus)) 2 0 _ two (λ prime.
+        refusals-row (not (oneTo (limits .rows) (g .rows) && oneTo (limits .columns) (g .columns))) 3 0 _ three (λ counts.
         let shaped = passed-refuse _ 2 0 _ prime (passed-refuse _ 3 0 passed counts refl) in
-        polynomials-refusals (h .modulus) (limits .systemCoefficients) _ (longestSystem limits)
+        let within : HeadWithin limits h =
+        record { shape = shape-passed limits g passed shaped .0; sides = sides-iff limits (h .sides) .0 some } in
+        polynomials-refusals (g .modulus) (limits .systemCoefficients) _ (longestSystem limits)
         (refusals-row (ltb lent (longestSystem limits)) 11 0 _ eleven (λ _. refusals-accepted _))
         (λ place. value 6 place (omega arith) (omega arith)) (λ place. value 7 place (omega arith) (omega arith))
-        (λ place. value 8 place (omega arith) (omega arith)) 1 (systemEntries system)
-        (entries-most (shape-passed limits h passed shaped .0))))
+        (λ place. value 8 place (omega arith) (omega arith)) 1 (systemsEntries system)
+        (entries-most within))))
+      where
+        g : Shape
+        g = h .shape
 
-module _ (limits : Limits) (lent : ℕ) (h : Shape) (sizes coefficients : List ℕ) where
+module _ (limits : Limits) (lent : ℕ) (h : Head) (sizes coefficients : List ℕ) where
   abbrev written : Outcome (List ℕ)
-  written = writeSystemFile limits lent (systemInArrays limits h sizes coefficients)
+  written = writeSystemsFile limits lent (systemInArrays limits h sizes coefficients)
 
-  pub write-numbers : Numbers 2 11 written
+  pub write-numbers : Numbers 1 11 written
   write-numbers = refusals-mapped bytesOf _
       (write-refusals limits (lent / wordBytes) h sizes coefficients (omega arith, omega arith) (omega arith, omega arith)
-      (omega arith, omega arith)
+      (omega arith, omega arith) (omega arith, omega arith)
       (λ number place low high inside. (omega arith, omega arith)))
 
   pub write-places : (most : ℕ) → longestSystem limits ≤ most → Places most written
   write-places most longest = refusals-mapped bytesOf _
-      (write-refusals limits (lent / wordBytes) h sizes coefficients (omega arith) (omega arith) (omega arith)
+      (write-refusals limits (lent / wordBytes) h sizes coefficients (omega arith) (omega arith) (omega arith) (omega arith)
       (λ number place low high inside. omega arith))
 
   pub write-count : LimitsFit limits → (bytes : List ℕ) → written ≡ accepted bytes → length bytes ≤ wordBytes * longestSystem limits
   write-count fit bytes e =
-      let ws = mapped-accepted bytesOf (writeSystem limits (lent / wordBytes) _) e in
+      let ws = mapped-accepted bytesOf (writeSystems limits (lent / wordBytes) _) e in
       let s = system-accepted limits (lent / wordBytes) h sizes coefficients (ws .0) (ws .1) in
-      omega (arith, systemWords-most limits fit _ (s .0), ap length (s .1), length-bytesOf (ws .0), ap length (ws .2))
+      omega (arith, systemsWords-most limits fit _ (s .0), ap length (s .1), length-bytesOf (ws .0), ap length (ws .2))
 
   -- what is written is read back as the values
   pub written-read : LimitsFit limits → (bytes : List ℕ) → written ≡ accepted bytes
-      → readSystemFile limits bytes ≡ accepted (systemInArrays limits h sizes coefficients)
+      → readSystemsFile limits bytes ≡ accepted (systemInArrays limits h sizes coefficients)
   written-read fit bytes e =
-      let ws = mapped-accepted bytesOf (writeSystem limits (lent / wordBytes) _) e in
+      let ws = mapped-accepted bytesOf (writeSystems limits (lent / wordBytes) _) e in
       let s = system-accepted limits (lent / wordBytes) h sizes coefficients (ws .0) (ws .1) in
-      ap (readSystemFile limits) (sym (ap bytesOf (s .1) ∙ ws .2)) ∙ file-read-of-written limits fit _ (s .0)
+      ap (readSystemsFile limits) (sym (ap bytesOf (s .1) ∙ ws .2)) ∙ file-read-of-written limits fit _ (s .0)
 
 -- ---- by the number that the call gives: where it counts, its bytes are a file of the values
 
-module _ (h : Shape) (sizes coefficients : List ℕ) {entry exit : List ℕ} {r : ℕ}
-    (gives : GivesPacked (writeSystemFile office (length entry) (systemInArrays office h sizes coefficients)) entry exit r)
+module _ (h : Head) (sizes coefficients : List ℕ) {entry exit : List ℕ} {r : ℕ}
+    (gives : GivesPacked (writeSystemsFile office (length entry) (systemInArrays office h sizes coefficients)) entry exit r)
     (counts : r % placeUnit ≡ 0) where
   abbrev file : List ℕ
   file = take (r / placeUnit) exit
 
-  pub file-of-values : readSystemFile office file ≡ accepted (systemInArrays office h sizes coefficients)
+  pub file-of-values : readSystemsFile office file ≡ accepted (systemInArrays office h sizes coefficients)
   file-of-values = written-read office (length entry) h sizes coefficients office-fits file
-      (given-counted _ (numbers-wider 2 11 (omega arith) (omega arith) (write-numbers office (length entry) h sizes coefficients))
+      (given-counted _ (numbers-wider 1 11 (omega arith) (omega arith) (write-numbers office (length entry) h sizes coefficients))
       gives counts)
 
-  pub shape-of-values : fileShape office file ≡ accepted (shapeNumber h)
+  pub shape-of-values : fileShape office file ≡ accepted (headNumber h)
   unfolding systemInArrays
-  shape-of-values = ap (λ o. mapped shapeNumber (mapped shape o)) file-of-values
+  shape-of-values = ap (λ o. mapped headNumber (mapped systemsHead o)) file-of-values
 
   -- and with any certificate's file
   pub system-of-values : (g : List ℕ) (v : Pair) → readFiles office file g ≡ accepted v
       → v .system ≡ systemInArrays office h sizes coefficients
-  unfolding readSystemFile readFiles
+  unfolding readSystemsFile readFiles
   system-of-values g v e =
       let s = files-read office file g v e .system in
-      let t = refuse-passed (broken file || tooLong office file) 10 0 (readSystem office (wordsOf file)) file-of-values in
+      let t = refuse-passed (broken file || tooLong office file) 10 0 (readSystems office (wordsOf file)) file-of-values in
       let same = sym s ∙ t .1 in cc

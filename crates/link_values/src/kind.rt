@@ -22,7 +22,8 @@ fn kind_of_words(system: &[u32], certificate: &[u32]) -> Counted
 {
     let read = read_system(system, Office::limits());
     match read {
-        SystemRead::Accepted(shape) => {
+        SystemRead::Accepted(head) => {
+            let shape = head.shape;
             let found = read_certificate(certificate, shape, Office::limits());
             match found {
                 CertificateRead::Accepted(form) => Counted::Count(number_of(form)),

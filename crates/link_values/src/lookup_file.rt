@@ -7,45 +7,45 @@ use files::opening::FilesOpened;
 use files::opening::open_both;
 use limits::Office;
 use loader::copy_payloads;
-use lookup::Side;
+use lookup::Of;
 use lookup::lookup;
 use lookup::lookup_refusal;
 ghost use mathlib.Core.Path.{_≡_};
 ghost use Rattle.words.specs.Limits.{office};
-ghost use Rattle.lookup.specs.Answer.{sideAsked};
+ghost use Rattle.lookup.specs.Answer.{ofAsked};
 ghost use Rattle.answers.specs.Answer.{countedOutcome};
-ghost use Rattle.link_values.specs.Files.{sideNumbered, lookupOf, readBoth, fileLookup};
+ghost use Rattle.link_values.specs.Files.{ofNumbered, lookupOf, readBoth, fileLookup};
 ghost use Rattle.link_values.specs.Giving.{GivesList, GivesPacked};
 
 // The most coefficients of a polynomial of a certificate.
 pub const COEFFICIENTS: usize = Office::CERTIFICATE_COEFFICIENTS as usize;
 
-// Returns the side of a number: 0 is the system's.
-fn side_of(number: u64) -> Side
-    ensures { λ r. ⌜ sideAsked r ≡ sideNumbered number ⌝ }
+// Returns which of the two a number asks for: 0 is the system.
+fn of_numbered(number: u64) -> Of
+    ensures { λ r. ⌜ ofAsked r ≡ ofNumbered number ⌝ }
 {
     if number == 0 {
-        Side::System
+        Of::System
     } else {
-        Side::Certificate
+        Of::Certificate
     }
 }
 
-// Writes the coefficients of polynomial `number` of the side that is asked for over the first of the lent numbers. Returns how many
+// Writes the coefficients of polynomial `number` of the one that is asked for over the first of the lent numbers. Returns how many
 // there are.
 fn lookup_words<'a>(
     coefficients: &mut [u64; COEFFICIENTS],
     system: &'a [u32],
     certificate: &'a [u32],
-    side: Side,
+    of: Of,
     number: usize,
 ) -> Counted
-    ensures { λ r. ⌜ GivesList (lookupOf (sideAsked side) number (readBoth office (now (system .entry)) (now (certificate .entry))))
+    ensures { λ r. ⌜ GivesList (lookupOf (ofAsked of) number (readBoth office (now (system .entry)) (now (certificate .entry))))
         (now (coefficients .entry)) (now (coefficients .exit)) (countedOutcome r) ⌝ }
 {
-    let words = lookup(system, certificate, side, number, Office::limits());
+    let words = lookup(system, certificate, of, number, Office::limits());
     if words.len() == 0 {
-        let refusal = lookup_refusal(system, certificate, side, number, Office::limits());
+        let refusal = lookup_refusal(system, certificate, of, number, Office::limits());
         match refusal {
             Verdict::Accepted => Counted::Count(0),
             Verdict::Refused(refusal) => Counted::Refused(refusal),
@@ -62,10 +62,10 @@ pub fn lookup_in_files(
     coefficients: &mut [u64; COEFFICIENTS],
     system: &[u8],
     certificate: &[u8],
-    side: u64,
+    of: u64,
     number: u64,
 ) -> u64
-    ensures { λ r. ⌜ GivesPacked (fileLookup office (now (system .entry)) (now (certificate .entry)) (sideNumbered side) number)
+    ensures { λ r. ⌜ GivesPacked (fileLookup office (now (system .entry)) (now (certificate .entry)) (ofNumbered of) number)
         (now (coefficients .entry)) (now (coefficients .exit)) r ⌝ }
 {
     let mut system_words = [0u32; Office::SYSTEM_WORDS];
@@ -81,7 +81,7 @@ pub fn lookup_in_files(
             coefficients,
             &system_words[..n],
             &certificate_words[..m],
-            side_of(side),
+            of_numbered(of),
             number as usize,
         )),
         FilesOpened::Refused(refusal) => pack_counted(Counted::Refused(refusal)),

@@ -9,8 +9,8 @@ use writer::system::write_system;
 ghost use lib.ListN.{length};
 ghost use Rattle.words.specs.Limits.{office};
 ghost use Rattle.answers.specs.Answer.{countedOutcome};
-ghost use Rattle.writer.specs.Values.{shapeWith, systemInArrays};
-ghost use Rattle.link_values.specs.Files.{writeSystemFile};
+ghost use Rattle.writer.specs.Values.{headWith, systemInArrays};
+ghost use Rattle.link_values.specs.Files.{writeSystemsFile};
 ghost use Rattle.link_values.specs.Giving.{GivesList, GivesPacked};
 
 // Writes the file of a system over the first of the lent bytes. Returns the number of its bytes. The values are as `write_system`
@@ -21,15 +21,24 @@ fn write_to_bytes(
     coefficients: &[u64; SYSTEM_VALUES],
     rows: u32,
     columns: u32,
+    sides: u32,
     modulus: u32,
 ) -> Counted
     ensures { λ r. ⌜ GivesList
-        (writeSystemFile office (length (now (bytes .entry)))
-        (systemInArrays office (shapeWith modulus rows columns) (now (sizes .entry)) (now (coefficients .entry))))
+        (writeSystemsFile office (length (now (bytes .entry)))
+        (systemInArrays office (headWith modulus rows columns sides) (now (sizes .entry)) (now (coefficients .entry))))
         (now (bytes .entry)) (now (bytes .exit)) (countedOutcome r) ⌝ }
 {
     let mut words = [0u32; Office::SYSTEM_WORDS];
-    let written = write_system(&mut words, sizes, coefficients, rows, columns, modulus);
+    let written = write_system(
+        &mut words,
+        sizes,
+        coefficients,
+        rows,
+        columns,
+        sides,
+        modulus,
+    );
     match written {
         Counted::Count(count) => {
             if bytes.len() < Office::SYSTEM_BYTES {
@@ -49,12 +58,13 @@ pub fn write_system_file(
     coefficients: &[u64; SYSTEM_VALUES],
     rows: u32,
     columns: u32,
+    sides: u32,
     modulus: u32,
 ) -> u64
     ensures { λ r. ⌜ GivesPacked
-        (writeSystemFile office (length (now (bytes .entry)))
-        (systemInArrays office (shapeWith modulus rows columns) (now (sizes .entry)) (now (coefficients .entry))))
+        (writeSystemsFile office (length (now (bytes .entry)))
+        (systemInArrays office (headWith modulus rows columns sides) (now (sizes .entry)) (now (coefficients .entry))))
         (now (bytes .entry)) (now (bytes .exit)) r ⌝ }
 {
-    pack_counted(write_to_bytes(bytes, sizes, coefficients, rows, columns, modulus))
+    pack_counted(write_to_bytes(bytes, sizes, coefficients, rows, columns, sides, modulus))
 }

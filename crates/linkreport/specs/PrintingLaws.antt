@@ -8,7 +8,7 @@ use borrow.Author.Tests.{le-ltb}
 use Rattle.streams.specs.declared.StreamRead.{StreamRead}
 use Rattle.streams.specs.declared.StreamRead.the-variants as input
 use Rattle.words.specs.Limits.{office}
-use Rattle.words.specs.Bytes.{readSystemFile}
+use Rattle.words.specs.Bytes.{readLineFile}
 use Rattle.report_text.specs.Longest.{reportSpace}
 use Rattle.report.specs.Reporting.{GivenUnless, ReportsFile}
 use Rattle.linkreport.specs.Printing.{Prints}
@@ -21,7 +21,7 @@ module _ (file entry exit : List ℕ) (count : ℕ) where
   prints-report {n = n} e room report =
       subst (λ read. Prints read file entry exit count) (sym e)
       (subst
-      (λ b. GivenUnless b (readSystemFile office (take n file)) entry exit count)
+      (λ b. GivenUnless b (readLineFile office 0 (take n file)) entry exit count)
       (le-ltb (length entry) reportSpace room)
       report)
 

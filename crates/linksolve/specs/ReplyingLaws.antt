@@ -11,7 +11,7 @@ use Rattle.words.specs.Limits.{office}
 use Rattle.words.specs.Outcome.{Outcome, refuse}
 use Rattle.words.specs.Outcome.Outcome.{accepted, refused}
 use Rattle.words.specs.System.{System}
-use Rattle.words.specs.Bytes.{readSystemFile}
+use Rattle.words.specs.Bytes.{readLineFile}
 use Rattle.answers.specs.declared.answer.Counted.{Counted}
 use Rattle.answers.specs.declared.answer.Counted.the-variants as counted
 use Rattle.answers.specs.declared.answer.Refusal.{Refusal}
@@ -27,10 +27,10 @@ room-enough : (lent : ℕ) → certificateFileBytes ≤ lent → (read : Outcome
 room-enough lent h (accepted s) = ap (λ b. refuse b 11 0 (accepted s)) (le-ltb lent certificateFileBytes h)
 room-enough lent h (refused number place) = refl
 
-module _ (file entry exit : List ℕ) where
-  pub replies-nothing : {i : StreamRead} → i ≡ input.Failed → exit ≡ entry → Replies i file entry exit replied.Nothing
+module _ (k : ℕ) (file entry exit : List ℕ) where
+  pub replies-nothing : {i : StreamRead} → i ≡ input.Failed → exit ≡ entry → Replies k i file entry exit replied.Nothing
   unfolding Replies
-  replies-nothing e same = subst (λ read. Replies read file entry exit replied.Nothing) (sym e) same
+  replies-nothing e same = subst (λ read. Replies k read file entry exit replied.Nothing) (sym e) same
 
   -- the solver's answer, handed on
   handed-on : Counted → Replied
@@ -38,36 +38,36 @@ module _ (file entry exit : List ℕ) where
   handed-on (counted.Refused refusal) = replied.Refused refusal
 
   by-answer : (n : ℕ) (answer : Counted)
-      → SolvesOr office certificateBytes (readSystemFile office (take n file)) entry exit (countedOutcome answer)
-      → Replies (input.Bytes n) file entry exit (handed-on answer)
+      → SolvesOr office certificateBytes (readLineFile office k (take n file)) entry exit (countedOutcome answer)
+      → Replies k (input.Bytes n) file entry exit (handed-on answer)
   unfolding Replies handed-on
   by-answer n (counted.Count count) solved = solved
   by-answer n (counted.Refused refusal) solved = solved
 
   module _ {i : StreamRead} {n : ℕ} (e : i ≡ input.Bytes n) (room : certificateFileBytes ≤ length entry) (answer : Counted)
-      (solved : SolvesFile office (take n file) entry exit (countedOutcome answer)) where
-    replies-answer : Replies i file entry exit (handed-on answer)
+      (solved : SolvesFile office k (take n file) entry exit (countedOutcome answer)) where
+    replies-answer : Replies k i file entry exit (handed-on answer)
     replies-answer =
-        subst (λ read. Replies read file entry exit (handed-on answer)) (sym e)
+        subst (λ read. Replies k read file entry exit (handed-on answer)) (sym e)
         (by-answer n answer
         (subst (λ read. SolvesOr office certificateBytes read entry exit (countedOutcome answer))
-        (room-enough (length entry) room (readSystemFile office (take n file))) solved))
+        (room-enough (length entry) room (readLineFile office k (take n file))) solved))
 
-    pub replies-certificate : {count : ℕ} → answer ≡ counted.Count count → Replies i file entry exit (replied.Certificate count)
+    pub replies-certificate : {count : ℕ} → answer ≡ counted.Count count → Replies k i file entry exit (replied.Certificate count)
     unfolding handed-on
-    replies-certificate a = subst (λ o. Replies i file entry exit (handed-on o)) a replies-answer
+    replies-certificate a = subst (λ o. Replies k i file entry exit (handed-on o)) a replies-answer
 
     pub replies-refusal : {refusal : Refusal} → answer ≡ counted.Refused refusal
-        → Replies i file entry exit (replied.Refused refusal)
+        → Replies k i file entry exit (replied.Refused refusal)
     unfolding handed-on
-    replies-refusal a = subst (λ o. Replies i file entry exit (handed-on o)) a replies-answer
+    replies-refusal a = subst (λ o. Replies k i file entry exit (handed-on o)) a replies-answer
 
   -- a certificate is among the lent bytes
-  by-input : (i : StreamRead) (count : ℕ) → Replies i file entry exit (replied.Certificate count) → count ≤ length exit
+  by-input : (i : StreamRead) (count : ℕ) → Replies k i file entry exit (replied.Certificate count) → count ≤ length exit
   unfolding Replies
   by-input (input.Bytes n) count solved = solves-fits office _ _ entry exit (accepted count) solved count refl
   by-input input.Failed count none = absurd none
 
-  pub certificate-most : (i : StreamRead) (r : Replied) {count : ℕ} → Replies i file entry exit r → r ≡ replied.Certificate count
+  pub certificate-most : (i : StreamRead) (r : Replied) {count : ℕ} → Replies k i file entry exit r → r ≡ replied.Certificate count
       → count ≤ length exit
-  certificate-most i r {count} replies e = by-input i count (subst (Replies i file entry exit) e replies)
+  certificate-most i r {count} replies e = by-input i count (subst (Replies k i file entry exit) e replies)

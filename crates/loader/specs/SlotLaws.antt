@@ -1,6 +1,6 @@
 -- Slots by their words.
 use mathlib.Core.Path.{_≡_, sym, ap, _∙_, subst}
-use mathlib.Core.List.{List, []}
+use mathlib.Core.List.{List, [], _++_}
 use Prim.Native.Nat.{ℕ, _+_, _*_, _≤_, _<_}
 use native.Mathlib.Nat.{mul-le-mul-right, suc-mul, mod-eq-of-lt}
 use native.Mathlib.Omega.{arith}
@@ -8,8 +8,9 @@ use lib.ListN.{length, getD, drop, length-drop}
 use lib.Seq.{length-take-le, take-all, getD-take, getD-drop, ext-getD}
 use Rattle.modular.specs.Canonical.{Canonical}
 use Rattle.modular.specs.Coefficientwise.{coefficient-getD, coefficient-below}
-use Rattle.words.specs.Starts.{firstEntries}
-use Rattle.words.specs.FramedLaws.{EntriesRead}
+use Rattle.words.specs.System.{System}
+use Rattle.words.specs.Starts.{firstEntries, lineEntries}
+use Rattle.words.specs.FramedLaws.{EntriesRead, LineEntriesRead}
 use Rattle.vector.specs.Reduced.{reduced, polynomial, reduced-is}
 use Rattle.loader.specs.Slot.{slot, InSlots, SlotFilled}
 
@@ -70,6 +71,11 @@ module _ {p width : ℕ} {area : List ℕ} {k : ℕ} {f : List ℕ} (is : f ≡ 
 pub read-stands : {limit count width : ℕ} {ws area : List ℕ} {fs : List (List ℕ)} → EntriesRead limit count ws fs
     → InSlots width area (firstEntries ws count) → InSlots width area fs
 read-stands {width = width} {area = area} r = subst (InSlots width area) (r .same)
+
+-- what `load_line` leaves: those of the line that was read
+pub line-stands : {limit k width : ℕ} {ws area : List ℕ} {s : System} → LineEntriesRead limit k ws s
+    → InSlots width area (lineEntries ws (s .rows) (s .columns) k) → InSlots width area (s .matrix ++ s .side)
+line-stands {width = width} {area = area} r = subst (InSlots width area) (r .same)
 
 -- they fill their slots
 pub stands-filled : {p width : ℕ} {area : List ℕ} {fs : List (List ℕ)} → InSlots width area fs → (k : ℕ) → k < length fs

@@ -10,23 +10,24 @@ use Rattle.words.specs.Outcome.{Outcome, refuse, followedBy, mapped}
 use Rattle.words.specs.Outcome.Outcome.{accepted, refused}
 use Rattle.words.specs.Polynomial.{polynomialWords}
 use Rattle.words.specs.Frame.{entryPlace}
-use Rattle.words.specs.System.{System, shape, systemEntries, readSystem}
+use Rattle.words.specs.Systems.{Systems, systemsEntries, readSystems}
 use Rattle.words.specs.Certificate.{Certificate, certificateEntries, readCertificate}
 use Rattle.words.specs.Bytes.{wordBytes}
 
--- which of the two is asked for
-pub data Side : Type 0 where
-  system : Side
-  certificate : Side
+-- of which of the two a polynomial is asked for
+pub data Of : Type 0 where
+  system : Of
+  certificate : Of
 
--- what stands on a side
-abbrev pub on : {A : Type 0} → Side → A → A → A
+-- that of the two
+abbrev pub on : {A : Type 0} → Of → A → A → A
 on system a b = a
 on certificate a b = b
 
--- "Polynomials count from 0 in written order, on each side."
-abbrev pub entriesOn : Side → System → Certificate → List (List ℕ)
-entriesOn side s c = on side (systemEntries s) (certificateEntries c)
+-- "Polynomials count from 0 in written order, on each side": of a sheet A's, then those of every right side, since "the lookup
+-- counts all" (document 02, item 1)
+abbrev pub entriesOn : Of → Systems → Certificate → List (List ℕ)
+entriesOn of s c = on of (systemsEntries s) (certificateEntries c)
 
 -- "that part of the lent words": the place of its first word, and its words
 pub record Part : Type 0 where
@@ -41,19 +42,19 @@ partOf fs k = record { from = entryPlace fs k; words = polynomialWords (getD fs 
 abbrev pub shown : ℕ → List (List ℕ) → Outcome Part
 shown k fs = refuse (leb (length fs) k) 12 0 (accepted (partOf fs k))  -- 12: no polynomial of that number; 0
 
-unfoldable pub polynomialLookup : Limits → List ℕ → List ℕ → Side → ℕ → Outcome Part
-unfolding readSystem readCertificate certificateEntries polynomialWords entryPlace
-polynomialLookup limits ss cs side k =
-    followedBy (readSystem limits ss) (λ s.
-    followedBy (readCertificate limits (shape s) cs) (λ c.
-    shown k (entriesOn side s c)))
+unfoldable pub polynomialLookup : Limits → List ℕ → List ℕ → Of → ℕ → Outcome Part
+unfolding readSystems readCertificate certificateEntries polynomialWords entryPlace
+polynomialLookup limits ss cs of k =
+    followedBy (readSystems limits ss) (λ s.
+    followedBy (readCertificate limits (s .head .shape) cs) (λ c.
+    shown k (entriesOn of s c)))
 
 -- "On a refusal the part is empty"
 abbrev pub wordsShown : Outcome Part → List ℕ
 wordsShown (accepted part) = part .words
 wordsShown (refused number place) = []
 
--- the place of its first word among those of its side; an empty part stands at their beginning
+-- the place of its first word among those lent; an empty part stands at their beginning
 abbrev pub placeShown : Outcome Part → ℕ
 placeShown (accepted part) = part .from
 placeShown (refused number place) = 0

@@ -8,7 +8,7 @@ ghost use Rattle.words.specs.Starts.{startPlace};
 ghost use Rattle.lookup.specs.Answer.{partOutcome};
 ghost use Rattle.lookup.specs.Standing.{StartsInside, partIn};
 
-// Where a polynomial stands in the words of its side.
+// Where a polynomial stands in the words of its system or certificate.
 pub enum Part {
     // From the first place up to before the second.
     Words(usize, usize),

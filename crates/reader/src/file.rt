@@ -7,13 +7,13 @@ use limits::Office;
 ghost use mathlib.Core.Path.{_≡_};
 ghost use Rattle.words.specs.Limits.{office};
 ghost use Rattle.words.specs.Outcome.{mapped};
-ghost use Rattle.words.specs.System.{shape};
-ghost use Rattle.words.specs.Bytes.{readSystemFile};
+ghost use Rattle.words.specs.Systems.{systemsHead};
+ghost use Rattle.words.specs.Bytes.{readSystemsFile};
 ghost use Rattle.answers.specs.Answer.{systemOutcome};
 
 // Reads the system in a file of the office.
 pub fn read_system_file(bytes: &[u8]) -> SystemRead
-    ensures { λ r. ⌜ systemOutcome r ≡ mapped shape (readSystemFile office (now (bytes .entry))) ⌝ }
+    ensures { λ r. ⌜ systemOutcome r ≡ mapped systemsHead (readSystemsFile office (now (bytes .entry))) ⌝ }
 {
     let mut words = [0u32; Office::SYSTEM_WORDS];
     let opened = open_file(&mut words, bytes, Office::SYSTEM_BYTES);

@@ -1,12 +1,13 @@
-// Reading a system: the head, A row by row, b, the end.
+// Reading a system: the head, A row by row, the right sides one after another, the end.
 use answers::Counted;
+use answers::Head;
 use answers::Refusal;
 use answers::Shape;
 use answers::SystemRead;
 use answers::head::BOUND_4;
 use answers::head::COLUMN_UNIT;
 use answers::head::ROW_UNIT;
-use answers::head::ZERO_UNIT;
+use answers::head::SIDE_UNIT;
 use answers::number::one_to;
 use limits::Limits;
 use read_frame::frame::read_body;
@@ -15,13 +16,13 @@ use residue::prime::is_prime;
 ghost use mathlib.Core.Path.{_≡_};
 ghost use Rattle.words.specs.Outcome.{mapped};
 ghost use Rattle.words.specs.Reading.{outcomeOf};
-ghost use Rattle.words.specs.System.{shape, systemHeadFrom, readSystem};
+ghost use Rattle.words.specs.Systems.{systemsHead, systemsHeadFrom, readSystems};
 ghost use Rattle.limits.specs.Value.{limitsOf};
 ghost use Rattle.answers.specs.Answer.{systemOutcome};
 
 // Reads the head, which is the first word.
 fn read_head(words: &[u32], limits: Limits) -> SystemRead
-    ensures { λ r. ⌜ systemOutcome r ≡ outcomeOf (systemHeadFrom (limitsOf limits)) (now (words .entry)) ⌝ }
+    ensures { λ r. ⌜ systemOutcome r ≡ outcomeOf (systemsHeadFrom (limitsOf limits)) (now (words .entry)) ⌝ }
 {
     let place: usize = 0;
     if words.len() == 0 {
@@ -31,7 +32,8 @@ fn read_head(words: &[u32], limits: Limits) -> SystemRead
     if kind_of(word) != 1 {
         return SystemRead::Refused(Refusal { number: 1, place });
     }
-    if word / ZERO_UNIT % BOUND_4 != 0 {
+    let sides = word / SIDE_UNIT % BOUND_4 + 1;
+    if (limits.sides as u32) < sides {
         return SystemRead::Refused(Refusal { number: 1, place });
     }
     let modulus = (word % ROW_UNIT) as u16;
@@ -46,30 +48,35 @@ fn read_head(words: &[u32], limits: Limits) -> SystemRead
     if !one_to(limits.columns as u32, columns) {
         return SystemRead::Refused(Refusal { number: 3, place });
     }
-    SystemRead::Accepted(Shape {
-        modulus,
-        rows: rows as u8,
-        columns: columns as u8,
+    SystemRead::Accepted(Head {
+        shape: Shape {
+            modulus,
+            rows: rows as u8,
+            columns: columns as u8,
+        },
+        sides: sides as u8,
     })
 }
 
 // Reads the whole system.
 pub fn read_system(words: &[u32], limits: Limits) -> SystemRead
-    ensures { λ r. ⌜ systemOutcome r ≡ mapped shape (readSystem (limitsOf limits) (now (words .entry))) ⌝ }
+    ensures { λ r. ⌜ systemOutcome r ≡ mapped systemsHead (readSystems (limitsOf limits) (now (words .entry))) ⌝ }
 {
     let head = read_head(words, limits);
     match head {
-        SystemRead::Accepted(shape) => {
+        SystemRead::Accepted(head) => {
+            let shape = head.shape;
             let rows = shape.rows as u32;
             let columns = shape.columns as u32;
+            let sides = head.sides as u32;
             let found = read_body(
                 words,
                 shape.modulus,
                 limits.coefficients,
-                rows * columns + rows,
+                rows * columns + sides * rows,
             );
             match found {
-                Counted::Count(_) => SystemRead::Accepted(shape),
+                Counted::Count(_) => SystemRead::Accepted(head),
                 Counted::Refused(refusal) => SystemRead::Refused(refusal),
             }
         }

@@ -10,10 +10,11 @@ use Rattle.words.specs.Limits.{office}
 use Rattle.words.specs.LimitsLaws.{office-fits}
 use Rattle.words.specs.Outcome.{Outcome}
 use Rattle.words.specs.Outcome.Outcome.{accepted, refused}
-use Rattle.words.specs.System.{System, Shape, shape, readSystem}
-use Rattle.words.specs.SystemLaws.{system-written-of-read}
+use Rattle.words.specs.System.{System, Shape, shape}
+use Rattle.words.specs.Systems.{readLine}
+use Rattle.words.specs.LineLaws.{line-in-within, line-written-of-read}
 use Rattle.words.specs.Certificate.{formWhen}
-use Rattle.words.specs.Bytes.{readSystemFile}
+use Rattle.words.specs.Bytes.{readLineFile}
 use Rattle.truth.specs.Solution.{Answer, Answers}
 use Rattle.truth.specs.Solution.Answer.{least, none}
 use Rattle.solve_lattice.specs.Output.{ValidOutput}
@@ -50,8 +51,8 @@ module _ {entry exit : List ℕ} {count : ℕ} where
 
 -- ---- a certificate in memory
 
-module _ {h : Shape} {ws : List ℕ} (R : Read h ws) (output : List ℕ) (solved : Bool)
-    (certified : CertifiedRead (readSystem office ws) output solved) where
+module _ {h : Shape} {ws : List ℕ} (R : Read h 0 ws) (output : List ℕ) (solved : Bool)
+    (certified : CertifiedRead (readLine office 0 ws) output solved) where
   held : CertifiedOutput (R .system) output solved
   held = certified-at (R .read) certified
 
@@ -71,27 +72,27 @@ module _ {h : Shape} {ws : List ℕ} (R : Read h ws) (output : List ℕ) (solved
     pub d-within : DenominatorWithin office (take n output)
     d-within = subst (DenominatorWithin office) d-is (record {
       modulus = R .system .modulus;
-      most = system-written-of-read office office-fits ws (R .system) (R .read) .1 .shape .modulus;
+      most = line-in-within office office-fits 0 ws (line-written-of-read office office-fits 0 ws (R .read)) .shape .modulus;
       within = polynomial-within (R .system .modulus) (let b = valid .below 0 in omega arith) output 0;
     })
 
   module _ {entry exit : List ℕ} {count : ℕ} where
     -- d, or that there is none
     by-answer : (a : Answer) → answerOf (takenCertificate (shape (R .system)) (formWhen solved) output) ≡ a
-        → Written (reportText (accepted a)) entry exit count → ReportGiven (readSystem office ws) entry exit count
+        → Written (reportText (accepted a)) entry exit count → ReportGiven (readLine office 0 ws) entry exit count
     by-answer a e w =
         given-accepted (R .system) (R .read) a (subst (Answers (R .system)) e (held .answers)) w
 
     pub given-solution : solved ≡ true → {n : ℕ} → n ≡ sizeIn output 0
         → Written (reportText (accepted (least (take n output)))) entry exit count
-        → ReportGiven (readSystem office ws) entry exit count
+        → ReportGiven (readLine office 0 ws) entry exit count
     unfolding answerOf takenCertificate formWhen
     given-solution e {n} size w =
         by-answer (least (take n output))
         (ap (λ b. answerOf (takenCertificate (shape (R .system)) (formWhen b) output)) e ∙ ap least (d-is size)) w
 
     pub given-none : solved ≡ false → Written (reportText (accepted none)) entry exit count
-        → ReportGiven (readSystem office ws) entry exit count
+        → ReportGiven (readLine office 0 ws) entry exit count
     unfolding answerOf takenCertificate formWhen
     given-none e w = by-answer none (ap (λ b. answerOf (takenCertificate (shape (R .system)) (formWhen b) output)) e) w
 
@@ -101,18 +102,18 @@ module _ (file : List ℕ) {entry exit : List ℕ} {count : ℕ} where
   pub file-short : length entry < reportSpace → count ≡ 0 → exit ≡ entry → ReportsFile office file entry exit count
   unfolding GivenUnless
   file-short h n e =
-      subst (λ b. GivenUnless b (readSystemFile office file) entry exit count) (sym (lt-ltb (length entry) reportSpace h)) (n, e)
+      subst (λ b. GivenUnless b (readLineFile office 0 file) entry exit count) (sym (lt-ltb (length entry) reportSpace h)) (n, e)
 
   module _ (room : reportSpace ≤ length entry) where
-    file-given : ReportGiven (readSystemFile office file) entry exit count → ReportsFile office file entry exit count
+    file-given : ReportGiven (readLineFile office 0 file) entry exit count → ReportsFile office file entry exit count
     unfolding GivenUnless
     file-given g =
-        subst (λ b. GivenUnless b (readSystemFile office file) entry exit count) (sym (le-ltb (length entry) reportSpace room)) g
+        subst (λ b. GivenUnless b (readLineFile office 0 file) entry exit count) (sym (le-ltb (length entry) reportSpace room)) g
 
-    pub file-refused : (number place : ℕ) → readSystemFile office file ≡ refused number place
+    pub file-refused : (number place : ℕ) → readLineFile office 0 file ≡ refused number place
         → Written (reportText (refused number place)) entry exit count → ReportsFile office file entry exit count
     file-refused number place e w = file-given (given-refused number place e w)
 
-    pub file-words : {o : Outcome System} → readSystemFile office file ≡ o → ReportGiven o entry exit count
+    pub file-words : {o : Outcome System} → readLineFile office 0 file ≡ o → ReportGiven o entry exit count
         → ReportsFile office file entry exit count
     file-words e g = file-given (subst (λ o. ReportGiven o entry exit count) (sym e) g)

@@ -8,11 +8,11 @@ use Rattle.words.specs.Limits.{office}
 use Rattle.words.specs.LimitsLaws.{office-fits}
 use Rattle.words.specs.Outcome.{Outcome}
 use Rattle.words.specs.Outcome.Outcome.{accepted}
-use Rattle.words.specs.System.{systemWords}
+use Rattle.words.specs.Systems.{systemsWords, single}
 use Rattle.words.specs.Certificate.{certificateWords}
-use Rattle.words.specs.SystemLaws.{system-written-of-read}
-use Rattle.words.specs.Bytes.{bytesOf, readSystemFile}
-use Rattle.words.specs.BytesLaws.{file-read-of-written}
+use Rattle.words.specs.LineLaws.{line-written-of-read}
+use Rattle.words.specs.Bytes.{bytesOf, readLineFile}
+use Rattle.words.specs.LineFileLaws.{line-file-read}
 use Rattle.truth.specs.Verdict.{verdict}
 use Rattle.truth.specs.Cases.{Case, CaseOutcome, cases, caseOutcome, wanted, row-true}
 use Rattle.solve_meaning.specs.Answers.{answerOf, true-answers}
@@ -57,7 +57,7 @@ examples = withTexts (take 8 cases)
 -- the one proposition over all rows
 abbrev pub AllReported : List Example → Type 0
 AllReported [] = Unit {0}
-AllReported (e ∷ es) = Reported (bytesOf (systemWords (e .case .system))) (ascii (e .text)) × AllReported es
+AllReported (e ∷ es) = Reported (bytesOf (systemsWords (single (e .case .system)))) (ascii (e .text)) × AllReported es
 
 -- what is computed of a row
 record Shown : Type 0 where
@@ -76,14 +76,15 @@ abbrev due : Example → Shown
 due e = record { outcome = wanted (e .case); verdict = accepted tt; text = ascii (e .text) }
 
 -- a certificate that the check accepts gives the answer, and so the report
-row-reported : (e : Example) → shown e ≡ due e → Reported (bytesOf (systemWords (e .case .system))) (ascii (e .text))
+row-reported : (e : Example) → shown e ≡ due e → Reported (bytesOf (systemsWords (single (e .case .system)))) (ascii (e .text))
 unfolding Reports
 row-reported e r =
     let s = e .case .system in
     let c = e .case .certificate in
     let row = ap (λ x. x .outcome) r in
-    let within = system-written-of-read office office-fits (systemWords s) s (ap (λ t. t .system) row) .1 in
-    reported (subst (λ o. Reports o (ascii (e .text))) (sym (file-read-of-written office office-fits s within)) (
+    let ws = systemsWords (single s) in
+    let written = line-written-of-read office office-fits 0 ws (ap (λ t. t .system) row) in
+    reported (subst (λ o. Reports o (ascii (e .text))) (sym (line-file-read office 0 office-fits s ws written)) (
       answerOf c,
       true-answers s c (row-true (e .case) row (ap (λ x. x .verdict) r)),
       sym (ap (λ x. x .text) r),
@@ -94,7 +95,7 @@ rows-reported [] h = tt
 rows-reported (e ∷ es) h = (row-reported e cc, rows-reported es cc)
 
 pub examples-reported : AllReported examples
-unfolding cases verdict systemWords certificateWords answerOf reportText denominatorLine feedbackLine decimal
+unfolding cases verdict systemsWords single certificateWords answerOf reportText denominatorLine feedbackLine decimal
 examples-reported = rows-reported examples refl
 
 -- "Fed case 1 it prints, whole"
@@ -104,12 +105,12 @@ pub case-1-reported : Reported
     ∷ 0x01 ∷ 0x00 ∷ 0x00 ∷ 0x20 ∷ 0x01 ∷ 0x00 ∷ 0x00 ∷ 0x30
     ∷ 0x07 ∷ 0x00 ∷ 0x00 ∷ 0x40 ∷ [])
     (ascii "answer solution\ndenominator 0 1\nfeedback 1\n")
-unfolding cases systemWords bytesOf
+unfolding cases systemsWords single bytesOf
 case-1-reported = examples-reported .0
 
 -- ---- a refusal
 
 -- 10: "five bytes"
 pub five-bytes-reported : Reported (replicate 5 0) (ascii "refused 10 at 0\n")
-unfolding Reports readSystemFile reportText decimal
+unfolding Reports readLineFile reportText decimal
 five-bytes-reported = reported refl

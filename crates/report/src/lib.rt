@@ -1,10 +1,10 @@
-// The report (document 01, "The report"): from the bytes of a system's file to those of the text.
+// The report (document 01, "The report"): from the bytes of a system's file to those of the text. It uses the first right side.
 use answers::Counted;
+use answers::LineRead;
 use answers::Shape;
-use answers::SystemRead;
 use files::opening::open_file;
 use limits::Office;
-use reader::system::read_system;
+use reader::line::read_line;
 pub use report_text::SPACE;
 use report_text::write_none;
 use report_text::write_refusal;
@@ -15,19 +15,19 @@ use writer::output::size_of;
 ghost use Prim.Native.Nat.{_≤_};
 ghost use lib.ListN.{length};
 ghost use Rattle.words.specs.Limits.{office};
-ghost use Rattle.words.specs.System.{readSystem};
+ghost use Rattle.words.specs.Systems.{readLine};
 ghost use Rattle.answers.specs.Answer.{shapeOf};
 ghost use Rattle.report_text.specs.Longest.{reportSpace};
 ghost use Rattle.solver.specs.Certified.{Read};
 ghost use Rattle.report.specs.Reporting.{ReportGiven, ReportsFile};
 
-// Writes the report of a system that was read. Returns the number of its bytes.
+// Writes the report of a first line that was read. Returns the number of its bytes.
 fn report_read(out: &mut [u8], system: &[u32], shape: Shape) -> usize
-    requires { ⌜ Read (shapeOf shape) (now system) × (reportSpace ≤ length (now out)) ⌝ }
-    ensures { λ r. ⌜ ReportGiven (readSystem office (now (system .entry))) (now (out .entry)) (now (out .exit)) r ⌝ }
+    requires { ⌜ Read (shapeOf shape) 0 (now system) × (reportSpace ≤ length (now out)) ⌝ }
+    ensures { λ r. ⌜ ReportGiven (readLine office 0 (now (system .entry))) (now (out .entry)) (now (out .exit)) r ⌝ }
 {
     let mut output = [0u64; OUTPUT];
-    let solved = certify_words(&mut output, system, shape);
+    let solved = certify_words(&mut output, system, shape, 0);
     if solved {
         // the first polynomial is d
         let size = size_of(&output, 0);
@@ -37,15 +37,15 @@ fn report_read(out: &mut [u8], system: &[u32], shape: Shape) -> usize
     }
 }
 
-// Writes the report of the words of a file. Returns the number of its bytes.
+// Writes the report of the words of a file, of their first line. Returns the number of its bytes.
 fn report_words(out: &mut [u8], system: &[u32]) -> usize
     requires { ⌜ reportSpace ≤ length (now out) ⌝ }
-    ensures { λ r. ⌜ ReportGiven (readSystem office (now (system .entry))) (now (out .entry)) (now (out .exit)) r ⌝ }
+    ensures { λ r. ⌜ ReportGiven (readLine office 0 (now (system .entry))) (now (out .entry)) (now (out .exit)) r ⌝ }
 {
-    let read = read_system(system, Office::limits());
+    let read = read_line(system, 0, Office::limits());
     match read {
-        SystemRead::Accepted(shape) => report_read(out, system, shape),
-        SystemRead::Refused(refusal) => write_refusal(out, refusal),
+        LineRead::Accepted(shape) => report_read(out, system, shape),
+        LineRead::Refused(refusal) => write_refusal(out, refusal),
     }
 }
 

@@ -1,4 +1,4 @@
--- A system that was read, laid out and certified: what the output area then holds.
+-- A line that was read, laid out and certified: what the output area then holds.
 use mathlib.Core.Path.{_≡_, sym, ap, _∙_, subst}
 use mathlib.Core.Bool.{Bool}
 use mathlib.Core.List.{List}
@@ -11,8 +11,9 @@ use Rattle.words.specs.Limits.{office}
 use Rattle.words.specs.LimitsLaws.{office-fits}
 use Rattle.words.specs.Outcome.Outcome.{accepted}
 use Rattle.words.specs.OutcomeLaws.{mapped-accepted}
-use Rattle.words.specs.System.{System, Shape, SystemWithin, ShapeWithin, shape, readSystem}
-use Rattle.words.specs.SystemLaws.{system-written-of-read}
+use Rattle.words.specs.System.{System, Shape, SystemWithin, ShapeWithin, shape}
+use Rattle.words.specs.Systems.{readLine}
+use Rattle.words.specs.LineLaws.{line-written-of-read, line-in-within}
 use Rattle.words.specs.Certificate.{formWhen}
 use Rattle.truth.specs.Chosen.{chosen-right}
 use Rattle.solve_lattice.specs.Input.{ValidInput}
@@ -63,19 +64,19 @@ module _ {h : Shape} (within : ShapeWithin office h) {input : List ℕ} (area : 
               right-answers office s w c kept (chosen-right s c chosen);
         }
 
-module _ {h : Shape} {ws : List ℕ} (R : Read h ws) where
+module _ {h : Shape} {k : ℕ} {ws : List ℕ} (R : Read h k ws) where
   -- whatever system was read has this shape
-  pub same-shape : {s : System} → readSystem office ws ≡ accepted s → h ≡ shape s
+  pub same-shape : {s : System} → readLine office k ws ≡ accepted s → h ≡ shape s
   same-shape e = R .same-shape ∙ ap shape (accepted-same (sym (R .read) ∙ e))
 
   written : SystemWithin office (R .system)
-  written = system-written-of-read office office-fits ws (R .system) (R .read) .1
+  written = line-in-within office office-fits k ws (line-written-of-read office office-fits k ws (R .read))
 
   pub read-shape : ShapeWithin office h
   read-shape = rw (R .same-shape) (written .shape)
 
 -- the words by what reading gives
-pub told-read : {h : Shape} {ws : List ℕ} → HasShape h ws → Read h ws
+pub told-read : {h : Shape} {k : ℕ} {ws : List ℕ} → HasShape h k ws → Read h k ws
 told-read told =
     let found = mapped-accepted shape _ told in
     record { system = found .0; read = found .1; same-shape = sym (found .2) }

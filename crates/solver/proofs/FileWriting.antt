@@ -8,7 +8,8 @@ use Rattle.words.specs.Outcome.{Outcome}
 use Rattle.words.specs.Outcome.Outcome.{accepted, refused}
 use Rattle.words.specs.OutcomeLaws.{refused-accepted}
 use Rattle.words.specs.Bytes.{bytesOf}
-use Rattle.words.specs.System.{System, readSystem}
+use Rattle.words.specs.System.{System}
+use Rattle.words.specs.Systems.{readLine}
 use Rattle.words.specs.Certificate.{certificateWords}
 use Rattle.write_frame.specs.Overwriting.{overwritten}
 use Rattle.solver.specs.Solving.{withRoom, certificateBytes, GivesRight, Gives, SolvesOr, Solves}
@@ -34,29 +35,29 @@ module _ {s : System} {count : ℕ} {entry exit : List ℕ} (G : Gives office ce
   }
 
 -- what `solve` told of words for which there was room
-module _ (ws entry exit : List ℕ) (answer : Outcome ℕ) (solves : Solves office ws entry exit answer) where
+module _ (k : ℕ) (ws entry exit : List ℕ) (answer : Outcome ℕ) (solves : Solves office k ws entry exit answer) where
   pub was-solved : {count : ℕ} → answer ≡ accepted count
-      → (s : System) × (readSystem office ws ≡ accepted s) × Gives office certificateWords s entry exit count
+      → (s : System) × (readLine office k ws ≡ accepted s) × Gives office certificateWords s entry exit count
   was-solved {count} a =
-      solved-gives office certificateWords (longestCertificate office) (length entry) (readSystem office ws) entry exit answer
+      solved-gives office certificateWords (longestCertificate office) (length entry) (readLine office k ws) entry exit answer
       solves count a
 
   pub was-refused : longestCertificate office ≤ length entry → {number place : ℕ} → answer ≡ refused number place
-      → readSystem office ws ≡ refused number place
+      → readLine office k ws ≡ refused number place
   unfolding SolvesOr
-  was-refused room {number} {place} a = by (readSystem office ws) solves
+  was-refused room {number} {place} a = by (readLine office k ws) solves
     where
-      same : {n k : ℕ} → _≡_ {A = Outcome ℕ} (refused n k) (refused number place)
-          → _≡_ {A = Outcome System} (refused n k) (refused number place)
-      same {n} {k} e =
+      same : {n i : ℕ} → _≡_ {A = Outcome ℕ} (refused n i) (refused number place)
+          → _≡_ {A = Outcome System} (refused n i) (refused number place)
+      same {n} {i} e =
           let en : n ≡ number = cc in
-          let ek : k ≡ place = cc in
-          ap₂ refused en ek
+          let ei : i ≡ place = cc in
+          ap₂ refused en ei
 
       by : (o : Outcome System) → SolvesOr office certificateWords (withRoom (longestCertificate office) (length entry) o) entry
           exit answer
           → o ≡ refused number place
-      by (refused n k) h = let told = sym (h .0) ∙ a in same told
+      by (refused n i) h = let told = sym (h .0) ∙ a in same told
       by (accepted s) h =
           let given = subst (λ o. SolvesOr office certificateWords o entry exit answer)
           (room-enough (longestCertificate office) (length entry) room (accepted s)) h in

@@ -6,19 +6,23 @@ use lib.ListN.{length}
 use Rattle.words.specs.Limits.{Limits, office}
 use Rattle.words.specs.Outcome.{Outcome, mapped}
 use Rattle.words.specs.Outcome.Outcome.{accepted, refused}
-use Rattle.words.specs.System.{System, Shape, shape, readSystem}
+use Rattle.words.specs.System.{System, Shape, shape}
+use Rattle.words.specs.Systems.{readLine}
 use Rattle.words.specs.Certificate.{Certificate}
-use Rattle.reader.specs.ReadLaws.{system-read}
+use Rattle.reader.specs.ReadLaws.{system-read, system-refused}
 use Rattle.solver.specs.Solving.{withRoom, Gives, SolvesOr}
 use Rattle.solver.specs.SolvingLaws.{room-short, room-enough}
 use Rattle.solver.specs.Certified.{Read}
 
-module _ (ws : List ℕ) (limits : Limits) (is : limits ≡ office) {told : Outcome Shape}
-    (tells : told ≡ mapped shape (readSystem limits ws)) where
-  pub was-read : {h : Shape} → told ≡ accepted h → Read h ws
+module _ (k : ℕ) (ws : List ℕ) (limits : Limits) (is : limits ≡ office) {told : Outcome Shape}
+    (tells : told ≡ mapped shape (readLine limits k ws)) where
+  pub was-read : {h : Shape} → told ≡ accepted h → Read h k ws
   was-read e =
-      let found = system-read ws limits is tells e in
+      let found = system-read (λ l. readLine l k) shape ws limits is tells e in
       record { system = found .0; read = found .1; same-shape = sym (found .2) }
+
+  pub reading-refused : {number place : ℕ} → told ≡ refused number place → readLine office k ws ≡ refused number place
+  reading-refused = system-refused (λ l. readLine l k) shape ws limits is tells
 
 -- what the solver gives, by what was read
 module _ (longest : ℕ) (write : Certificate → List ℕ) (entry exit : List ℕ) (answer : Outcome ℕ) (read : Outcome System) where

@@ -1,4 +1,4 @@
--- The chosen certificate in the solver's output area, for a system that was read.
+-- The chosen certificate in the solver's output area, for a line that was read.
 use Prim.Native.Nat.{ℕ}
 use mathlib.Core.Path.{_≡_, sym, ap, _∙_, subst}
 use mathlib.Core.Bool.{Bool}
@@ -6,7 +6,8 @@ use mathlib.Core.List.{List}
 use Rattle.words.specs.Limits.{office}
 use Rattle.words.specs.Outcome.{Outcome, mapped}
 use Rattle.words.specs.Outcome.Outcome.{accepted, refused}
-use Rattle.words.specs.System.{System, Shape, shape, readSystem}
+use Rattle.words.specs.System.{System, Shape, shape}
+use Rattle.words.specs.Systems.{readLine}
 use Rattle.words.specs.Certificate.{CertificateWithin, formWhen}
 use Rattle.truth.specs.Solution.{Answers}
 use Rattle.truth.specs.Chosen.{Chosen}
@@ -14,9 +15,9 @@ use Rattle.solve_lattice.specs.Output.{ValidOutput}
 use Rattle.solve_meaning.specs.Taken.{takenCertificate}
 use Rattle.solve_meaning.specs.Answers.{answerOf}
 
--- reading the words gives a system of that shape
-abbrev pub HasShape : Shape → List ℕ → Type 0
-HasShape h ws = mapped shape (readSystem office ws) ≡ accepted h
+-- reading line k of the words gives a system of that shape
+abbrev pub HasShape : Shape → (k : ℕ) → List ℕ → Type 0
+HasShape h k ws = mapped shape (readLine office k ws) ≡ accepted h
 
 pub record CertifiedOutput (s : System) (output : List ℕ) (solved : Bool) : Type 0 where
   pub valid : ValidOutput (s .modulus) output
@@ -29,13 +30,13 @@ unfoldable pub CertifiedRead : Outcome System → (output : List ℕ) (solved : 
 CertifiedRead (accepted s) output solved = CertifiedOutput s output solved
 CertifiedRead (refused number place) output solved = ⊥
 
--- the system that was read, and this is what its head says
-pub record Read (h : Shape) (ws : List ℕ) : Type 0 where
+-- the system that was read, and this is its shape
+pub record Read (h : Shape) (k : ℕ) (ws : List ℕ) : Type 0 where
   pub system : System
-  pub read : readSystem office ws ≡ accepted system
+  pub read : readLine office k ws ≡ accepted system
   pub same-shape : h ≡ shape system
 
-pub read-told : {h : Shape} {ws : List ℕ} → Read h ws → HasShape h ws
+pub read-told : {h : Shape} {k : ℕ} {ws : List ℕ} → Read h k ws → HasShape h k ws
 read-told R = ap (mapped shape) (R .read) ∙ ap accepted (sym (R .same-shape))
 
 module _ {o : Outcome System} {s : System} (is : o ≡ accepted s) {output : List ℕ} {solved : Bool} where

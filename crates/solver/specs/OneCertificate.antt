@@ -1,6 +1,6 @@
--- Nothing of what the solver gives is free: what it answers and leaves in the lent words is a function of what it read and of what
--- stood there. It gives the written form of the system's own certificate. So calls on the same system, though it may be read from
--- different words, give the same count and the same words, whatever was lent and whatever stood there.
+-- Nothing of what the solver gives is free: what it answers and leaves in the lent words is a function of the line that it read and
+-- of what stood there. It gives the written form of the system's own certificate. So calls that read the same line, wherever it
+-- stands in the words of each, give the same count and the same words, whatever was lent and whatever stood there.
 use Prim.Native.Nat.{ℕ, _*_, _≤_}
 use mathlib.Core.Path.{_≡_, refl, sym, ap, _∙_, subst}
 use mathlib.Core.List.{List}
@@ -9,10 +9,12 @@ use Rattle.words.specs.Limits.{Limits, longestCertificate}
 use Rattle.words.specs.LimitsLaws.{LimitsFit}
 use Rattle.words.specs.Outcome.{Outcome}
 use Rattle.words.specs.Outcome.Outcome.{accepted, refused}
-use Rattle.words.specs.System.{System, SystemWithin, readSystem}
-use Rattle.words.specs.SystemLaws.{system-written-of-read}
-use Rattle.words.specs.Bytes.{bytesOf, readSystemFile, wordBytes}
-use Rattle.words.specs.BytesLaws.{length-bytesOf, file-within}
+use Rattle.words.specs.System.{System, SystemWithin}
+use Rattle.words.specs.Systems.{readLine}
+use Rattle.words.specs.LineLaws.{line-in-within, line-written-of-read}
+use Rattle.words.specs.Bytes.{bytesOf, readLineFile, wordBytes}
+use Rattle.words.specs.BytesLaws.{length-bytesOf}
+use Rattle.words.specs.LineFileLaws.{line-file-within}
 use Rattle.words.specs.Certificate.{Certificate, certificateWords}
 use Rattle.write_frame.specs.Overwriting.{overwritten}
 use Rattle.solve_meaning.specs.ChosenUnique.{chosen-unique}
@@ -54,6 +56,11 @@ pub record Call : Type 0 where
   pub entry : List ℕ
   pub exit : List ℕ
   pub answer : Outcome ℕ
+
+-- both gave the same words, and so many as these are is the answer to both
+abbrev pub SameGiven : Call → Call → Type 0
+SameGiven x y = (given : List ℕ) × GivesWords given (x .entry) (x .exit) (x .answer)
+    × GivesWords given (y .entry) (y .exit) (y .answer)
 
 -- x is a call on what was read, with a certificate's written form and its greatest length
 abbrev pub CallOn : Limits → Outcome System → (Certificate → List ℕ) → ℕ → Call → Type 0
@@ -119,6 +126,25 @@ module _ (limits : Limits) {read read₁ : Outcome System} (same : read ≡ read
         (subst (λ o. SolvesOr limits write o (y .entry) (y .exit) (y .answer))
         (room-enough longest (length (y .entry)) room₁ read₁ ∙ sym same) h₁) .0
 
+    -- and, where a system was read, the words of one certificate
+    pub one-given : (x y : Call) → longest ≤ length (x .entry) → longest ≤ length (y .entry)
+        → CallOn limits read write longest x → CallOn limits read₁ write longest y
+        → {s : System} → read ≡ accepted s → SameGiven x y
+    unfolding SolvesOr
+    one-given x y room room₁ h h₁ {s} is =
+        let g = subst (λ o. SolvesOr limits write o (x .entry) (x .exit) (x .answer))
+        (room-enough longest (length (x .entry)) room read ∙ is) h in
+        let g₁ = subst (λ o. SolvesOr limits write o (y .entry) (y .exit) (y .answer))
+        (room-enough longest (length (y .entry)) room₁ read₁ ∙ sym same ∙ is) h₁ in
+        let c = sym (gives-certificate limits (within s is) (g .2) (g₁ .2)) in (
+          write (g .2 .given .certificate),
+          (g .1 ∙ ap accepted (g .2 .given .same-count), g .2 .given .words),
+          (
+            g₁ .1 ∙ ap accepted (g₁ .2 .given .same-count ∙ ap (λ c. length (write c)) c),
+            g₁ .2 .given .words ∙ ap (λ c. overwritten (write c) (y .entry)) c,
+          ),
+        )
+
     -- where the same is lent, all is the same, room or not
     pub call-unique : (entry : List ℕ) {exit exit₁ : List ℕ} {answer answer₁ : Outcome ℕ}
         → SolvesOr limits write (withRoom longest (length entry) read) entry exit answer
@@ -138,57 +164,59 @@ SameWords x y = (count count₁ : ℕ) → x .answer ≡ accepted count → y .a
 
 module _ (limits : Limits) {s : System} (h : SystemWithin limits s) (room : Suffices limits (s .rows) (s .columns))
     (entry exit : List ℕ) (answer : Outcome ℕ) where
-  pub solved-certificate : (ws : List ℕ) → readSystem limits ws ≡ accepted s → longestCertificate limits ≤ length entry
-      → Solves limits ws entry exit answer → GivesWords (certificateWords (chosenCertificate limits s h room)) entry exit answer
-  solved-certificate ws is = call-certificate limits h room is certificateWords (longestCertificate limits) entry exit answer
+  pub solved-certificate : (k : ℕ) (ws : List ℕ) → readLine limits k ws ≡ accepted s → longestCertificate limits ≤ length entry
+      → Solves limits k ws entry exit answer
+      → GivesWords (certificateWords (chosenCertificate limits s h room)) entry exit answer
+  solved-certificate k ws is = call-certificate limits h room is certificateWords (longestCertificate limits) entry exit answer
 
-  pub file-solved-certificate : (file : List ℕ) → readSystemFile limits file ≡ accepted s
+  pub file-solved-certificate : (k : ℕ) (file : List ℕ) → readLineFile limits k file ≡ accepted s
       → wordBytes * longestCertificate limits ≤ length entry
-      → SolvesFile limits file entry exit answer
+      → SolvesFile limits k file entry exit answer
       → GivesWords (certificateBytes (chosenCertificate limits s h room)) entry exit answer
-  file-solved-certificate file is =
+  file-solved-certificate k file is =
       call-certificate limits h room is certificateBytes (wordBytes * longestCertificate limits) entry exit answer
 
 -- ---- on words
 
 module _ (limits : Limits) (fit : LimitsFit limits) where
-  words-within : (ws : List ℕ) (s : System) → readSystem limits ws ≡ accepted s → SystemWithin limits s
-  words-within ws s e = system-written-of-read limits fit ws s e .1
+  pub words-within : (k : ℕ) (ws : List ℕ) (s : System) → readLine limits k ws ≡ accepted s → SystemWithin limits s
+  words-within k ws s e = line-in-within limits fit k ws (line-written-of-read limits fit k ws e)
 
-  -- words that read as the same system
-  module _ (ws ws₁ : List ℕ) (same : readSystem limits ws ≡ readSystem limits ws₁) where
+  -- lines that read as the same system, whichever number each has
+  module _ (k k₁ : ℕ) (ws ws₁ : List ℕ) (same : readLine limits k ws ≡ readLine limits k₁ ws₁) where
     -- what is left and answered is decided, refusals too
-    pub solves-unique : (entry : List ℕ) {exit exit₁ : List ℕ} {answer answer₁ : Outcome ℕ} → Solves limits ws entry exit answer
-        → Solves limits ws₁ entry exit₁ answer₁ → (exit ≡ exit₁) × (answer ≡ answer₁)
-    solves-unique = call-unique limits same (words-within ws) certificateWords (longestCertificate limits)
+    pub solves-unique : (entry : List ℕ) {exit exit₁ : List ℕ} {answer answer₁ : Outcome ℕ}
+        → Solves limits k ws entry exit answer → Solves limits k₁ ws₁ entry exit₁ answer₁ → (exit ≡ exit₁) × (answer ≡ answer₁)
+    solves-unique = call-unique limits same (words-within k ws) certificateWords (longestCertificate limits)
 
-    module _ (x y : Call) (h : Solves limits ws (x .entry) (x .exit) (x .answer))
-        (h₁ : Solves limits ws₁ (y .entry) (y .exit) (y .answer)) where
+    module _ (x y : Call) (h : Solves limits k ws (x .entry) (x .exit) (x .answer))
+        (h₁ : Solves limits k₁ ws₁ (y .entry) (y .exit) (y .answer)) where
       pub solved-same : SameWords x y
       solved-same count count₁ a a₁ =
-          let c = one-certificate limits same (words-within ws) x y certificateWords certificateWords
+          let c = one-certificate limits same (words-within k ws) x y certificateWords certificateWords
           (longestCertificate limits) (longestCertificate limits) h h₁ a a₁ in
           written-same (c .1) (c .2)
 
       pub solved-answer : longestCertificate limits ≤ length (x .entry) → longestCertificate limits ≤ length (y .entry)
           → x .answer ≡ y .answer
       solved-answer room room₁ =
-          one-answer limits same (words-within ws) certificateWords (longestCertificate limits) x y room room₁ h h₁
+          one-answer limits same (words-within k ws) certificateWords (longestCertificate limits) x y room room₁ h h₁
 
   -- ---- on files
 
-  module _ (file file₁ : List ℕ) (same : readSystemFile limits file ≡ readSystemFile limits file₁) where
+  module _ (k k₁ : ℕ) (file file₁ : List ℕ) (same : readLineFile limits k file ≡ readLineFile limits k₁ file₁) where
     pub file-solves-unique : (entry : List ℕ) {exit exit₁ : List ℕ} {answer answer₁ : Outcome ℕ}
-        → SolvesFile limits file entry exit answer → SolvesFile limits file₁ entry exit₁ answer₁
+        → SolvesFile limits k file entry exit answer → SolvesFile limits k₁ file₁ entry exit₁ answer₁
         → (exit ≡ exit₁) × (answer ≡ answer₁)
     file-solves-unique =
-        call-unique limits same (λ s e. file-within limits fit s file e) certificateBytes (wordBytes * longestCertificate limits)
+        call-unique limits same (λ s e. line-file-within limits k fit s file e) certificateBytes
+        (wordBytes * longestCertificate limits)
 
-    module _ (x y : Call) (h : SolvesFile limits file (x .entry) (x .exit) (x .answer))
-        (h₁ : SolvesFile limits file₁ (y .entry) (y .exit) (y .answer)) where
+    module _ (x y : Call) (h : SolvesFile limits k file (x .entry) (x .exit) (x .answer))
+        (h₁ : SolvesFile limits k₁ file₁ (y .entry) (y .exit) (y .answer)) where
       pub file-solved-same : SameWords x y
       file-solved-same count count₁ a a₁ =
-          let c = one-certificate limits same (λ s e. file-within limits fit s file e) x y
+          let c = one-certificate limits same (λ s e. line-file-within limits k fit s file e) x y
           certificateBytes certificateBytes (wordBytes * longestCertificate limits) (wordBytes * longestCertificate limits)
           h h₁ a a₁ in
           written-same (c .1) (c .2)
@@ -196,17 +224,17 @@ module _ (limits : Limits) (fit : LimitsFit limits) where
       pub file-solved-answer : wordBytes * longestCertificate limits ≤ length (x .entry)
           → wordBytes * longestCertificate limits ≤ length (y .entry)
           → x .answer ≡ y .answer
-      file-solved-answer room room₁ = one-answer limits same (λ s e. file-within limits fit s file e)
+      file-solved-answer room room₁ = one-answer limits same (λ s e. line-file-within limits k fit s file e)
           certificateBytes (wordBytes * longestCertificate limits) x y room room₁ h h₁
 
   -- a file gets the bytes of what its words get
-  pub file-solved-words : (x y : Call) (ws file : List ℕ) → readSystemFile limits file ≡ readSystem limits ws
-      → Solves limits ws (x .entry) (x .exit) (x .answer) → SolvesFile limits file (y .entry) (y .exit) (y .answer)
+  pub file-solved-words : (x y : Call) (k : ℕ) (ws file : List ℕ) → readLineFile limits k file ≡ readLine limits k ws
+      → Solves limits k ws (x .entry) (x .exit) (x .answer) → SolvesFile limits k file (y .entry) (y .exit) (y .answer)
       → {count count₁ : ℕ} → x .answer ≡ accepted count → y .answer ≡ accepted count₁
       → (count₁ ≡ wordBytes * count) × (take count₁ (y .exit) ≡ bytesOf (take count (x .exit)))
   unfolding certificateBytes
-  file-solved-words x y ws file same h h₁ a a₁ =
-      let c = one-certificate limits (sym same) (words-within ws) x y certificateWords certificateBytes
+  file-solved-words x y k ws file same h h₁ a a₁ =
+      let c = one-certificate limits (sym same) (words-within k ws) x y certificateWords certificateBytes
       (longestCertificate limits) (wordBytes * longestCertificate limits) h h₁ a a₁ in (
         c .2 .same-count ∙ length-bytesOf (certificateWords (c .0)) ∙ ap (λ n. wordBytes * n) (sym (c .1 .same-count)),
         c .2 .words ∙ ap bytesOf (sym (c .1 .words)),

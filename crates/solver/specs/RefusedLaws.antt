@@ -1,4 +1,5 @@
--- The solver's refusals, each under its condition only (demand 1): those of the system's words, on files 10 before them, then 11.
+-- The solver's refusals, each under its condition only (demand 1): those of the sheet's words, on files 10 before them, then 40,
+-- then 11.
 use Prim.Native.Nat.{ℕ, _*_, _<_}
 use mathlib.Core.Path.{_≡_, sym, _∙_}
 use mathlib.Core.Logic.{_↔_, inl, inr, ⊎-elim}
@@ -12,14 +13,15 @@ use Rattle.words.specs.Word.{Bytes}
 use Rattle.words.specs.Outcome.{Outcome}
 use Rattle.words.specs.Outcome.Outcome.{accepted, refused}
 use Rattle.words.specs.OutcomeLaws.{refused-accepted, behind-refused-iff}
-use Rattle.words.specs.System.{System, SystemWithin, systemWords, readSystem}
-use Rattle.words.specs.SystemLaws.{system-accepted-iff}
-use Rattle.words.specs.Bytes.{wordsOf, bytesOf, readSystemFile, wordBytes}
-use Rattle.words.specs.BytesLaws.{file-accepted-iff}
+use Rattle.words.specs.System.{System}
+use Rattle.words.specs.Systems.{readLine}
+use Rattle.words.specs.Bytes.{wordsOf, bytesOf, readLineFile, wordBytes}
+use Rattle.words.specs.Line.{LineIn, LineRefused}
+use Rattle.words.specs.LineLaws.{line-accepted-iff, line-refused-iff}
+use Rattle.words.specs.LineFileLaws.{line-file-accepted-iff, line-file-refused-iff, line-file-rows}
 use Rattle.words.specs.Certificate.{Certificate, certificateWords}
-use Rattle.words.specs.Table.{ByTable, systemTable}
-use Rattle.words.specs.TenFirst.{FileRefused}
-use Rattle.words.specs.RefusedLaws.{system-refused-iff, file-refused-iff, system-rows, file-rows}
+use Rattle.words.specs.TenFirst.{LineFileRefused}
+use Rattle.words.specs.SourceLaws.{line-rows}
 use Rattle.words.specs.Rows.{Row, RefusesBy, at-0, solverRows, solverFileRows}
 use Rattle.words.specs.RowLaws.{by-accepted, by-row, by-followed}
 use Rattle.solver.specs.Solving.{withRoom, certificateBytes, SolvesOr, Solves, SolvesFile}
@@ -66,34 +68,34 @@ module _ (limits : Limits) where
   room-rows longest lent read h = by-followed read _ h (λ s _. by-row (ltb lent longest) 11 (by-accepted s))
 
   -- on words
-  module _ (ws entry exit : List ℕ) (answer : Outcome ℕ) (h : Solves limits ws entry exit answer) where
+  module _ (k : ℕ) (ws entry exit : List ℕ) (answer : Outcome ℕ) (h : Solves limits k ws entry exit answer) where
     pub solve-refused-iff : LimitsFit limits → (number place : ℕ) → (answer ≡ refused number place)
-        ↔ RoomLast (ByTable (systemTable limits) 0 ws) (λ s. (ws ≡ systemWords s) × SystemWithin limits s)
+        ↔ RoomLast (LineRefused limits k ws) (λ s. LineIn limits k s ws)
         (longestCertificate limits) (length entry) number place
     solve-refused-iff fit number place =
         let answered = answer-refused-iff certificateWords _ entry exit answer h number place in
-        let room = room-refused-iff _ _ (longestCertificate limits) (length entry) (readSystem limits ws)
-        (system-refused-iff limits ws)
-        (system-accepted-iff limits fit ws) number place in
+        let room = room-refused-iff _ _ (longestCertificate limits) (length entry) (readLine limits k ws)
+        (line-refused-iff limits fit k ws) (line-accepted-iff limits fit k ws) number place in
         (λ e. room .0 (answered .0 e), λ r. answered .1 (room .1 r))
 
-    -- 1 to 9, and 11 at 0
+    -- 1 to 9, 40 at 0, and 11 at 0
     pub solve-rows : RefusesBy (solverRows ws) answer
     solve-rows = answer-rows certificateWords _ entry exit answer h
-        (room-rows (longestCertificate limits) (length entry) (readSystem limits ws) (system-rows limits ws))
+        (room-rows (longestCertificate limits) (length entry) (readLine limits k ws) (line-rows limits k .in-rows ws))
 
   -- on files
-  module _ (file entry exit : List ℕ) (answer : Outcome ℕ) (h : SolvesFile limits file entry exit answer) where
+  module _ (k : ℕ) (file entry exit : List ℕ) (answer : Outcome ℕ) (h : SolvesFile limits k file entry exit answer) where
     pub solve-file-refused-iff : LimitsFit limits → Bytes file → (number place : ℕ) → (answer ≡ refused number place)
-        ↔ RoomLast (FileRefused limits file) (λ s. (file ≡ bytesOf (systemWords s)) × SystemWithin limits s)
+        ↔ RoomLast (LineFileRefused limits k file) (λ s. (ws : List ℕ) × (file ≡ bytesOf ws) × LineIn limits k s ws)
         (wordBytes * longestCertificate limits) (length entry) number place
     solve-file-refused-iff fit small number place =
         let answered = answer-refused-iff certificateBytes _ entry exit answer h number place in
-        let room = room-refused-iff _ _ (wordBytes * longestCertificate limits) (length entry) (readSystemFile limits file)
-        (file-refused-iff limits file) (λ s. file-accepted-iff limits fit s file small) number place in
+        let room = room-refused-iff _ _ (wordBytes * longestCertificate limits) (length entry) (readLineFile limits k file)
+        (line-file-refused-iff limits k fit file) (λ s. line-file-accepted-iff limits k fit s file small) number place in
         (λ e. room .0 (answered .0 e), λ r. answered .1 (room .1 r))
 
-    -- 10 at 0, 1 to 9, and 11 at 0
+    -- 10 at 0, 1 to 9, 40 at 0, and 11 at 0
     pub solve-file-rows : RefusesBy (solverFileRows (wordsOf file)) answer
     solve-file-rows = answer-rows certificateBytes _ entry exit answer h
-        (room-rows (wordBytes * longestCertificate limits) (length entry) (readSystemFile limits file) (file-rows limits file))
+        (room-rows (wordBytes * longestCertificate limits) (length entry) (readLineFile limits k file)
+        (line-file-rows limits k file))

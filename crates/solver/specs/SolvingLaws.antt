@@ -1,5 +1,5 @@
 -- Demand 3, its last sentence: "for every sheet within the limits, whatever stood in the lent space, the solver gives a card there,
--- and the check accepts it".
+-- and the check accepts it", "for each right side that the sheet has, by itself" (document 02, item 1).
 use Prim.Native.Nat.{ℕ, _<_, _≤_}
 use mathlib.Core.Path.{_≡_, refl, sym, ap, _∙_, subst}
 use mathlib.Core.Bool.{Bool, true, false}
@@ -14,8 +14,10 @@ use Rattle.words.specs.LimitsLaws.{LimitsFit}
 use Rattle.words.specs.Outcome.{Outcome, refuse}
 use Rattle.words.specs.Outcome.Outcome.{accepted, refused}
 use Rattle.words.specs.OutcomeLaws.{refused-accepted, followedBy-accepted, refuse-passed}
-use Rattle.words.specs.System.{System, SystemWithin, systemWords, readSystem}
-use Rattle.words.specs.SystemLaws.{system-read-of-written, system-written-of-read}
+use Rattle.words.specs.System.{System}
+use Rattle.words.specs.Systems.{Systems, SystemsWithin, systemsWords, line, readLine}
+use Rattle.words.specs.Line.{LineIn}
+use Rattle.words.specs.LineLaws.{line-read-of-written, line-written-of-read}
 use Rattle.words.specs.Certificate.{Certificate, certificateWords}
 use Rattle.truth.specs.Verdict.{verdict}
 use Rattle.truth.specs.Accepted.{accepted-of-words}
@@ -83,40 +85,43 @@ solved-gives limits write longest lent (accepted s) entry exit answer h count a 
     go true h = absurd (refused-accepted (sym (h .0) ∙ a))
     go false h = (s, refl, subst (Gives limits write s entry exit) (accepted-same (sym (h .1) ∙ a)) (h .2))
 
-module _ (limits : Limits) (fit : LimitsFit limits) (ws entry exit : List ℕ) (answer : Outcome ℕ) where
+module _ (limits : Limits) (fit : LimitsFit limits) (k : ℕ) (ws entry exit : List ℕ) (answer : Outcome ℕ) where
   -- the check accepts what the solver gives
-  pub gives-accepted : {s : System} {count : ℕ} → readSystem limits ws ≡ accepted s
-      → GivesRight limits certificateWords s entry exit count → verdict limits ws (take count exit) ≡ accepted tt
+  pub gives-accepted : {s : System} {count : ℕ} → readLine limits k ws ≡ accepted s
+      → GivesRight limits certificateWords s entry exit count → verdict limits k ws (take count exit) ≡ accepted tt
   gives-accepted {s} {count} e G =
-      let read = system-written-of-read limits fit ws s e in
-      accepted-of-words limits fit ws (take count exit) (record {
+      accepted-of-words limits fit k ws (take count exit) (record {
         system = s;
         certificate = G .certificate;
-        system-words = read .0;
-        system-within = read .1;
+        system-words = line-written-of-read limits fit k ws e;
         certificate-words = gives-words G;
         certificate-within = G .within;
         holds = G .right;
       })
 
-  pub solved-accepted : Solves limits ws entry exit answer → (count : ℕ) → answer ≡ accepted count
-      → verdict limits ws (take count exit) ≡ accepted tt
+  pub solved-accepted : Solves limits k ws entry exit answer → (count : ℕ) → answer ≡ accepted count
+      → verdict limits k ws (take count exit) ≡ accepted tt
   solved-accepted h count a =
-      let given = solved-gives limits certificateWords (longestCertificate limits) (length entry) (readSystem limits ws)
+      let given = solved-gives limits certificateWords (longestCertificate limits) (length entry) (readLine limits k ws)
       entry exit answer h count a in
       gives-accepted (given .1) (given .2 .given)
 
--- for every system within the limits there is an answer
-module _ (limits : Limits) (fit : LimitsFit limits) (s : System) (within : SystemWithin limits s) (entry exit : List ℕ)
-    (room : longestCertificate limits ≤ length entry) (answer : Outcome ℕ) where
-  to-solve : systemToSolve limits (length entry) (systemWords s) ≡ accepted s
-  to-solve =
-      room-enough (longestCertificate limits) (length entry) room (readSystem limits (systemWords s))
-      ∙ system-read-of-written limits fit s within
+-- a written form has each of its lines
+module _ (limits : Limits) (s : Systems) (within : SystemsWithin limits s) (k : ℕ) (has : k < s .head .sides) where
+  pub line-of-written : LineIn limits k (line s k) (systemsWords s)
+  line-of-written = record { systems = s; words = refl; within = within; has = has; is = refl }
 
-  pub every-system-solved : Solves limits (systemWords s) entry exit answer
-      → (count : ℕ) × (answer ≡ accepted count) × (verdict limits (systemWords s) (take count exit) ≡ accepted tt)
-  unfolding SolvesOr
-  every-system-solved h =
-      let given = subst (λ o. SolvesOr limits certificateWords o entry exit answer) to-solve h in
-      (given .0, given .1, solved-accepted limits fit (systemWords s) entry exit answer h (given .0) (given .1))
+  -- for every system within the limits and each of its right sides there is an answer
+  module _ (fit : LimitsFit limits) (entry exit : List ℕ) (room : longestCertificate limits ≤ length entry)
+      (answer : Outcome ℕ) where
+    to-solve : systemToSolve limits k (length entry) (systemsWords s) ≡ accepted (line s k)
+    to-solve =
+        room-enough (longestCertificate limits) (length entry) room (readLine limits k (systemsWords s))
+        ∙ line-read-of-written limits fit k (systemsWords s) line-of-written
+
+    pub every-system-solved : Solves limits k (systemsWords s) entry exit answer
+        → (count : ℕ) × (answer ≡ accepted count) × (verdict limits k (systemsWords s) (take count exit) ≡ accepted tt)
+    unfolding SolvesOr
+    every-system-solved h =
+        let given = subst (λ o. SolvesOr limits certificateWords o entry exit answer) to-solve h in
+        (given .0, given .1, solved-accepted limits fit k (systemsWords s) entry exit answer h (given .0) (given .1))

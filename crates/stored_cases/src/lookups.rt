@@ -1,5 +1,5 @@
-// The lookup. What is asked for is one more list of two words: the side, 0 for the system and 1 for the certificate, and the number
-// of the polynomial.
+// The lookup. What is asked for is one more list of two words: 0 for the system and 1 for the certificate, and the number of the
+// polynomial.
 use crate::input::read_words;
 use crate::output::print;
 use crate::output::refused;
@@ -7,38 +7,34 @@ use crate::output::text;
 use crate::output::words;
 use answers::Verdict;
 use limits::Office;
-use lookup::Side;
+use lookup::Of;
 use lookup::lookup;
 use lookup::lookup_part;
 use lookup::lookup_refusal;
 use lookup::part::Part;
 
-// Gives the side that a word asks for.
-fn side_of(n: u32) -> Side {
-    if n == 0 {
-        Side::System
-    } else {
-        Side::Certificate
-    }
+// Gives the one that a word asks for.
+fn asked_of(n: u32) -> Of {
+    if n == 0 { Of::System } else { Of::Certificate }
 }
 
 // Prints from where to where a polynomial stands, and its words.
-fn show<'a>(system: &'a [u32], certificate: &'a [u32], side: Side, number: usize) {
-    let part = lookup_part(system, certificate, side, number, Office::limits());
+fn show<'a>(system: &'a [u32], certificate: &'a [u32], of: Of, number: usize) {
+    let part = lookup_part(system, certificate, of, number, Office::limits());
     let Part::Words(from, to) = part else {
         return;
     };
     print(b"0 to 1: ", [from as u64, to as u64, 0, 0]);
-    words(lookup(system, certificate, side, number, Office::limits()));
+    words(lookup(system, certificate, of, number, Office::limits()));
     text(b"\n");
 }
 
 // Looks up a polynomial.
-fn look_up<'a>(system: &'a [u32], certificate: &'a [u32], side: Side, number: u32) {
+fn look_up<'a>(system: &'a [u32], certificate: &'a [u32], of: Of, number: u32) {
     let number = number as usize;
-    let found = lookup_refusal(system, certificate, side, number, Office::limits());
+    let found = lookup_refusal(system, certificate, of, number, Office::limits());
     match found {
-        Verdict::Accepted => show(system, certificate, side, number),
+        Verdict::Accepted => show(system, certificate, of, number),
         Verdict::Refused(refusal) => refused(refusal),
     }
 }
@@ -47,5 +43,5 @@ fn look_up<'a>(system: &'a [u32], certificate: &'a [u32], side: Side, number: u3
 pub fn answer<'a>(system: &'a [u32], certificate: &'a [u32]) {
     let mut asked = [0u32; 2];
     read_words(&mut asked);
-    look_up(system, certificate, side_of(asked[0]), asked[1]);
+    look_up(system, certificate, asked_of(asked[0]), asked[1]);
 }

@@ -24,11 +24,23 @@ use reader::system::read_system;
 use reading::describe;
 use verifier::check;
 
+// Checks for a right side.
+fn check_side(system: &[u32], certificate: &[u32], side: u32) {
+    verdict(check(system, certificate, side as usize));
+}
+
+// Reads which right side is meant, and checks.
+fn try_check(system: &[u32], certificate: &[u32]) {
+    let mut told = [0u32; 1];
+    read_words(&mut told);
+    check_side(system, certificate, told[0]);
+}
+
 // Tries a call on the words of a system and those of a certificate.
 fn try_both<'a>(call: u32, system: &'a [u32], certificate: &'a [u32]) {
     match call {
         9 => reading::answer_certificate(system, certificate),
-        10 => verdict(check(system, certificate)),
+        10 => try_check(system, certificate),
         _ => lookups::answer(system, certificate),
     }
 }
@@ -54,8 +66,9 @@ fn try_bytes(call: u32, bytes: &[u8]) {
     match call {
         5 => line(bytes),
         6 => describe(read_system_file(bytes)),
-        7 => reading::show(read_system_file(bytes), b"read 0 1 2\n"),
-        _ => solution::answer(bytes),
+        7 => reading::show(read_system_file(bytes), b"read 0 1 2 3\n"),
+        8 => solution::answer(bytes),
+        _ => solution::answer_side(bytes),
     }
 }
 
@@ -82,7 +95,7 @@ fn try_next() -> bool {
     let call = read_number();
     match call {
         1..=4 | 9..=11 => with_words(call),
-        5..=8 => with_bytes(call),
+        5..=8 | 12 => with_bytes(call),
         _ => return false,
     }
     true

@@ -9,7 +9,7 @@ ghost use Rattle.words.specs.Limits.{office};
 ghost use Rattle.limits.specs.Counts.{systemPolynomials};
 
 // The place of the first polynomial in a case.
-const FIRST: usize = 5;
+const FIRST: usize = 6;
 
 // One more than the largest word.
 const BOUND: u64 = 4294967296;

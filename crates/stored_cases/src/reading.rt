@@ -10,25 +10,28 @@ use limits::Office;
 use reader::certificate::read_certificate;
 use reader::system::read_system;
 
-// Prints p, n and m in a text, or the refusal.
+// Prints p, n, m and the number of right sides in a text, or the refusal.
 pub fn show(read: SystemRead, form: &[u8]) {
     match read {
-        SystemRead::Accepted(shape) => print(
-            form,
-            [
-                shape.modulus as u64,
-                shape.rows as u64,
-                shape.columns as u64,
-                0,
-            ],
-        ),
+        SystemRead::Accepted(head) => {
+            let shape = head.shape;
+            print(
+                form,
+                [
+                    shape.modulus as u64,
+                    shape.rows as u64,
+                    shape.columns as u64,
+                    head.sides as u64,
+                ],
+            );
+        }
         SystemRead::Refused(refusal) => refused(refusal),
     }
 }
 
-// Prints p, n and m in words, or the refusal.
+// Prints p, n, m and the number of right sides in words, or the refusal.
 pub fn describe(read: SystemRead) {
-    show(read, b"system modulo 0, rows 1, columns 2\n");
+    show(read, b"system modulo 0, rows 1, columns 2, right sides 3\n");
 }
 
 // Reads a certificate for a system that was read.
@@ -47,7 +50,10 @@ fn answer_for(certificate: &[u32], shape: Shape) {
 pub fn answer_certificate(system: &[u32], certificate: &[u32]) {
     let read = read_system(system, Office::limits());
     match read {
-        SystemRead::Accepted(shape) => answer_for(certificate, shape),
+        SystemRead::Accepted(head) => {
+            let shape = head.shape;
+            answer_for(certificate, shape);
+        }
         SystemRead::Refused(refusal) => refused(refusal),
     }
 }

@@ -1,5 +1,5 @@
-// The writers. A case is its kind, p, n, m, the number of lent words, and the polynomials. Of one that lends too many there is no
-// line.
+// The writers. A case is its kind, p, n, m, the number of right sides, that of lent words, and the polynomials. Of one that lends
+// too many there is no line.
 use crate::input::WORDS;
 use crate::input::word;
 use crate::output::print;
@@ -21,7 +21,7 @@ const MOST: usize = 4096;
 
 // Lends as many words as the case says, and has them written.
 pub fn answer(case: &[u32; WORDS]) {
-    let lent = word(case, 4) as usize;
+    let lent = word(case, 5) as usize;
     if MOST < lent {
         return;
     }
@@ -53,7 +53,15 @@ fn system(words: &mut [u32], case: &[u32; WORDS]) -> Counted {
     let mut coefficients = [0u64; SYSTEM_VALUES];
     let limit = Office::COEFFICIENTS as usize;
     unpack(&mut sizes, &mut coefficients, case, limit, limit);
-    write_system(words, &sizes, &coefficients, case[2], case[3], case[1])
+    write_system(
+        words,
+        &sizes,
+        &coefficients,
+        case[2],
+        case[3],
+        case[4],
+        case[1],
+    )
 }
 
 // Writes a certificate.

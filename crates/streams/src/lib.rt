@@ -1,5 +1,7 @@
 // Standard input and standard output of the programs, and how much of a file they look at. What fails is said on standard error,
-// with the system's reason.
+// with the system's reason. `side` reads the number of a right side.
+pub mod side;
+
 ghost use mathlib.Core.Path.{_≡_};
 ghost use lib.ListN.{length};
 ghost use Rattle.streams.specs.Reading.{ReadWithin};

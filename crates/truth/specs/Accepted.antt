@@ -21,8 +21,11 @@ use Rattle.words.specs.Certificate.Certificate.{solution, absence}
 use Rattle.words.specs.Outcome.{Outcome, refuse}
 use Rattle.words.specs.Outcome.Outcome.{accepted}
 use Rattle.words.specs.OutcomeLaws.{refuse-passed, passed-refuse}
-use Rattle.words.specs.Pair.{WrittenPair}
+use Rattle.words.specs.Line.{LineIn}
+use Rattle.words.specs.LineLaws.{line-in-within}
+use Rattle.words.specs.Pair.{WrittenPair, oneLine}
 use Rattle.words.specs.PairLaws.{written-map, pair-of-written, pair-accepted-iff}
+use Rattle.words.specs.SourceLaws.{line-laws}
 use Rattle.truth.specs.Solution.{AllCanonical, Monic, DividesModulo, rowOf, columnOf, sideOf}
 use Rattle.truth.specs.Right.{RightSolution, RightAbsence, Right, certified}
 use Rattle.truth.specs.Verdict.{monic?, zero?, same?, refuseFirst, solutionVerdict, absenceVerdict, certificateVerdict}
@@ -155,9 +158,9 @@ module _ (s : System) (q : List (List ℕ)) where
 
 -- ---- demand 2
 
--- the words are the written forms of a system within the limits and of a right certificate for it
-abbrev pub AcceptedWords : Limits → (ws cs : List ℕ) → Type 0
-AcceptedWords limits ws cs = WrittenPair limits Right ws cs
+-- the words are the written forms of systems within the limits that have right side k, and of a right certificate for its line
+abbrev pub AcceptedWords : Limits → (k : ℕ) → (ws cs : List ℕ) → Type 0
+AcceptedWords limits k ws cs = WrittenPair limits (oneLine limits k) Right ws cs
 
 module _ (limits : Limits) (fit : LimitsFit limits) where
   pub verdict-right : (s : System) (h : SystemWithin limits s) (c : Certificate) → CertificateWithin limits (shape s) c
@@ -172,19 +175,32 @@ module _ (limits : Limits) (fit : LimitsFit limits) where
   right-verdict s h (solution d N w Z) k r = right-accepted s (proper limits s h) (proper-solution limits s d N w Z k) r
   right-verdict s h (absence q) k r = absent-accepted s q r
 
-  -- the verdict on written forms is that on what they are written of
-  pub verdict-of-written : {Of : System → Certificate → Type 0} {ws cs : List ℕ} (w : WrittenPair limits Of ws cs)
-      → verdict limits ws cs ≡ certificateVerdict (w .system) (w .certificate)
-  unfolding verdict
-  verdict-of-written {ws = ws} {cs} w = pair-of-written limits fit certificateVerdict ws cs w
+  -- for each right side by itself
+  module _ (k : ℕ) where
+    -- the verdict on written forms is that on what they are written of
+    pub verdict-of-written : {Of : System → Certificate → Type 0} {ws cs : List ℕ}
+        (w : WrittenPair limits (oneLine limits k) Of ws cs)
+        → verdict limits k ws cs ≡ certificateVerdict (w .system) (w .certificate)
+    unfolding verdict
+    verdict-of-written {ws = ws} {cs} w =
+        pair-of-written limits (oneLine limits k) certificateVerdict ws cs fit (line-laws limits fit k) w
 
-  pub words-of-accepted : (ws cs : List ℕ) → verdict limits ws cs ≡ accepted tt → AcceptedWords limits ws cs
-  unfolding verdict
-  words-of-accepted ws cs e = written-map limits verdict-right (pair-accepted-iff limits fit certificateVerdict ws cs tt .0 e)
+    module _ (ws cs : List ℕ) where
+      within : {s : System} → LineIn limits k s ws → SystemWithin limits s
+      within = line-in-within limits fit k ws
 
-  pub accepted-of-words : (ws cs : List ℕ) → AcceptedWords limits ws cs → verdict limits ws cs ≡ accepted tt
-  unfolding verdict
-  accepted-of-words ws cs a = pair-accepted-iff limits fit certificateVerdict ws cs tt .1 (written-map limits right-verdict a)
+      values-accepted : (verdict limits k ws cs ≡ accepted tt)
+          ↔ WrittenPair limits (oneLine limits k) (λ s c. certificateVerdict s c ≡ accepted tt) ws cs
+      unfolding verdict
+      values-accepted = pair-accepted-iff limits (oneLine limits k) certificateVerdict ws cs fit (line-laws limits fit k) tt
 
-  pub accepted-iff : (ws cs : List ℕ) → (verdict limits ws cs ≡ accepted tt) ↔ AcceptedWords limits ws cs
-  accepted-iff ws cs = (words-of-accepted ws cs, accepted-of-words ws cs)
+      pub words-of-accepted : verdict limits k ws cs ≡ accepted tt → AcceptedWords limits k ws cs
+      words-of-accepted e =
+          written-map limits (oneLine limits k) (λ s h. verdict-right s (within h)) (values-accepted .0 e)
+
+      pub accepted-of-words : AcceptedWords limits k ws cs → verdict limits k ws cs ≡ accepted tt
+      accepted-of-words a =
+          values-accepted .1 (written-map limits (oneLine limits k) (λ s h. right-verdict s (within h)) a)
+
+      pub accepted-iff : (verdict limits k ws cs ≡ accepted tt) ↔ AcceptedWords limits k ws cs
+      accepted-iff = (words-of-accepted, accepted-of-words)

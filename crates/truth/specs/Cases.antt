@@ -1,5 +1,6 @@
 -- The starred systems of document 01, "Systems to try", in one table: a system, a certificate, and what the check says.
--- `cases-hold` is one proposition over its rows: the written forms read back, and the verdict on them is the expected one.
+-- `cases-hold` is one proposition over its rows: the written forms, with one right side, read back, and the verdict on them is the
+-- expected one.
 use Prim.Native.Nat.{ℕ}
 use mathlib.Core.Path.{_≡_, refl, _∙_, ap}
 use mathlib.Core.List.{List, [], _∷_, map}
@@ -7,7 +8,8 @@ use Rattle.words.specs.Limits.{office}
 use Rattle.words.specs.LimitsLaws.{office-fits}
 use Rattle.words.specs.Outcome.{Outcome}
 use Rattle.words.specs.Outcome.Outcome.{accepted, refused}
-use Rattle.words.specs.System.{System, shape, systemWords, readSystem}
+use Rattle.words.specs.System.{System, shape}
+use Rattle.words.specs.Systems.{systemsWords, single, readLine}
 use Rattle.words.specs.Certificate.{Certificate, certificateWords, readCertificate}
 use Rattle.words.specs.Certificate.Certificate.{solution, absence}
 use Rattle.truth.specs.Verdict.{verdict}
@@ -78,9 +80,9 @@ pub record CaseOutcome : Type 0 where
 
 abbrev pub caseOutcome : Case → CaseOutcome
 caseOutcome c = record {
-  system = readSystem office (systemWords (c .system));
+  system = readLine office 0 (systemsWords (single (c .system)));
   certificate = readCertificate office (shape (c .system)) (certificateWords (c .certificate));
-  verdict = verdict office (systemWords (c .system)) (certificateWords (c .certificate));
+  verdict = verdict office 0 (systemsWords (single (c .system))) (certificateWords (c .certificate));
 }
 
 -- the values read back, and the expected verdict
@@ -89,18 +91,18 @@ wanted c = record { system = accepted (c .system); certificate = accepted (c .ce
 
 -- the one proposition over all rows
 pub cases-hold : map caseOutcome cases ≡ map wanted cases
-unfolding cases verdict systemWords certificateWords
+unfolding cases verdict systemsWords single certificateWords
 cases-hold = refl
 
 -- what an accepted row's certificate says is true: its d is the least denominator, or there is no solution
 pub row-true : (c : Case) → caseOutcome c ≡ wanted c → c .expected ≡ accepted tt → True (c .system) (c .certificate)
-row-true c r e = verdict-true office office-fits (c .system) (c .certificate)
+row-true c r e = verdict-true office office-fits 0 (c .system) (c .certificate) (systemsWords (single (c .system)))
     (ap (λ t. t .system) r) (ap (λ t. t .certificate) r) (ap (λ t. t .verdict) r ∙ e)
 
 -- case 1's words as document 01 prints them
-pub case-1-system : systemWords case-1
+pub case-1-system : systemsWords (single case-1)
     ≡ 269549570 ∷ 536870914 ∷ 805306368 ∷ 805306369 ∷ 536870913 ∷ 805306369 ∷ 1073741831 ∷ []
-unfolding systemWords
+unfolding systemsWords single
 case-1-system = refl
 
 pub case-1-certificate : certificateWords (solution x (𝟙 ∷ []) x (𝟙 ∷ []))

@@ -12,7 +12,9 @@ use Rattle.words.specs.Outcome.Outcome.{accepted}
 use Rattle.words.specs.System.{System, shape, SystemWithin}
 use Rattle.words.specs.Certificate.{Certificate, CertificateWithin}
 use Rattle.words.specs.Certificate.Certificate.{solution, absence}
-use Rattle.words.specs.Pair.{WrittenPair}
+use Rattle.words.specs.Line.{LineIn}
+use Rattle.words.specs.LineLaws.{line-in-within}
+use Rattle.words.specs.Pair.{WrittenPair, oneLine}
 use Rattle.words.specs.PairLaws.{written-map}
 use Rattle.truth.specs.Right.{Right}
 use Rattle.truth.specs.Verdict.{verdict}
@@ -20,9 +22,10 @@ use Rattle.truth.specs.Accepted.{AcceptedWords, words-of-accepted, accep
 use Rattle.truth.specs.Certified.{Certified}
 use Rattle.truth.specs.CertifiedLaws.{right-iff-certified, absent-iff-certified}
 
--- the words are the written forms of a system within the limits and of a certificate of which the conditions hold
-abbrev pub CertifiedWords : Limits → (ws cs : List ℕ) → Type 0
-CertifiedWords limits ws cs = WrittenPair limits Certified ws cs
+-- the words are the written forms of systems within the limits that have right side k, and of a certificate of which the conditions
+-- hold for its line
+abbrev pub CertifiedWords : Limits → (k : ℕ) → (ws cs : List ℕ) → Type 0
+CertifiedWords limits k ws cs = WrittenPair limits (oneLine limits k) Certified ws cs
 
 module _ (limits : Limits) where
   -- of values within the limits
@@ -37,15 +40,19 @@ module _ (limits : Limits) where
       one-nonzero : ¬ (_≡_ {A = List ℕ} (1 ∷ []) [])
       one-nonzero e = let z : _≡_ {A = ℕ} 0 1 = cc in omega arith
 
-  pub words-iff-certified : (ws cs : List ℕ) → AcceptedWords limits ws cs ↔ CertifiedWords limits ws cs
-  words-iff-certified ws cs = (
-    written-map limits (λ s h c k. within-certified s h c k .0),
-    written-map limits (λ s h c k. within-certified s h c k .1),
-  )
+  module _ (fit : LimitsFit limits) (k : ℕ) (ws cs : List ℕ) where
+    line-certified : (s : System) → LineIn limits k s ws → (c : Certificate) → CertificateWithin limits (shape s) c
+        → Right s c ↔ Certified s c
+    line-certified s h = within-certified s (line-in-within limits fit k ws h)
 
-  pub accepted-iff-certified : LimitsFit limits → (ws cs : List ℕ) → (verdict limits ws cs ≡ accepted tt)
-      ↔ CertifiedWords limits ws cs
-  accepted-iff-certified fit ws cs = (
-    λ e. words-iff-certified ws cs .0 (words-of-accepted limits fit ws cs e),
-    λ a. accepted-of-words limits fit ws cs (words-iff-certified ws cs .1 a),
-  )
+    pub words-iff-certified : AcceptedWords limits k ws cs ↔ CertifiedWords limits k ws cs
+    words-iff-certified = (
+      written-map limits (oneLine limits k) (λ s h c m. line-certified s h c m .0),
+      written-map limits (oneLine limits k) (λ s h c m. line-certified s h c m .1),
+    )
+
+    pub accepted-iff-certified : (verdict limits k ws cs ≡ accepted tt) ↔ CertifiedWords limits k ws cs
+    accepted-iff-certified = (
+      λ e. words-iff-certified .0 (words-of-accepted limits fit k ws cs e),
+      λ a. accepted-of-words limits fit k ws cs (words-iff-certified .1 a),
+    )

@@ -5,12 +5,13 @@ use mathlib.Core.List.{List}
 use Rattle.words.specs.Limits.{Limits}
 use Rattle.words.specs.LimitsLaws.{LimitsFit}
 use Rattle.words.specs.Outcome.Outcome.{accepted}
-use Rattle.words.specs.System.{System, SystemWithin, shape, systemWords, readSystem}
-use Rattle.words.specs.SystemLaws.{system-written-of-read}
+use Rattle.words.specs.System.{System, SystemWithin, shape}
+use Rattle.words.specs.Systems.{readLine}
+use Rattle.words.specs.LineLaws.{line-written-of-read, line-in-within}
 use Rattle.words.specs.Certificate.{Certificate, CertificateWithin, certificateWords, readCertificate}
 use Rattle.words.specs.CertificateLaws.{certificate-written-of-read}
 use Rattle.words.specs.Certificate.Certificate.{solution, absence}
-use Rattle.words.specs.Pair.{WrittenPair}
+use Rattle.words.specs.Pair.{WrittenPair, oneLine}
 use Rattle.truth.specs.Solution.{RationalSolution, Denominator, LeastDenominator}
 use Rattle.truth.specs.Right.{Right}
 use Rattle.truth.specs.Verdict.{verdict}
@@ -40,26 +41,31 @@ module _ (limits : Limits) where
   right-true s h (absence q) k r =
       right-absent s (proper limits s h) q (all-canonical (s .modulus) (limits .certificateCoefficients) q (k .entries)) r
 
-  pub accepted-true : (fit : LimitsFit limits) (ws cs : List ℕ) → verdict limits ws cs ≡ accepted tt
-      → (a : AcceptedWords limits ws cs) × True (a .system) (a .certificate)
-  accepted-true fit ws cs e =
-      let a = words-of-accepted limits fit ws cs e in
-      (a, right-true (a .system) (a .system-within) (a .certificate) (a .certificate-within) (a .holds))
+  module _ (fit : LimitsFit limits) (k : ℕ) where
+    -- what words of a right certificate say of their line
+    pub words-true : {ws cs : List ℕ} (a : AcceptedWords limits k ws cs) → True (a .system) (a .certificate)
+    words-true {ws} a =
+        let h = line-in-within limits fit k ws (a .system-words) in
+        right-true (a .system) h (a .certificate) (a .certificate-within) (a .holds)
 
-  -- so also of a system and a certificate whose written forms read back as themselves
-  pub verdict-true : (fit : LimitsFit limits) (s : System) (c : Certificate) → readSystem limits (systemWords s) ≡ accepted s
-      → readCertificate limits (shape s) (certificateWords c) ≡ accepted c
-      → verdict limits (systemWords s) (certificateWords c) ≡ accepted tt → True s c
-  verdict-true fit s c e f g =
-      let h = system-written-of-read limits fit (systemWords s) s e .1 in
-      let k = certificate-written-of-read limits (shape s) (certificateWords c) c f .1 in
-      let w : WrittenPair limits (λ s c. Unit {0}) (systemWords s) (certificateWords c) = record {
-        system = s;
-        certificate = c;
-        system-words = refl;
-        system-within = h;
-        certificate-words = refl;
-        certificate-within = k;
-        holds = tt;
-      } in
-      right-true s h c k (verdict-right limits fit s h c k (sym (verdict-of-written limits fit w) ∙ g))
+    pub accepted-true : (ws cs : List ℕ) → verdict limits k ws cs ≡ accepted tt
+        → (a : AcceptedWords limits k ws cs) × True (a .system) (a .certificate)
+    accepted-true ws cs e = let a = words-of-accepted limits fit k ws cs e in (a, words-true a)
+
+    -- so also of a system that is read as a line, and of a certificate whose written form reads back as itself
+    pub verdict-true : (s : System) (c : Certificate) (ws : List ℕ) → readLine limits k ws ≡ accepted s
+        → readCertificate limits (shape s) (certificateWords c) ≡ accepted c
+        → verdict limits k ws (certificateWords c) ≡ accepted tt → True s c
+    verdict-true s c ws e f g =
+        let l = line-written-of-read limits fit k ws e in
+        let h = line-in-within limits fit k ws l in
+        let m = certificate-written-of-read limits (shape s) (certificateWords c) c f .1 in
+        let w : WrittenPair limits (oneLine limits k) (λ s c. Unit {0}) ws (certificateWords c) = record {
+          system = s;
+          certificate = c;
+          system-words = l;
+          certificate-words = refl;
+          certificate-within = m;
+          holds = tt;
+        } in
+        right-true s h c m (verdict-right limits fit s h c m (sym (verdict-of-written limits fit k w) ∙ g))

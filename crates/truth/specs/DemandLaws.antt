@@ -7,7 +7,9 @@ use Rattle.words.specs.Limits.{Limits}
 use Rattle.words.specs.LimitsLaws.{LimitsFit}
 use Rattle.words.specs.Outcome.Outcome.{accepted}
 use Rattle.words.specs.System.{System, SystemWithin, shape}
-use Rattle.words.specs.SystemLaws.{systemWords-injective}
+use Rattle.words.specs.Systems.{readLine}
+use Rattle.words.specs.Line.{LineIn}
+use Rattle.words.specs.LineLaws.{line-read-of-written, line-in-within}
 use Rattle.words.specs.Certificate.{Certificate, CertificateWithin, certificateForm, formWord, certificateWords}
 use Rattle.words.specs.Certificate.Certificate.{solution, absence}
 use Rattle.words.specs.Frame.{framedWords}
@@ -15,7 +17,7 @@ use Rattle.truth.specs.Solution.{RationalSolution, DividesModulo, Denomi
 use Rattle.truth.specs.Verdict.{verdict}
 use Rattle.truth.specs.Truth.{least-unique}
 use Rattle.truth.specs.Accepted.{AcceptedWords, words-of-accepted, proper}
-use Rattle.truth.specs.Demand.{True, right-true}
+use Rattle.truth.specs.Demand.{True, right-true, words-true}
 use Rattle.truth.specs.Certified.{Certified}
 use Rattle.truth.specs.CertifiedWords.{within-certified}
 
@@ -59,6 +61,10 @@ true-agree limits s h (solution d N w Z) (absence q) t u = u N d (t .solves)
 true-agree limits s h (absence q) (solution d N w Z) t u = t N d (u .solves)
 true-agree limits s h (absence q) (absence r) t u = tt
 
+pub same-agree : (limits : Limits) {s t : System} → t ≡ s → SystemWithin limits s → (c e : Certificate) → True s c → True t e
+    → Agree c e
+same-agree limits {s} same h c e x y = true-agree limits s h c e x (subst (λ u. True u e) same y)
+
 pub agree-form : (c e : Certificate) → Agree c e → certificateForm c ≡ certificateForm e
 unfolding Agree certificateForm
 agree-form (solution d N w Z) (solution c M v Y) a = refl
@@ -79,39 +85,53 @@ certified-true limits s h c k r = right-true limits s h c k (within-certified li
 
 module _ (limits : Limits) (fit : LimitsFit limits) where
   -- "once the check accepts it for a sheet, it tells the truth"
-  pub accepted-says : (ws cs : List ℕ) → verdict limits ws cs ≡ accepted tt
-      → (a : AcceptedWords limits ws cs) × Says (a .system) (a .certificate)
-  accepted-says ws cs e =
-      let a = words-of-accepted limits fit ws cs e in (
-        a,
-        true-says (a .system) (a .certificate)
-            (right-true limits (a .system) (a .system-within) (a .certificate) (a .certificate-within) (a .holds)),
-      )
+  pub accepted-says : (k : ℕ) (ws cs : List ℕ) → verdict limits k ws cs ≡ accepted tt
+      → (a : AcceptedWords limits k ws cs) × Says (a .system) (a .certificate)
+  accepted-says k ws cs e =
+      let a = words-of-accepted limits fit k ws cs e in
+      (a, true-says (a .system) (a .certificate) (words-true limits fit k a))
 
-  -- "No sheet can have accepted cards of both kinds."
-  module _ (ws cs es : List ℕ) where
-    pub words-agree : (a : AcceptedWords limits ws cs) (b : AcceptedWords limits ws es) → Agree (a .certificate) (b .certificate)
-    words-agree a b =
-        let same : b .system ≡ a .system = systemWords-injective limits fit (b .system) (a .system) (b .system-within)
-        (a .system-within)
-        (sym (b .system-words) ∙ a .system-words) in
-        true-agree limits (a .system) (a .system-within) (a .certificate) (b .certificate)
-        (right-true limits (a .system) (a .system-within) (a .certificate) (a .certificate-within) (a .holds))
-        (subst (λ s. True s (b .certificate)) same
-        (right-true limits (b .system) (b .system-within) (b .certificate) (b .certificate-within) (b .holds)))
+  -- Two lines with one system, of one sheet or of two: "agree in p, A and one line's right side"
+  module _ (k j : ℕ) (ws vs : List ℕ) (same : readLine limits k ws ≡ readLine limits j vs) where
+    same-line : {s t : System} → LineIn limits k s ws → LineIn limits j t vs → t ≡ s
+    same-line h l =
+        let e = line-read-of-written limits fit k ws h in
+        let f = line-read-of-written limits fit j vs l in
+        cc
 
-    pub verdicts-agree : verdict limits ws cs ≡ accepted tt → verdict limits ws es ≡ accepted tt
-        → (a : AcceptedWords limits ws cs) × (b : AcceptedWords limits ws es) × Agree (a .certificate) (b .certificate)
-    verdicts-agree e f =
-        let a = words-of-accepted limits fit ws cs e in
-        let b = words-of-accepted limits fit ws es f in
-        (a, b, words-agree a b)
+    -- they have no accepted certificates of both kinds, and one denominator
+    module _ (cs es : List ℕ) where
+      pub lines-agree : (a : AcceptedWords limits k ws cs) (b : AcceptedWords limits j vs es)
+          → Agree (a .certificate) (b .certificate)
+      lines-agree a b =
+          same-agree limits (same-line (a .system-words) (b .system-words)) (line-in-within limits fit k ws (a .system-words))
+          (a .certificate) (b .certificate) (words-true limits fit k a) (words-true limits fit j b)
 
-    -- on the words: their heads are the same
-    pub same-head : verdict limits ws cs ≡ accepted tt → verdict limits ws es ≡ accepted tt → getD cs 0 0 ≡ getD es 0 0
-    same-head e f =
-        let t = verdicts-agree e f in
-        let c = t .0 .certificate in
-        let k = t .1 .certificate in
-        ap (λ us. getD us 0 0) (t .0 .certificate-words) ∙ head-of c ∙ ap formWord (agree-form c k (t .2)) ∙ sym (head-of k)
-        ∙ ap (λ us. getD us 0 0) (sym (t .1 .certificate-words))
+      pub line-verdicts-agree : verdict limits k ws cs ≡ accepted tt → verdict limits j vs es ≡ accepted tt
+          → (a : AcceptedWords limits k ws cs) × (b : AcceptedWords limits j vs es) × Agree (a .certificate) (b .certificate)
+      line-verdicts-agree e f =
+          let a = words-of-accepted limits fit k ws cs e in
+          let b = words-of-accepted limits fit j vs es f in
+          (a, b, lines-agree a b)
+
+      -- on the words: their heads are the same
+      pub line-same-head : verdict limits k ws cs ≡ accepted tt → verdict limits j vs es ≡ accepted tt → getD cs 0 0 ≡ getD es 0 0
+      line-same-head e f =
+          let t = line-verdicts-agree e f in
+          let c = t .0 .certificate in
+          let u = t .1 .certificate in
+          ap (λ us. getD us 0 0) (t .0 .certificate-words) ∙ head-of c ∙ ap formWord (agree-form c u (t .2)) ∙ sym (head-of u)
+          ∙ ap (λ us. getD us 0 0) (sym (t .1 .certificate-words))
+
+  -- "No sheet can have accepted cards of both kinds", "meant for each right side that the sheet has, by itself"
+  module _ (k : ℕ) (ws cs es : List ℕ) where
+    pub words-agree : (a : AcceptedWords limits k ws cs) (b : AcceptedWords limits k ws es)
+        → Agree (a .certificate) (b .certificate)
+    words-agree = lines-agree k k ws ws refl cs es
+
+    pub verdicts-agree : verdict limits k ws cs ≡ accepted tt → verdict limits k ws es ≡ accepted tt
+        → (a : AcceptedWords limits k ws cs) × (b : AcceptedWords limits k ws es) × Agree (a .certificate) (b .certificate)
+    verdicts-agree = line-verdicts-agree k k ws ws refl cs es
+
+    pub same-head : verdict limits k ws cs ≡ accepted tt → verdict limits k ws es ≡ accepted tt → getD cs 0 0 ≡ getD es 0 0
+    same-head = line-same-head k k ws ws refl cs es

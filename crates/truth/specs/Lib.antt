@@ -1,6 +1,6 @@
--- interface, what contracts, other crates and documents cite: Solution, Listed, Right, Chosen, Verdict, Lift, Truth, RefusalLaws,
---   Accepted, Demand, Denominators, Cases, ChosenCases, RowExamples, Prefix, Fractions, Certified, CertifiedLaws, CertifiedWords,
---   TurnedBack, DemandLaws, RefusedWords, CertifiedTruth
+-- interface, what contracts, other crates and documents cite: Solution, Listed, Right, Chosen, Verdict, Lines, Lift, Truth,
+--   RefusalLaws, Accepted, Demand, Denominators, Cases, ChosenCases, RowExamples, Prefix, Fractions, Certified, CertifiedLaws,
+--   CertifiedWords, TurnedBack, DemandLaws, RefusedWords, CertifiedTruth
 -- inside: Witness, TurnedBackLaws
 pub mod Witness
 pub mod Solution
@@ -8,6 +8,7 @@ pub mod Listed
 pub mod Right
 pub mod Chosen
 pub mod Verdict
+pub mod Lines
 pub mod Lift
 pub mod Truth
 pub mod RefusalLaws

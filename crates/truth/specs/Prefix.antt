@@ -13,33 +13,35 @@ use Rattle.words.specs.Limits.{Limits, longestCertificate}
 use Rattle.words.specs.LimitsLaws.{LimitsFit}
 use Rattle.words.specs.Outcome.{Outcome, followedBy}
 use Rattle.words.specs.Outcome.Outcome.{accepted, refused}
-use Rattle.words.specs.System.{System, shape, readSystem}
-use Rattle.words.specs.SystemLaws.{system-written-of-read}
+use Rattle.words.specs.System.{System, shape}
+use Rattle.words.specs.Systems.{readLine}
+use Rattle.words.specs.LineLaws.{line-written-of-read, line-in-within}
 use Rattle.words.specs.Certificate.{readCertificate}
 use Rattle.words.specs.PrefixLaws.{certificate-prefix}
 use Rattle.truth.specs.Verdict.{verdict, certificateVerdict}
 
-module _ (limits : Limits) (fit : LimitsFit limits) (ws cs : List ℕ) (count : ℕ) (long : longestCertificate limits < count) where
-  pub verdict-prefix : count ≤ length cs → verdict limits ws (take count cs) ≡ verdict limits ws cs
+module _ (limits : Limits) (fit : LimitsFit limits) (k : ℕ) (ws cs : List ℕ) (count : ℕ)
+    (long : longestCertificate limits < count) where
+  pub verdict-prefix : count ≤ length cs → verdict limits k ws (take count cs) ≡ verdict limits k ws cs
   unfolding verdict
-  verdict-prefix more = go (readSystem limits ws) refl
+  verdict-prefix more = go (readLine limits k ws) refl
     where
       on : List ℕ → System → Outcome (Unit {0})
       on vs s = followedBy (readCertificate limits (shape s) vs) (certificateVerdict s)
 
-      go : (o : Outcome System) → readSystem limits ws ≡ o → followedBy o (on (take count cs)) ≡ followedBy o (on cs)
+      go : (o : Outcome System) → readLine limits k ws ≡ o → followedBy o (on (take count cs)) ≡ followedBy o (on cs)
       go (accepted s) e =
-          let within = system-written-of-read limits fit ws s e .1 .shape in
+          let within = line-in-within limits fit k ws (line-written-of-read limits fit k ws e) .shape in
           ap (λ o. followedBy o (certificateVerdict s)) (certificate-prefix limits fit (shape s) within count long cs more)
       go (refused number place) e = refl
 
-  pub verdict-room : verdict limits ws (take (min (length cs) count) cs) ≡ verdict limits ws cs
+  pub verdict-room : verdict limits k ws (take (min (length cs) count) cs) ≡ verdict limits k ws cs
   verdict-room = go (leb (length cs) count) refl
     where
-      go : (b : Bool) → leb (length cs) count ≡ b → verdict limits ws (take (min (length cs) count) cs) ≡ verdict limits ws cs
+      go : (b : Bool) → leb (length cs) count ≡ b → verdict limits k ws (take (min (length cs) count) cs) ≡ verdict limits k ws cs
       go true e =
-          ap (λ (n : ℕ). verdict limits ws (take n cs)) (min-eq-left (leb-true (length cs) count e))
-          ∙ ap (verdict limits ws) (take-length cs)
+          ap (λ (n : ℕ). verdict limits k ws (take n cs)) (min-eq-left (leb-true (length cs) count e))
+          ∙ ap (verdict limits k ws) (take-length cs)
       go false e =
           let more : count ≤ length cs = omega (arith, leb-false (length cs) count e) in
-          ap (λ (n : ℕ). verdict limits ws (take n cs)) (min-eq-right more) ∙ verdict-prefix more
+          ap (λ (n : ℕ). verdict limits k ws (take n cs)) (min-eq-right more) ∙ verdict-prefix more

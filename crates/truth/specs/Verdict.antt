@@ -1,6 +1,8 @@
 -- The verdict on two lists of words, a system's and a certificate's (document 01, "Turned back"): the refusals of reading, then 31
--- to 36 in order. "The check reads the sheet, then the card, then tries 31 to 36."
+-- to 36 in order. "The check reads the sheet, then the card, then tries 31 to 36." It is "told which right side is meant"; 40 comes
+-- "after the sheet has been read and before 11 or the card" (document 02, item 1).
 use Prim.Native.Nat.{ℕ, zero, suc}
+use mathlib.Core.Path.{_≡_, ap}
 use mathlib.Core.Bool.{Bool, true, false, not, _&&_}
 use mathlib.Core.List.{List, [], _∷_}
 use lib.Dec.{eqb}
@@ -8,8 +10,9 @@ use Rattle.algebra.specs.Coefficients.{mul, leading, divide, remainder}
 use Rattle.modular.specs.Modulo.{modulo}
 use Rattle.words.specs.Limits.{Limits}
 use Rattle.words.specs.Outcome.{Outcome, refuse, followedBy}
-use Rattle.words.specs.Outcome.Outcome.{accepted}
-use Rattle.words.specs.System.{System, sideEntry, shape, readSystem}
+use Rattle.words.specs.Outcome.Outcome.{accepted, refused}
+use Rattle.words.specs.System.{System, sideEntry, shape}
+use Rattle.words.specs.Systems.{readLine}
 use Rattle.words.specs.Certificate.{Certificate, readCertificate}
 use Rattle.words.specs.Certificate.Certificate.{solution, absence}
 use Rattle.truth.specs.Solution.{rowOf, columnOf, sideOf}
@@ -55,9 +58,17 @@ unfolding solutionVerdict absenceVerdict
 certificateVerdict s (solution d N w Z) = solutionVerdict s d N w Z
 certificateVerdict s (absence q) = absenceVerdict s q
 
-unfoldable pub verdict : Limits → List ℕ → List ℕ → Outcome (Unit {0})
-unfolding readSystem readCertificate certificateVerdict
-verdict limits ws cs =
-    followedBy (readSystem limits ws) (λ s.
+-- on the certificate's words cs for right side k of the systems that the words ws hold
+unfoldable pub verdict : Limits → (k : ℕ) → (ws cs : List ℕ) → Outcome (Unit {0})
+unfolding readLine readCertificate certificateVerdict
+verdict limits k ws cs =
+    followedBy (readLine limits k ws) (λ s.
     followedBy (readCertificate limits (shape s) cs) (λ c.
     certificateVerdict s c))
+
+-- 1 to 9, and 40 "after the sheet has been read and before 11 or the card": whatever the certificate's words are
+pub line-refused-first : (limits : Limits) (k : ℕ) (ws cs : List ℕ) {number place : ℕ} → readLine limits k ws ≡ refused number place
+    → verdict limits k ws cs ≡ refused number place
+unfolding verdict
+line-refused-first limits k ws cs e =
+    ap (λ o. followedBy o (λ s. followedBy (readCertificate limits (shape s) cs) (certificateVerdict s))) e

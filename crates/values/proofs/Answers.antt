@@ -4,24 +4,25 @@ use mathlib.Core.List.{List}
 use Prim.Native.Nat.{ℕ, _*_, _≤_}
 use native.Mathlib.Omega.{arith}
 use lib.ListN.{length}
-use Rattle.words.specs.Limits.{office, systemCount}
+use Rattle.words.specs.Limits.{office}
 use Rattle.words.specs.LimitsLaws.{office-fits}
 use Rattle.words.specs.Outcome.{Outcome, mapped}
 use Rattle.words.specs.Outcome.Outcome.{accepted, refused}
 use Rattle.words.specs.OutcomeLaws.{mapped-accepted, mapped-refused}
-use Rattle.words.specs.System.{System, Shape, shape, ShapeWithin, systemEntries, readSystem}
-use Rattle.words.specs.SystemLaws.{system-written-of-read}
+use Rattle.words.specs.System.{Shape, ShapeWithin}
+use Rattle.words.specs.Systems.{Head, Systems, HeadWithin, systemsHead, systemsEntries, systemsDue, readSystems}
+use Rattle.words.specs.SystemsLaws.{systems-written-of-read}
 use Rattle.words.specs.Certificate.{Certificate, Form, certificateForm, certificateEntries, entryCount, readCertificate}
 use Rattle.words.specs.Starts.{firstEntries, HasEntries}
-use Rattle.words.specs.FramedLaws.{EntriesRead, system-entries-read, certificate-entries-read}
+use Rattle.words.specs.FramedLaws.{EntriesRead, systems-entries-read, certificate-entries-read}
 use Rattle.limits.specs.Counts.{systemPolynomials, certificatePolynomials}
 use Rattle.answers.specs.declared.answer.Refusal.{Refusal}
-use Rattle.answers.specs.declared.shape.Shape.{Shape as ShapeValue}
+use Rattle.answers.specs.declared.shape.Head.{Head as HeadValue}
 use Rattle.answers.specs.declared.shape.Form.{Form as FormValue}
 use Rattle.answers.specs.declared.shape.SystemRead.{SystemRead}
 use Rattle.answers.specs.declared.shape.SystemRead.the-variants as system
 use Rattle.answers.specs.declared.shape.CertificateRead.the-variants as certificate
-use Rattle.answers.specs.Answer.{shapeOf, formOf, systemOutcome}
+use Rattle.answers.specs.Answer.{headOf, formOf, systemOutcome}
 use Rattle.write_frame.specs.declared.format.Format.{Format}
 use Rattle.write_frame.specs.Framing.{Covers}
 use Rattle.write_frame.specs.Trial.{passed}
@@ -49,46 +50,46 @@ Given format ws sizes sizes′ values values′ =
 module _ (ws : List ℕ) where
   -- a refusal
   pub system-refused : {answer : SystemRead} (sizes values : List ℕ) (r : Refusal) → answer ≡ system.Refused r
-      → systemOutcome answer ≡ mapped shape (readSystem office ws)
+      → systemOutcome answer ≡ mapped systemsHead (readSystems office ws)
       → LoadsSystem office ws (system.Refused r) sizes sizes values values
   unfolding sizesAfter valuesAfter
   system-refused sizes values r is told =
       let t = ap systemOutcome (sym is) ∙ told in
-      let e = ap (mapped systemEntries) (mapped-refused shape (readSystem office ws) (sym t)) in
+      let e = ap (mapped systemsEntries) (mapped-refused systemsHead (readSystems office ws) (sym t)) in
       record { answer-is = t; sizes-are = rw e; values-are = rw e }
 
-  module _ {h : Shape} (told : accepted h ≡ mapped shape (readSystem office ws)) where
-    read : (s : System) × (readSystem office ws ≡ accepted s) × (shape s ≡ h)
-    read = mapped-accepted shape (readSystem office ws) (sym told)
+  module _ {h : Head} (told : accepted h ≡ mapped systemsHead (readSystems office ws)) where
+    read : (s : Systems) × (readSystems office ws ≡ accepted s) × (systemsHead s ≡ h)
+    read = mapped-accepted systemsHead (readSystems office ws) (sym told)
 
-    abbrev s : System
+    abbrev s : Systems
     s = read .0
 
-    pub system-shape : ShapeWithin office h
-    system-shape = subst (ShapeWithin office) (read .2) (system-written-of-read office office-fits ws s (read .1) .1 .shape)
+    pub system-head : HeadWithin office h
+    system-head = subst (HeadWithin office) (read .2) (systems-written-of-read office office-fits ws s (read .1) .1 .head)
 
-    holds : EntriesRead (office .systemCoefficients) (systemCount (h .rows) (h .columns)) ws (systemEntries s)
+    holds : EntriesRead (office .systemCoefficients) (systemsDue office h .count) ws (systemsEntries s)
     holds =
-        subst (λ (g : Shape). EntriesRead (office .systemCoefficients) (systemCount (g .rows) (g .columns)) ws (systemEntries s))
+        subst (λ (g : Head). EntriesRead (office .systemCoefficients) (systemsDue office g .count) ws (systemsEntries s))
         (read .2)
-        (system-entries-read office office-fits ws s (read .1))
+        (systems-entries-read office office-fits ws s (read .1))
 
-    module _ {format : Format} (is : format ≡ formatOf office h kind.System) (sizes values : List ℕ) where
+    module _ {format : Format} (is : format ≡ formatOf office (h .shape) (kind.System (h .sides))) (sizes values : List ℕ) where
       pub system-asked : systemPolynomials ≤ length sizes → office .systemCoefficients * systemPolynomials ≤ length values
           → Asked format ws sizes values
       system-asked sized roomy =
           subst (λ (f : Format). Asked f ws sizes values) (sym is) (
             holds .has,
-            kind-ready office office-fits h system-shape kind.System sizes values (omega arith) sized
-                roomy .0,
+            kind-ready office office-fits (h .shape) (system-head .shape) (kind.System (h .sides)) (system-head .sides) sizes values
+                (omega arith) sized roomy .0,
           )
 
-      pub system-loads : {sizes′ values′ : List ℕ} (v : ShapeValue) → shapeOf v ≡ h → Given format ws sizes sizes′ values values′
+      pub system-loads : {sizes′ values′ : List ℕ} (v : HeadValue) → headOf v ≡ h → Given format ws sizes sizes′ values values′
           → LoadsSystem office ws (system.Accepted v) sizes sizes′ values values′
       unfolding sizesAfter valuesAfter
       system-loads {sizes′} {values′} v same given =
           let stored = subst (λ (f : Format). Given f ws sizes sizes′ values values′) is given in
-          let e = ap (mapped systemEntries) (read .1) in
+          let e = ap (mapped systemsEntries) (read .1) in
           record {
             answer-is = ap accepted same ∙ told;
             sizes-are = rw (e, ← holds .same) (stored .0);
@@ -146,7 +147,8 @@ module _ (h : Shape) (ws : List ℕ) where
         certificate-asked sized roomy =
             subst (λ (f : Format). Asked f ws sizes values) (sym is) (
               holds-as .has,
-              kind-ready office office-fits h certificate-shape (kind.Certificate form) sizes values (omega arith) sized roomy .0,
+              kind-ready office office-fits h certificate-shape (kind.Certificate form) tt sizes values (omega arith) sized
+                  roomy .0,
             )
 
         pub certificate-loads : {sizes′ values′ : List ℕ} → Given format ws sizes sizes′ values values′

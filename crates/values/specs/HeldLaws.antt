@@ -12,14 +12,15 @@ use Rattle.words.specs.LimitsLaws.{LimitsFit, systemCount-most}
 use Rattle.words.specs.Word.{AllBelow}
 use Rattle.words.specs.Polynomial.{VectorWithin}
 use Rattle.words.specs.VectorLaws.{all-at}
-use Rattle.words.specs.System.{System, Shape, shape, SystemWithin, ShapeWithin, systemEntries}
-use Rattle.words.specs.SystemLaws.{systemFormat, system-laws}
+use Rattle.words.specs.System.{Shape, ShapeWithin}
+use Rattle.words.specs.Systems.{Head, Systems, SystemsWithin, systemsEntries}
+use Rattle.words.specs.SystemsLaws.{systemsFormat, systems-laws}
 use Rattle.words.specs.Certificate.{Certificate, Form, CertificateWithin, certificateForm, certificateEntries, entryCount}
 use Rattle.words.specs.CertificateLaws.{certificateFormat, certificate-laws, entryCount-most}
 use Rattle.words.specs.FormatLaws.{Format, FormatLaws}
 use Rattle.write_frame.specs.Values.{polynomialsIn}
 use Rattle.writer.specs.Values.{systemInArrays, certificateIn, certificateStride}
-use Rattle.writer.specs.ValuesLaws.{systemIn-shape, systemIn-entries, certificateIn-entries, certificateIn-form, canonical-below}
+use Rattle.writer.specs.ValuesLaws.{systemIn-head, systemIn-entries, certificateIn-entries, certificateIn-form, canonical-below}
 use Rattle.writer.specs.WrittenLaws.{system-within, certificate-within}
 use Rattle.values.specs.Laid.{sizesOver, laidOver}
 use Rattle.values.specs.LaidLaws.{Few, length-sizes, length-laid, below-replicate, below-sizes, below-laid, entries-laid}
@@ -41,27 +42,28 @@ entries-held {p} {limit} {count} {stride} fs within apart sizes values room =
 
 -- ---- systems
 
-module _ (limits : Limits) (fit : LimitsFit limits) (s : System) (within : SystemWithin limits s) where
-  entries : VectorWithin (s .modulus) (limits .systemCoefficients) (systemCount (s .rows) (s .columns)) (systemEntries s)
-  entries = system-laws limits fit .apart s within .entries
+module _ (limits : Limits) (fit : LimitsFit limits) (s : Systems) (within : SystemsWithin limits s) where
+  entries : VectorWithin (s .head .shape .modulus) (limits .systemCoefficients)
+      (systemCount (s .head .shape .rows) (s .head .shape .columns) (s .head .sides)) (systemsEntries s)
+  entries = systems-laws limits fit .apart s within .entries
 
   pub system-laid : (sizes values : List ℕ)
-      → limits .systemCoefficients * systemCount (limits .rows) (limits .columns) ≤ length values
-      → systemInArrays limits (shape s) (sizesOver (systemEntries s) sizes)
-      (laidOver (limits .systemCoefficients) (systemEntries s) values) ≡ s
+      → limits .systemCoefficients * systemCount (limits .rows) (limits .columns) (limits .sides) ≤ length values
+      → systemInArrays limits (s .head) (sizesOver (systemsEntries s) sizes)
+      (laidOver (limits .systemCoefficients) (systemsEntries s) values) ≡ s
   system-laid sizes values room =
       let stride = limits .systemCoefficients in
-      let fs = systemEntries s in
-      let few = systemCount-most (within .shape .rows .1) (within .shape .columns .1) in
-      let same : systemEntries (systemInArrays limits (shape s) (sizesOver fs sizes) (laidOver stride fs values)) ≡ fs =
-      systemIn-entries limits (shape s) (sizesOver fs sizes) (laidOver stride fs values)
+      let fs = systemsEntries s in
+      let few = systemCount-most (within .head .shape .rows .1) (within .head .shape .columns .1) (within .head .sides .1) in
+      let same : systemsEntries (systemInArrays limits (s .head) (sizesOver fs sizes) (laidOver stride fs values)) ≡ fs =
+      systemIn-entries limits (s .head) (sizesOver fs sizes) (laidOver stride fs values)
       ∙ entries-held fs entries (le-refl stride) sizes values (le-trans (mul-le-mul-left stride few) room) in
-      same-parts (systemFormat limits) (system-laws limits fit)
-      (system-within limits (shape s) (sizesOver fs sizes) (laidOver stride fs values) (within .shape)
+      same-parts (systemsFormat limits) (systems-laws limits fit)
+      (system-within limits (s .head) (sizesOver fs sizes) (laidOver stride fs values) (within .head)
       (rw same (entries .entries)))
       within
-      (ap₂ (λ (h : Shape) (gs : List (List ℕ)). record { head = h; entries = gs })
-      (systemIn-shape limits (shape s) (sizesOver fs sizes) (laidOver stride fs values)) same)
+      (ap₂ (λ (h : Head) (gs : List (List ℕ)). record { head = h; entries = gs })
+      (systemIn-head limits (s .head) (sizesOver fs sizes) (laidOver stride fs values)) same)
 
 -- ---- certificates for a system of the shape h
 
@@ -122,15 +124,15 @@ held-by {p} {limit} {count} {most} {stride} fs within apart few small narrow sta
       stand = stand;
     }
 
--- every system within the limits
-pub system-held : (limits : Limits) → LimitsFit limits → (s : System) → SystemWithin limits s → InArrays
-    (systemCount (limits .rows) (limits .columns))
-    (limits .systemCoefficients * systemCount (limits .rows) (limits .columns))
-    (λ sizes values. systemInArrays limits (shape s) sizes values ≡ s)
+-- every matrix with right sides within the limits
+pub system-held : (limits : Limits) → LimitsFit limits → (s : Systems) → SystemsWithin limits s → InArrays
+    (systemCount (limits .rows) (limits .columns) (limits .sides))
+    (limits .systemCoefficients * systemCount (limits .rows) (limits .columns) (limits .sides))
+    (λ sizes values. systemInArrays limits (s .head) sizes values ≡ s)
 system-held limits fit s within =
-    let few = systemCount-most (within .shape .rows .1) (within .shape .columns .1) in
-    let small = within .shape .modulus in
-    held-by (systemEntries s) (entries limits fit s within) (le-refl _) few (omega arith) (fit .systemCoefficients)
+    let few = systemCount-most (within .head .shape .rows .1) (within .head .shape .columns .1) (within .head .sides .1) in
+    let small = within .head .shape .modulus in
+    held-by (systemsEntries s) (entries limits fit s within) (le-refl _) few (omega arith) (fit .systemCoefficients)
     (system-laid limits fit s within _ _ (le-of-eq (sym (length-replicate _ 0))))
 
 -- every certificate within the limits, for a system of the shape h

@@ -8,8 +8,9 @@ use Rattle.words.specs.LimitsLaws.{LimitsFit}
 use Rattle.words.specs.Outcome.{Outcome, mapped}
 use Rattle.words.specs.Outcome.Outcome.{accepted, refused}
 use Rattle.words.specs.OutcomeLaws.{mapped-refused}
-use Rattle.words.specs.System.{System, Shape, ShapeWithin, shape, systemEntries, readSystem}
-use Rattle.words.specs.SystemLaws.{system-written-of-read}
+use Rattle.words.specs.System.{Shape, ShapeWithin}
+use Rattle.words.specs.Systems.{Systems, systemsHead, systemsEntries, readSystems}
+use Rattle.words.specs.SystemsLaws.{systems-written-of-read}
 use Rattle.words.specs.Certificate.{Certificate, certificateForm, certificateEntries, readCertificate}
 use Rattle.words.specs.CertificateLaws.{certificate-written-of-read}
 use Rattle.answers.specs.declared.shape.SystemRead.{SystemRead}
@@ -40,28 +41,29 @@ module _ (stride : ℕ) (sizes values : List ℕ) {outcome : Outcome (List (List
 
 -- ---- systems
 
--- a system that is accepted stands in the arrays
-pub record LoadedSystem (limits : Limits) (s : System) (answer : SystemRead) (sizes values : List ℕ) : Type 0 where
-  pub answer-is : systemOutcome answer ≡ accepted (shape s)
-  pub values-are : systemInArrays limits (shape s) sizes values ≡ s
+-- a matrix and right sides that are accepted stand in the arrays
+pub record LoadedSystem (limits : Limits) (s : Systems) (answer : SystemRead) (sizes values : List ℕ) : Type 0 where
+  pub answer-is : systemOutcome answer ≡ accepted (s .head)
+  pub values-are : systemInArrays limits (s .head) sizes values ≡ s
 
 module _ {limits : Limits} {ws : List ℕ} {answer : SystemRead} {sizes sizes′ values values′ : List ℕ}
     (loads : LoadsSystem limits ws answer sizes sizes′ values values′) where
-  pub system-loaded : LimitsFit limits → limits .systemCoefficients * systemCount (limits .rows) (limits .columns) ≤ length values
-      → {s : System} → readSystem limits ws ≡ accepted s → LoadedSystem limits s answer sizes′ values′
+  pub system-loaded : LimitsFit limits
+      → limits .systemCoefficients * systemCount (limits .rows) (limits .columns) (limits .sides) ≤ length values
+      → {s : Systems} → readSystems limits ws ≡ accepted s → LoadedSystem limits s answer sizes′ values′
   system-loaded fit room {s} read =
       let e = arrays-laid (limits .systemCoefficients) sizes values (loads .sizes-are) (loads .values-are)
-      (ap (mapped systemEntries) read) in
+      (ap (mapped systemsEntries) read) in
       record {
-        answer-is = loads .answer-is ∙ ap (mapped shape) read;
-        values-are = rw (e .0, e .1) (system-laid limits fit s (system-written-of-read limits fit ws s read .1) sizes values room);
+        answer-is = loads .answer-is ∙ ap (mapped systemsHead) read;
+        values-are = rw (e .0, e .1) (system-laid limits fit s (systems-written-of-read limits fit ws s read .1) sizes values room);
       }
 
   -- on a refusal nothing changes
   pub system-load-refused : {number place : ℕ} → systemOutcome answer ≡ refused number place → (sizes′ ≡ sizes) × (values′ ≡ values)
   system-load-refused is =
-      let read = mapped-refused shape (readSystem limits ws) (sym (loads .answer-is) ∙ is) in
-      arrays-kept (limits .systemCoefficients) sizes values (loads .sizes-are) (loads .values-are) (ap (mapped systemEntries) read)
+      let read = mapped-refused systemsHead (readSystems limits ws) (sym (loads .answer-is) ∙ is) in
+      arrays-kept (limits .systemCoefficients) sizes values (loads .sizes-are) (loads .values-are) (ap (mapped systemsEntries) read)
 
 -- ---- certificates for a system of the shape h
 

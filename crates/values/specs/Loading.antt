@@ -6,7 +6,8 @@ use Prim.Native.Nat.{ℕ}
 use Rattle.words.specs.Limits.{Limits}
 use Rattle.words.specs.Outcome.{Outcome, mapped}
 use Rattle.words.specs.Outcome.Outcome.{accepted, refused}
-use Rattle.words.specs.System.{Shape, shape, systemEntries, readSystem}
+use Rattle.words.specs.System.{Shape}
+use Rattle.words.specs.Systems.{systemsHead, systemsEntries, readSystems}
 use Rattle.words.specs.Certificate.{Certificate, certificateForm, certificateEntries, readCertificate}
 use Rattle.answers.specs.declared.shape.SystemRead.{SystemRead}
 use Rattle.answers.specs.declared.shape.CertificateRead.{CertificateRead}
@@ -26,13 +27,13 @@ unfolding laidOver
 valuesAfter stride (accepted fs) lent = laidOver stride fs lent
 valuesAfter stride (refused number place) lent = lent
 
--- ---- systems
+-- ---- systems: A and all right sides
 
 pub record LoadsSystem (limits : Limits) (words : List ℕ) (answer : SystemRead) (sizes sizes′ values values′ : List ℕ) : Type 0
   where
-    pub answer-is : systemOutcome answer ≡ mapped shape (readSystem limits words)
-    pub sizes-are : sizes′ ≡ sizesAfter (mapped systemEntries (readSystem limits words)) sizes
-    pub values-are : values′ ≡ valuesAfter (limits .systemCoefficients) (mapped systemEntries (readSystem limits words)) values
+    pub answer-is : systemOutcome answer ≡ mapped systemsHead (readSystems limits words)
+    pub sizes-are : sizes′ ≡ sizesAfter (mapped systemsEntries (readSystems limits words)) sizes
+    pub values-are : values′ ≡ valuesAfter (limits .systemCoefficients) (mapped systemsEntries (readSystems limits words)) values
 
 -- ---- certificates for a system of a shape, which is tried first, as the writer tries it
 

@@ -12,10 +12,11 @@ use Rattle.words.specs.Limits.{Limits}
 use Rattle.words.specs.Outcome.{Outcome, refuse}
 use Rattle.words.specs.Outcome.Outcome.{refused}
 use Rattle.words.specs.OutcomeLaws.{mapped-refused-iff, refuse-refused-iff}
-use Rattle.words.specs.System.{Shape, ShapeWithin, shape, oneTo, readSystem}
+use Rattle.words.specs.System.{Shape, ShapeWithin, oneTo}
+use Rattle.words.specs.Systems.{systemsHead, readSystems}
 use Rattle.words.specs.Certificate.{certificateForm, readCertificate}
 use Rattle.words.specs.Table.{ByTable, systemTable, certificateTable}
-use Rattle.words.specs.RefusedLaws.{system-refused-iff, certificate-refused-iff}
+use Rattle.words.specs.RefusedLaws.{systems-refused-iff, certificate-refused-iff}
 use Rattle.answers.specs.declared.shape.SystemRead.{SystemRead}
 use Rattle.answers.specs.declared.shape.CertificateRead.{CertificateRead}
 use Rattle.answers.specs.Answer.{systemOutcome, certificateOutcome}
@@ -77,7 +78,7 @@ module _ {limits : Limits} {ws : List ℕ} {answer : SystemRead} {sizes sizes′
     (loads : LoadsSystem limits ws answer sizes sizes′ values values′) (n k : ℕ) where
   pub system-load-refused-iff : (systemOutcome answer ≡ refused n k) ↔ ByTable (systemTable limits) 0 ws n k
   system-load-refused-iff =
-      let iff = mapped-refused-iff shape (readSystem limits ws) _ (system-refused-iff limits ws) n k in
+      let iff = mapped-refused-iff systemsHead (readSystems limits ws) _ (systems-refused-iff limits ws) n k in
       (λ e. iff .0 (sym (loads .answer-is) ∙ e), λ t. loads .answer-is ∙ iff .1 t)
 
 pub certificate-to-load-refused-iff : (limits : Limits) (h : Shape) (cs : List ℕ) (n k : ℕ)

@@ -9,8 +9,9 @@ use Rattle.words.specs.Limits.{Limits, systemCount, solutionCount, longestSyste
 use Rattle.words.specs.LimitsLaws.{LimitsFit}
 use Rattle.words.specs.Outcome.Outcome.{accepted}
 use Rattle.words.specs.OutcomeLaws.{mapped-accepted}
-use Rattle.words.specs.System.{System, Shape, ShapeWithin, SystemWithin, shape, systemWords, readSystem}
-use Rattle.words.specs.SystemLaws.{system-read-of-written}
+use Rattle.words.specs.System.{Shape, ShapeWithin}
+use Rattle.words.specs.Systems.{Head, Systems, SystemsWithin, systemsHead, systemsWords, readSystems}
+use Rattle.words.specs.SystemsLaws.{systems-read-of-written}
 use Rattle.words.specs.Certificate.{Certificate, Form, CertificateWithin, certificateForm, certificateWords, readCertificate}
 use Rattle.words.specs.CertificateLaws.{certificate-read-of-written}
 use Rattle.answers.specs.declared.answer.Counted.{Counted}
@@ -18,9 +19,9 @@ use Rattle.answers.specs.declared.answer.Counted.the-variants.{Count}
 use Rattle.answers.specs.declared.shape.SystemRead.{SystemRead}
 use Rattle.answers.specs.declared.shape.CertificateRead.{CertificateRead}
 use Rattle.answers.specs.Answer.{systemOutcome, certificateOutcome}
-use Rattle.writer.specs.Writing.{writeSystem, writeCertificate, Writes}
+use Rattle.writer.specs.Writing.{writeSystems, writeCertificate, Writes}
 use Rattle.writer.specs.Values.{systemInArrays, certificateIn, certificateStride}
-use Rattle.writer.specs.ValuesLaws.{systemIn-shape, certificateIn-form}
+use Rattle.writer.specs.ValuesLaws.{systemIn-head, certificateIn-form}
 use Rattle.writer.specs.WritingLaws.{shape-passed}
 use Rattle.writer.specs.WrittenLaws.{count-words, certificate-accepted, system-call-is-read, certificate-call-is-read}
 use Rattle.writer.specs.WrittenBackLaws.{WritesBack, system-written-back, certificate-written-back}
@@ -32,43 +33,43 @@ module _ (limits : Limits) (fit : LimitsFit limits) where
 
   -- the arrays of values are as long as those of the calls
   abbrev pub SystemRoom : List ℕ → Type 0
-  SystemRoom values = limits .systemCoefficients * systemCount (limits .rows) (limits .columns) ≤ length values
+  SystemRoom values = limits .systemCoefficients * systemCount (limits .rows) (limits .columns) (limits .sides) ≤ length values
 
-  -- a call of the writer, on arrays and p, n and m
-  abbrev pub WritesSystem : List ℕ → List ℕ → Shape → List ℕ → Counted → List ℕ → Type 0
+  -- a call of the writer, on arrays, p, n, m and the number of right sides
+  abbrev pub WritesSystem : List ℕ → List ℕ → Head → List ℕ → Counted → List ℕ → Type 0
   WritesSystem sizes values h entry answer exit =
-      Writes (writeSystem limits (length entry) (systemInArrays limits h sizes values)) entry answer exit
+      Writes (writeSystems limits (length entry) (systemInArrays limits h sizes values)) entry answer exit
 
   module _ (sizes values : List ℕ) {entry exit : List ℕ} where
-    -- arrays that stand for a system within the limits are written as its words
-    pub system-writes-form : {s : System} → SystemWithin limits s → systemInArrays limits (shape s) sizes values ≡ s
-        → longestSystem limits ≤ length entry → {answer : Counted} → WritesSystem sizes values (shape s) entry answer exit
-        → WritesBack (systemWords s) entry answer exit
+    -- arrays that stand for a matrix and right sides within the limits are written as their words
+    pub system-writes-form : {s : Systems} → SystemsWithin limits s → systemInArrays limits (s .head) sizes values ≡ s
+        → longestSystem limits ≤ length entry → {answer : Counted} → WritesSystem sizes values (s .head) entry answer exit
+        → WritesBack (systemsWords s) entry answer exit
     system-writes-form {s} within stand enough w =
-        system-written-back limits fit (systemWords s) sizes values s (system-read-of-written limits fit s within) stand enough w
+        system-written-back limits fit (systemsWords s) sizes values s (systems-read-of-written limits fit s within) stand enough w
 
     -- "it reads back as the same values"
-    pub system-reads-back : {h : Shape} {n : ℕ} → WritesSystem sizes values h entry (Count n) exit
+    pub system-reads-back : {h : Head} {n : ℕ} → WritesSystem sizes values h entry (Count n) exit
         → {lentSizes sizes′ lentValues values′ : List ℕ} {answer : SystemRead}
         → LoadsSystem limits (take n exit) answer lentSizes sizes′ lentValues values′ → SystemRoom lentValues
         → (systemOutcome answer ≡ accepted h) × (systemInArrays limits h sizes′ values′ ≡ systemInArrays limits h sizes values)
     system-reads-back {h} w {sizes′ = sizes′} {values′ = values′} loads roomy =
-        let l = system-loaded loads fit roomy (system-call-is-read limits fit h sizes values w) in
-        let same = systemIn-shape limits h sizes values in (
+        let l = system-loaded loads fit roomy (system-call-is-read limits fit sizes values h w) in
+        let same = systemIn-head limits h sizes values in (
           l .answer-is ∙ ap accepted same,
-          subst (λ (g : Shape). systemInArrays limits g sizes′ values′ ≡ systemInArrays limits h sizes values) same (l .values-are),
+          subst (λ (g : Head). systemInArrays limits g sizes′ values′ ≡ systemInArrays limits h sizes values) same (l .values-are),
         )
 
     -- "every accepted form writes back as the same words"
     pub system-loads-back : {ws lentSizes lentValues : List ℕ} {read : SystemRead}
         → LoadsSystem limits ws read lentSizes sizes lentValues values → SystemRoom lentValues
-        → {h : Shape} → systemOutcome read ≡ accepted h → longestSystem limits ≤ length entry
+        → {h : Head} → systemOutcome read ≡ accepted h → longestSystem limits ≤ length entry
         → {answer : Counted} → WritesSystem sizes values h entry answer exit → WritesBack ws entry answer exit
     system-loads-back {ws} loads roomy {h} is enough {answer} w =
-        let found = mapped-accepted shape (readSystem limits ws) (sym (loads .answer-is) ∙ is) in
+        let found = mapped-accepted systemsHead (readSystems limits ws) (sym (loads .answer-is) ∙ is) in
         let l = system-loaded loads fit roomy (found .1) in
         system-written-back limits fit ws sizes values (found .0) (found .1) (l .values-are) enough
-        (subst (λ (g : Shape). WritesSystem sizes values g entry answer exit) (sym (found .2)) w)
+        (subst (λ (g : Head). WritesSystem sizes values g entry answer exit) (sym (found .2)) w)
 
   -- ---- certificates for a system of the shape h
 
@@ -95,7 +96,7 @@ module _ (limits : Limits) (fit : LimitsFit limits) where
           → (certificateOutcome answer ≡ accepted form) × (certificateIn h form sizes′ values′ ≡ certificateIn h form sizes values)
       certificate-reads-back {form} w {sizes′ = sizes′} {values′ = values′} loads roomy =
           let shape = certificate-accepted limits (length entry) h sizes values form _ (count-words _ w) .shape in
-          let l = certificate-loaded loads fit fits shape roomy (certificate-call-is-read limits fit h sizes values form w) in
+          let l = certificate-loaded loads fit fits shape roomy (certificate-call-is-read limits fit sizes values h form w) in
           let same = certificateIn-form h sizes values form in (
             l .answer-is ∙ ap accepted same,
             subst (λ (f : Form). certificateIn h f sizes′ values′ ≡ certificateIn h form sizes values) same (l .values-are),

@@ -19,8 +19,8 @@ ghost use Rattle.words.specs.Limits.{office};
 ghost use Rattle.answers.specs.Answer.{shapeOf};
 ghost use Rattle.values.specs.Loading.{LoadsSystem, LoadsCertificate};
 
-// Reads a system and stores its values. Polynomial k, of A row by row and then of b, has its size in `sizes[k]`, and its
-// coefficients, lowest power first, from `values[Office::COEFFICIENTS * k]` on.
+// Reads a system and stores its values. Polynomial k, of A row by row and then of the right sides one after another, has its size
+// in `sizes[k]`, and its coefficients, lowest power first, from `values[Office::COEFFICIENTS * k]` on.
 pub fn load_system(
     sizes: &mut [usize; Office::SYSTEM_POLYNOMIALS],
     values: &mut [u64; SYSTEM_VALUES],
@@ -31,15 +31,16 @@ pub fn load_system(
 {
     let read = read_system(words, Office::limits());
     match read {
-        SystemRead::Accepted(shape) => {
+        SystemRead::Accepted(head) => {
+            let shape = head.shape;
             let format = format_for(
-                Kind::System,
+                Kind::System(head.sides as u32),
                 shape.rows as u32,
                 shape.columns as u32,
                 shape.modulus as u32,
             );
             load_entries(sizes, values, words, format);
-            SystemRead::Accepted(shape)
+            SystemRead::Accepted(head)
         }
         SystemRead::Refused(refusal) => SystemRead::Refused(refusal),
     }

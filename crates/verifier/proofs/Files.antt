@@ -15,18 +15,18 @@ use Rattle.truth.specs.Prefix.{verdict-room}
 use Rattle.verifier.specs.File.{fileVerdict}
 
 -- 10 of either file
-pub none-opened : (f g : List ℕ) {before before′ after after′ : List ℕ} {number place : ℕ}
+pub none-opened : (k : ℕ) (f g : List ℕ) {before before′ after after′ : List ℕ} {number place : ℕ}
     → OpensNone office f g before before′ after after′ number place
-    → refused number place ≡ fileVerdict office f g
+    → refused number place ≡ fileVerdict office k f g
 unfolding fileVerdict
-none-opened f g none = sym (both-refused office f g none (verdict office (wordsOf f) (wordsOf g)))
+none-opened k f g none = sym (both-refused office f g none (verdict office k (wordsOf f) (wordsOf g)))
 
 -- the words of the certificate's file for which there was room tell what all tell
-pub both-opened : (f g : List ℕ) {before before′ after after′ : List ℕ} {n m : ℕ}
+pub both-opened : (k : ℕ) (f g : List ℕ) {before before′ after after′ : List ℕ} {n m : ℕ}
     → OpensWords office f g before before′ after after′ n m
     → longestSystem office ≤ length before → longestCertificate office < length before′
-    → {tells : Outcome (Unit {0})} → tells ≡ verdict office (take n after) (take m after′) → tells ≡ fileVerdict office f g
+    → {tells : Outcome (Unit {0})} → tells ≡ verdict office k (take n after) (take m after′) → tells ≡ fileVerdict office k f g
 unfolding fileVerdict
-both-opened f g {before′ = before′} opens room room′ is =
-    is ∙ sym (both-told office f g opens room (verdict office)
-    (verdict-room office office-fits (wordsOf f) (wordsOf g) (length before′) room′))
+both-opened k f g {before′ = before′} opens room room′ is =
+    is ∙ sym (both-told office f g opens room (verdict office k)
+    (verdict-room office office-fits k (wordsOf f) (wordsOf g) (length before′) room′))

@@ -1,4 +1,3 @@
 pub mod Parts
 pub mod Read
-pub mod Reading
 pub mod Files

@@ -8,7 +8,7 @@ use Rattle.files.specs.OpeningBoth.{filesBroken}
 use Rattle.truth.specs.Verdict.{verdict}
 
 -- "Number 10 comes before all others."
-unfoldable pub fileVerdict : Limits → List ℕ → List ℕ → Outcome (Unit {0})
+unfoldable pub fileVerdict : Limits → (k : ℕ) → (system certificate : List ℕ) → Outcome (Unit {0})
 unfolding wordsOf verdict
-fileVerdict limits system certificate =
-    refuse (filesBroken limits system certificate) 10 0 (verdict limits (wordsOf system) (wordsOf certificate))
+fileVerdict limits k system certificate =
+    refuse (filesBroken limits system certificate) 10 0 (verdict limits k (wordsOf system) (wordsOf certificate))

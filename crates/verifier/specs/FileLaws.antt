@@ -30,7 +30,7 @@ passed-short true t most n e h = absurd (let z : _≡_ {A = ℕ} 0 1 = cc in ome
 passed-short false true most n e h = absurd (let z : _≡_ {A = ℕ} 0 1 = cc in omega arith)
 passed-short false false most n e h = omega (arith, ltb-false (wordBytes * most) n e)
 
-module _ (limits : Limits) (fit : LimitsFit limits) (system certificate : List ℕ) (b : ℕ)
+module _ (limits : Limits) (fit : LimitsFit limits) (k : ℕ) (system certificate : List ℕ) (b : ℕ)
     (longest-system : longestSystem limits ≤ b) (longest-certificate : longestCertificate limits + 1 ≤ b)
     (heads : most4 ≤ b) where
   -- as many of the certificate's words as decide
@@ -38,20 +38,20 @@ module _ (limits : Limits) (fit : LimitsFit limits) (system certificate : List �
   first-words = firstWords (longestCertificate limits + 1) (wordsOf certificate)
 
   by-tests : (x y : Bool) {number place : ℕ} → broken system || tooLong limits system ≡ x
-      → refuse (x || y) 10 0 (verdict limits (wordsOf system) (wordsOf certificate)) ≡ refused number place → place ≤ b
+      → refuse (x || y) 10 0 (verdict limits k (wordsOf system) (wordsOf certificate)) ≡ refused number place → place ≤ b
   by-tests true y {place = place} long e = let same : place ≡ 0 = cc in omega arith
   by-tests false true {place = place} long e = let same : place ≡ 0 = cc in omega arith
   by-tests false false {number} {place} long words =
       let short = passed-short (broken system) (tooLong limits system) (longestSystem limits) (length system) refl long in
-      let refused = verdict-room limits fit (wordsOf system) (wordsOf certificate) (longestCertificate limits + 1) (omega arith)
+      let refused = verdict-room limits fit k (wordsOf system) (wordsOf certificate) (longestCertificate limits + 1) (omega arith)
       ∙ words in
       let few = few-words (longestCertificate limits + 1) (wordsOf certificate) in
       let below = places-below number place (suc b) (checkRows (wordsOf system) first-words)
       (check-below (wordsOf system) first-words (omega (arith, length-wordsOf system, short)) (omega arith) heads)
-      (words-rows limits fit (wordsOf system) first-words .in-rows number place refused) in
+      (words-rows limits fit k (wordsOf system) first-words .in-rows number place refused) in
       omega arith
 
-  pub file-verdict-most : VerdictMost b (fileVerdict limits system certificate)
+  pub file-verdict-most : VerdictMost b (fileVerdict limits k system certificate)
   unfolding fileVerdict
   file-verdict-most = record {
     places = λ number place e. by-tests (broken system || tooLong limits system) (broken certificate) refl e;

@@ -10,9 +10,10 @@ ghost use Rattle.words.specs.Limits.{office};
 ghost use Rattle.answers.specs.Answer.{verdictOutcome};
 ghost use Rattle.verifier.specs.File.{fileVerdict};
 
-// Tries number 10 on either file, then returns the verdict on their words. A certificate's file may have any length.
-pub fn check_files(system: &[u8], certificate: &[u8]) -> Verdict
-    ensures { λ r. ⌜ verdictOutcome r ≡ fileVerdict office (now (system .entry)) (now (certificate .entry)) ⌝ }
+// Tries number 10 on either file, then returns the verdict on their words for right side `side`, counted from 0. A certificate's
+// file may have any length.
+pub fn check_files(system: &[u8], certificate: &[u8], side: usize) -> Verdict
+    ensures { λ r. ⌜ verdictOutcome r ≡ fileVerdict office side (now (system .entry)) (now (certificate .entry)) ⌝ }
 {
     let mut system_words = [0u32; Office::SYSTEM_WORDS];
     let mut certificate_words = [0u32; CERTIFICATE_SPACE];
@@ -23,7 +24,7 @@ pub fn check_files(system: &[u8], certificate: &[u8]) -> Verdict
         certificate,
     );
     match opened {
-        FilesOpened::Words(n, m) => check(&system_words[..n], &certificate_words[..m]),
+        FilesOpened::Words(n, m) => check(&system_words[..n], &certificate_words[..m], side),
         FilesOpened::Refused(refusal) => Verdict::Refused(refusal),
     }
 }

@@ -7,7 +7,8 @@ use lib.Dec.{eqb, ltb}
 use Rattle.modular.specs.Bits.{bound8}
 use Rattle.words.specs.Limits.{Limits, longestSystem}
 use Rattle.words.specs.Outcome.{Outcome, refuse}
-use Rattle.words.specs.System.{System, readSystem}
+use Rattle.words.specs.System.{System}
+use Rattle.words.specs.Systems.{Systems, readSystems, readLine}
 
 -- bytes of a word
 abbrev pub wordBytes : ℕ
@@ -46,11 +47,15 @@ bytesOf (w ∷ ws) = w % bound8 ∷ w / secondByteUnit % bound8 ∷ w / thirdByt
 abbrev pub broken : List ℕ → Bool
 broken bytes = not (eqb (length bytes % wordBytes) 0)
 
--- 10, second half: over 4,904
+-- 10, second half: over 8,712
 abbrev pub tooLong : Limits → List ℕ → Bool
 tooLong limits bytes = ltb (wordBytes * longestSystem limits) (length bytes)
 
--- a file: "Number 10 comes before all others."
-unfoldable pub readSystemFile : Limits → List ℕ → Outcome System
-unfolding wordsOf readSystem
-readSystemFile limits bytes = refuse (broken bytes || tooLong limits bytes) 10 0 (readSystem limits (wordsOf bytes))
+-- the files of systems, and of one line: "Number 10 comes before all others."
+unfoldable pub readSystemsFile : Limits → List ℕ → Outcome Systems
+unfolding wordsOf readSystems
+readSystemsFile limits bytes = refuse (broken bytes || tooLong limits bytes) 10 0 (readSystems limits (wordsOf bytes))
+
+unfoldable pub readLineFile : Limits → ℕ → List ℕ → Outcome System
+unfolding wordsOf readLine
+readLineFile limits k bytes = refuse (broken bytes || tooLong limits bytes) 10 0 (readLine limits k (wordsOf bytes))

@@ -11,12 +11,12 @@ use Rattle.modular.specs.Bits.{bound8}
 use Rattle.words.specs.Limits.{Limits, longestSystem}
 use Rattle.words.specs.Word.{Bytes}
 use Rattle.words.specs.Outcome.Outcome.{accepted, refused}
-use Rattle.words.specs.System.{System, SystemWithin, systemWords, readSystem}
-use Rattle.words.specs.Bytes.{wordOf, wordAt, wordsOf, bytesOf, broken, tooLong, readSystemFile, wordBytes}
+use Rattle.words.specs.Systems.{Systems, SystemsWithin, systemsWords, readSystems}
+use Rattle.words.specs.Bytes.{wordOf, wordAt, wordsOf, bytesOf, broken, tooLong, readSystemsFile, wordBytes}
 use Rattle.words.specs.Bytes.{secondByteUnit, thirdByteUnit, fourthByteUnit}
 use Rattle.words.specs.OutcomeLaws.{refuse-passed}
 use Rattle.words.specs.LimitsLaws.{LimitsFit}
-use Rattle.words.specs.SystemLaws.{system-read-of-written, system-written-of-read, systemWords-most}
+use Rattle.words.specs.SystemsLaws.{systems-read-of-written, systems-written-of-read, systemsWords-most}
 
 pub length-wordsOf : (bytes : List ℕ) → length (wordsOf bytes) ≡ length bytes / wordBytes
 unfolding wordsOf
@@ -76,19 +76,19 @@ bytesOf-wordsOf (a ∷ b ∷ c ∷ d ∷ bytes) h e =
 -- ---- files
 
 pub file-broken : (limits : Limits) (bytes : List ℕ) → (length bytes % wordBytes ≡ 0 → ⊥)
-    → readSystemFile limits bytes ≡ refused 10 0
-unfolding readSystemFile
+    → readSystemsFile limits bytes ≡ refused 10 0
+unfolding readSystemsFile
 file-broken limits bytes h = simp (ne-eqb _ _ h)
 
 pub file-long : (limits : Limits) (bytes : List ℕ) → length bytes % wordBytes ≡ 0 → wordBytes * longestSystem limits < length bytes
-    → readSystemFile limits bytes ≡ refused 10 0
-unfolding readSystemFile
+    → readSystemsFile limits bytes ≡ refused 10 0
+unfolding readSystemsFile
 file-long limits bytes h k = simp (eq-eqb _ _ h, lt-ltb _ _ k)
 
 pub file-passed : (limits : Limits) (bytes : List ℕ) → length bytes % wordBytes ≡ 0
     → length bytes ≤ wordBytes * longestSystem limits
-    → readSystemFile limits bytes ≡ readSystem limits (wordsOf bytes)
-unfolding readSystemFile
+    → readSystemsFile limits bytes ≡ readSystems limits (wordsOf bytes)
+unfolding readSystemsFile
 file-passed limits bytes h k = simp (eq-eqb _ _ h, le-ltb _ _ k)
 
 pub or-left : (a b : Bool) → a || b ≡ false → a ≡ false
@@ -99,31 +99,32 @@ pub or-right : (a b : Bool) → a || b ≡ false → b ≡ false
 or-right true b e = absurd (let z : _≡_ {A = ℕ} 0 1 = cc in omega arith)
 or-right false b e = e
 
-module _ (limits : Limits) (fit : LimitsFit limits) (s : System) where
-  pub file-read-of-written : SystemWithin limits s → readSystemFile limits (bytesOf (systemWords s)) ≡ accepted s
+module _ (limits : Limits) (fit : LimitsFit limits) (s : Systems) where
+  pub file-read-of-written : SystemsWithin limits s → readSystemsFile limits (bytesOf (systemsWords s)) ≡ accepted s
   file-read-of-written h =
-      let n = length-bytesOf (systemWords s) in
-      let most = systemWords-most limits fit s h in
-      file-passed limits (bytesOf (systemWords s)) (omega arith) (omega arith)
-      ∙ ap (readSystem limits) (wordsOf-bytesOf (systemWords s))
-      ∙ system-read-of-written limits fit s h
+      let n = length-bytesOf (systemsWords s) in
+      let most = systemsWords-most limits fit s h in
+      file-passed limits (bytesOf (systemsWords s)) (omega arith) (omega arith)
+      ∙ ap (readSystems limits) (wordsOf-bytesOf (systemsWords s))
+      ∙ systems-read-of-written limits fit s h
 
   -- a system that was read from a file keeps the limits
-  pub file-within : (bytes : List ℕ) → readSystemFile limits bytes ≡ accepted s → SystemWithin limits s
-  unfolding readSystemFile
+  pub file-within : (bytes : List ℕ) → readSystemsFile limits bytes ≡ accepted s → SystemsWithin limits s
+  unfolding readSystemsFile
   file-within bytes e =
-      system-written-of-read limits fit (wordsOf bytes) s (refuse-passed (broken bytes || tooLong limits bytes) 10 0 _ e .1) .1
+      systems-written-of-read limits fit (wordsOf bytes) s (refuse-passed (broken bytes || tooLong limits bytes) 10 0 _ e .1) .1
 
   module _ (bytes : List ℕ) (small : Bytes bytes) where
-    pub file-written-of-read : readSystemFile limits bytes ≡ accepted s
-        → (bytes ≡ bytesOf (systemWords s)) × SystemWithin limits s
-    unfolding readSystemFile
+    pub file-written-of-read : readSystemsFile limits bytes ≡ accepted s
+        → (bytes ≡ bytesOf (systemsWords s)) × SystemsWithin limits s
+    unfolding readSystemsFile
     file-written-of-read e =
         let t = refuse-passed (broken bytes || tooLong limits bytes) 10 0 _ e in
         let whole = eqb-true _ _ (not-false _ (or-left (broken bytes) (tooLong limits bytes) (t .0))) in
-        let r = system-written-of-read limits fit (wordsOf bytes) s (t .1) in
+        let r = systems-written-of-read limits fit (wordsOf bytes) s (t .1) in
         (sym (bytesOf-wordsOf bytes small whole) ∙ ap bytesOf (r .0), r .1)
 
     -- the reader accepts just the files that hold the written form of a system within the limits
-    pub file-accepted-iff : (readSystemFile limits bytes ≡ accepted s) ↔ ((bytes ≡ bytesOf (systemWords s)) × SystemWithin limits s)
-    file-accepted-iff = (file-written-of-read, λ h. ap (readSystemFile limits) (h .0) ∙ file-read-of-written (h .1))
+    pub file-accepted-iff : (readSystemsFile limits bytes ≡ accepted s)
+        ↔ ((bytes ≡ bytesOf (systemsWords s)) × SystemsWithin limits s)
+    file-accepted-iff = (file-written-of-read, λ h. ap (readSystemsFile limits) (h .0) ∙ file-read-of-written (h .1))

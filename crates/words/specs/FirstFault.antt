@@ -5,18 +5,19 @@ use mathlib.Core.List.{List, _++_}
 use Prim.Native.Nat.{ℕ, suc, _<_}
 use lib.ListN.{length, take}
 use Rattle.words.specs.Limits.{Limits}
-use Rattle.words.specs.System.{System, Shape, SystemWithin, systemWords}
+use Rattle.words.specs.System.{Shape}
+use Rattle.words.specs.Systems.{Systems, SystemsWithin, systemsWords}
 use Rattle.words.specs.Certificate.{Certificate, CertificateWithin, certificateWords}
 
 -- some words follow with which these are the written form of a system within the limits
-unfoldable pub SystemBegins : Limits → List ℕ → Type 0
-unfolding systemWords
-SystemBegins limits us = (s : System) × SystemWithin limits s × (vs : List ℕ) × (us ++ vs ≡ systemWords s)
+unfoldable pub SystemsBegin : Limits → List ℕ → Type 0
+unfolding systemsWords
+SystemsBegin limits us = (s : Systems) × SystemsWithin limits s × (vs : List ℕ) × (us ++ vs ≡ systemsWords s)
 
 -- none has to follow
-unfoldable pub SystemWhole : Limits → List ℕ → Type 0
-unfolding systemWords
-SystemWhole limits ws = (s : System) × SystemWithin limits s × (ws ≡ systemWords s)
+unfoldable pub SystemsWhole : Limits → List ℕ → Type 0
+unfolding systemsWords
+SystemsWhole limits ws = (s : Systems) × SystemsWithin limits s × (ws ≡ systemsWords s)
 
 -- the same of a certificate for a system of that shape
 unfoldable pub CertificateBegins : Limits → Shape → List ℕ → Type 0

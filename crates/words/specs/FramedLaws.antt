@@ -4,10 +4,11 @@ use mathlib.Core.Path.{_≡_, refl, sym, ap, ap₂, _∙_, subst}
 use mathlib.Core.List.{List, [], _∷_, _++_, map, append-assoc}
 use Prim.Native.Nat.{ℕ, zero, suc, _+_, _*_, _≤_, _<_}
 use native.Mathlib.Omega.{arith}
+use native.Mathlib.Nat.{mul-le-mul-right, suc-mul}
 use native.Mathlib.Decide.{decLt}
 use lib.ListN.{length, getD, take, drop, length-append, length-drop, length-map, take-append-drop, drop-of-length-le}
-use lib.Seq.{drop-cons, drop-drop, getD-drop, take-at, take-all, ext-getD}
-use Rattle.words.specs.Limits.{Limits, systemCount}
+use lib.Seq.{drop-cons, drop-drop, drop-append-add, getD-drop, take-at, take-all, ext-getD}
+use Rattle.words.specs.Limits.{Limits}
 use Rattle.words.specs.LimitsLaws.{LimitsFit}
 use Rattle.words.specs.Word.{payloadBound, kind, payload, word}
 use Rattle.words.specs.Outcome.Outcome.{accepted}
@@ -15,8 +16,9 @@ use Rattle.words.specs.Reading.{Reading, renumber}
 use Rattle.words.specs.Reading.Reading.{read}
 use Rattle.words.specs.Polynomial.{polynomialWords, polynomialsWords}
 use Rattle.words.specs.Frame.{Due, Framed, endWord, framedWords, entryPlace, bodyFrom, framedFrom}
-use Rattle.words.specs.System.{System, Shape, ShapeWithin, shape, systemEntries, readSystem}
-use Rattle.words.specs.System.{headWord, systemHeadFrom, systemDue, systemOf, systemFrom}
+use Rattle.words.specs.System.{System, Shape, ShapeWithin}
+use Rattle.words.specs.Systems.{Head, Systems, SystemsWithin, systemsEntries, readSystems, headWord, systemsHeadFrom}
+use Rattle.words.specs.Systems.{systemsDue, systemsOf, systemsFrom, line, readLine}
 use Rattle.words.specs.Certificate.{Certificate, certificateForm, certificateEntries, readCertificate}
 use Rattle.words.specs.Certificate.{formWord, certificateDue, certificateWords, entryCount}
 use Rattle.words.specs.ReadingLaws.{andThen-read, renumber-read, outcome-accepted}
@@ -24,11 +26,14 @@ use Rattle.words.specs.PolynomialLaws.{length-polynomialWords}
 use Rattle.words.specs.PlaceLaws.{entry-words, entryPlace-zero, entryPlace-next, payloads-of}
 use Rattle.words.specs.VectorLaws.{all-at}
 use Rattle.words.specs.FrameLaws.{Entries, Expressible, body-read}
-use Rattle.words.specs.SystemHeadLaws.{head-read}
-use Rattle.words.specs.SystemLaws.{systemFrom-shown, system-written-of-read, system-expressible}
+use Rattle.words.specs.HeadLaws.{head-read}
+use Rattle.words.specs.SystemsLaws.{systemsFrom-shown, systems-read-of-written, systems-written-of-read}
+use Rattle.words.specs.SystemsLaws.{systems-expressible}
+use Rattle.words.specs.LineLaws.{line-written-of-read}
 use Rattle.words.specs.CertificateLaws.{certificate-laws, certificate-written-of-read, certificate-expressible}
-use Rattle.words.specs.Starts.{startPlace, coefficientsAt, firstEntries, HasEntries}
+use Rattle.words.specs.Starts.{startPlace, coefficientsAt, firstEntries, lineEntries, HasEntries}
 use Rattle.words.specs.Starts.{start-first, start-next, start-stays, length-firstEntries, getD-firstEntries}
+use Rattle.words.specs.Starts.{firstEntries-part, entriesFrom-part, has-fewer}
 
 -- so many polynomials within a limit, behind a head
 pub record FramedIn (ws : List ℕ) (due : Due) (fs : List (List ℕ)) : Type 0 where
@@ -56,18 +61,19 @@ module _ {H : Type 0} (by : ℕ) (headFrom : List ℕ → Reading H) (due : H �
       (record { head = headWord h; words = ew ∙ ap (λ (i : ℕ). headWord h ∷ body i) el; entries = b .within })
 
 module _ (limits : Limits) (ws : List ℕ) where
-  head-one-word : (h : Shape) (rest : List ℕ) → systemHeadFrom limits ws ≡ read h rest → ws ≡ headWord h ∷ rest
+  head-one-word : (h : Head) (rest : List ℕ) → systemsHeadFrom limits ws ≡ read h rest → ws ≡ headWord h ∷ rest
   head-one-word h rest r = head-read limits ws h rest r .words
 
-  pub system-framed : (s : System) → readSystem limits ws ≡ accepted s → FramedIn ws (systemDue limits (shape s)) (systemEntries s)
-  unfolding systemFrom systemOf
-  system-framed s e =
-      let t = outcome-accepted (length ws) (systemFrom limits ws) s (sym (systemFrom-shown limits ws) ∙ e) in
-      let u = andThen-read (framedFrom 0 (systemHeadFrom limits) (systemDue limits) ws) (t .1) in
+  pub systems-framed : (s : Systems) → readSystems limits ws ≡ accepted s
+      → FramedIn ws (systemsDue limits (s .head)) (systemsEntries s)
+  unfolding systemsFrom systemsOf
+  systems-framed s e =
+      let t = outcome-accepted (length ws) (systemsFrom limits ws) s (sym (systemsFrom-shown limits ws) ∙ e) in
+      let u = andThen-read (framedFrom 0 (systemsHeadFrom limits) (systemsDue limits) ws) (t .1) in
       let v = u .0 in
-      let f = framed-in 0 (systemHeadFrom limits) (systemDue limits) headWord ws head-one-word v (u .1) (u .2) in
-      let es : systemOf v ≡ s = cc in
-      let ee = take-append-drop (v .head .rows * v .head .columns) (v .entries) in
+      let f = framed-in 0 (systemsHeadFrom limits) (systemsDue limits) headWord ws head-one-word v (u .1) (u .2) in
+      let es : systemsOf v ≡ s = cc in
+      let ee = take-append-drop (v .head .shape .rows * v .head .shape .columns) (v .entries) in
       rw (← es, ee) f
 
   pub certificate-framed : (h : Shape) (c : Certificate) → readCertificate limits h ws ≡ accepted c
@@ -228,16 +234,52 @@ pub record EntriesRead (limit count : ℕ) (ws : List ℕ) (fs : List (List ℕ)
   pub has : HasEntries limit count ws
   pub same : firstEntries ws count ≡ fs
 
+-- and those of one line are its matrix and its right side
+pub record LineEntriesRead (limit k : ℕ) (ws : List ℕ) (s : System) : Type 0 where
+  pub has : HasEntries limit (s .rows * s .columns + k * s .rows + s .rows) ws
+  pub same : lineEntries ws (s .rows) (s .columns) k ≡ s .matrix ++ s .side
+
 entries-read : {ws : List ℕ} {due : Due} {fs : List (List ℕ)} → FramedIn ws due fs → Expressible due
     → EntriesRead (due .limit) (due .count) ws fs
 entries-read f e = record { has = framed-has f (e .limit); same = framed-first f (e .limit) (e .modulus) }
 
 module _ (limits : Limits) (fit : LimitsFit limits) (ws : List ℕ) where
-  pub system-entries-read : (s : System) → readSystem limits ws ≡ accepted s
-      → EntriesRead (limits .systemCoefficients) (systemCount (s .rows) (s .columns)) ws (systemEntries s)
-  system-entries-read s e =
-      let within = system-written-of-read limits fit ws s e .1 in
-      entries-read (system-framed limits ws s e) (system-expressible limits fit (shape s) (within .shape))
+  pub systems-entries-read : (s : Systems) → readSystems limits ws ≡ accepted s
+      → EntriesRead (limits .systemCoefficients) (systemsDue limits (s .head) .count) ws (systemsEntries s)
+  systems-entries-read s e =
+      let within = systems-written-of-read limits fit ws s e .1 in
+      entries-read (systems-framed limits ws s e) (systems-expressible limits fit (s .head) (within .head))
+
+  -- of one line
+  module _ (k : ℕ) where
+    of-systems : (s : Systems) → readSystems limits ws ≡ accepted s → SystemsWithin limits s → k < s .head .sides
+        → LineEntriesRead (limits .systemCoefficients) k ws (line s k)
+    unfolding line
+    of-systems s e within side =
+        let n = s .head .shape .rows in
+        let A = n * s .head .shape .columns in
+        let all = A + s .head .sides * n in
+        let read = systems-entries-read s e in
+        let few = mul-le-mul-right n side in
+        let more = suc-mul k n in
+        let size = within .matrix .count in
+        let behind : length (s .matrix) + k * n ≡ A + k * n = omega arith in
+        record {
+          has = has-fewer ws (read .has) (A + k * n + n) (omega arith);
+          same = ap₂ (λ (f g : List (List ℕ)). f ++ g)
+              (firstEntries-part ws A all (omega arith) ∙ ap (take A) (read .same) ∙ take-at (s .matrix) (s .sideEntries) A size)
+              (entriesFrom-part ws (A + k * n) n all (omega arith)
+              ∙ ap (λ (f : List (List ℕ)). take n (drop (A + k * n) f)) (read .same)
+              ∙ ap (λ (i : ℕ). take n (drop i (systemsEntries s))) (sym behind)
+              ∙ ap (take n) (drop-append-add (s .matrix) (s .sideEntries) (k * n)));
+        }
+
+    pub line-entries-read : (s : System) → readLine limits k ws ≡ accepted s
+        → LineEntriesRead (limits .systemCoefficients) k ws s
+    line-entries-read s e =
+        let L = line-written-of-read limits fit k ws e in
+        let read = ap (readSystems limits) (L .words) ∙ systems-read-of-written limits fit (L .systems) (L .within) in
+        subst (LineEntriesRead (limits .systemCoefficients) k ws) (sym (L .is)) (of-systems (L .systems) read (L .within) (L .has))
 
   pub certificate-entries-read : (h : Shape) → ShapeWithin limits h → (c : Certificate) → readCertificate limits h ws ≡ accepted c
       → EntriesRead (limits .certificateCoefficients) (entryCount h (certificateForm c)) ws (certificateEntries c)

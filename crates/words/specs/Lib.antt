@@ -1,8 +1,8 @@
 -- interface, what contracts, other crates and documents cite: Limits, Word, Outcome, OutcomeLaws, Reading, Polynomial, Frame,
---   System, Certificate, Bytes, Examples, WordLaws, ReadingLaws, PolynomialLaws, FrameLaws, FormatLaws, LimitsLaws, VectorLaws,
---   SystemHeadLaws, SystemLaws, CertificateLaws, LongestLaws, WidthLaws, BytesLaws, ForwardLaws, PlaceLaws, PrefixLaws, Rows,
---   RowLaws, PolynomialRows, Table, FirstFault, TenFirst, PolynomialsRefused, RefusedLaws, TableExamples, Pair, PairLaws, Starts,
---   FramedLaws
+--   System, Systems, Certificate, Bytes, Examples, WordLaws, ReadingLaws, PolynomialLaws, FrameLaws, FormatLaws, LimitsLaws,
+--   VectorLaws, HeadLaws, SystemLaws, SystemsLaws, CertificateLaws, LongestLaws, WidthLaws, BytesLaws, ForwardLaws, PlaceLaws,
+--   PrefixLaws, Rows, RowLaws, PolynomialRows, Table, FirstFault, TenFirst, PolynomialsRefused, RefusedLaws, TableExamples, Pair,
+--   PairLaws, Line, LineLaws, SourceLaws, LineFileLaws, Before, BeforeLaws, Starts, FramedLaws
 -- inside: TableLaws, PassLaws, CompleteLaws, OnTableLaws, FirstFaultLaws
 pub mod Limits
 pub mod Word
@@ -12,6 +12,7 @@ pub mod Reading
 pub mod Polynomial
 pub mod Frame
 pub mod System
+pub mod Systems
 pub mod Certificate
 pub mod Bytes
 pub mod Examples
@@ -22,8 +23,9 @@ pub mod FrameLaws
 pub mod FormatLaws
 pub mod LimitsLaws
 pub mod VectorLaws
-pub mod SystemHeadLaws
+pub mod HeadLaws
 pub mod SystemLaws
+pub mod SystemsLaws
 pub mod CertificateLaws
 pub mod LongestLaws
 pub mod WidthLaws
@@ -47,5 +49,11 @@ pub mod RefusedLaws
 pub mod TableExamples
 pub mod Pair
 pub mod PairLaws
+pub mod Line
+pub mod LineLaws
+pub mod SourceLaws
+pub mod LineFileLaws
+pub mod Before
+pub mod BeforeLaws
 pub mod Starts
 pub mod FramedLaws

@@ -10,7 +10,7 @@ use Rattle.modular.specs.Primality.{prime-of-true}
 use Rattle.modular.specs.Prime.{prime?}
 use Rattle.words.specs.Limits.{Limits, longestSystem, longestCertificate}
 use Rattle.words.specs.Polynomial.{Within, AllWithin, VectorWithin, polynomialWords, polynomialsWords}
-use Rattle.words.specs.System.{System, shape, SystemWithin, headWord, systemEntries, systemWords}
+use Rattle.words.specs.Systems.{Systems, SystemsWithin, headWord, systemsEntries, systemsWords}
 use Rattle.words.specs.Certificate.{Certificate, CertificateWithin, certificateForm, certificateEntries}
 use Rattle.words.specs.Certificate.{formWord, certificateWords}
 use Rattle.words.specs.Certificate.Certificate.{solution}
@@ -66,9 +66,9 @@ length-full size (suc count) =
 
 -- ---- lengths of written forms
 
-length-systemWords : (s : System) → length (systemWords s) ≡ 2 + length (polynomialsWords (systemEntries s))
-unfolding systemWords
-length-systemWords s = length-framedWords (headWord (shape s)) (systemEntries s)
+length-systemsWords : (s : Systems) → length (systemsWords s) ≡ 2 + length (polynomialsWords (systemsEntries s))
+unfolding systemsWords
+length-systemsWords s = length-framedWords (headWord (s .head)) (systemsEntries s)
 
 length-certificateWords : (c : Certificate) → length (certificateWords c) ≡ 2 + length (polynomialsWords (certificateEntries c))
 unfolding certificateWords
@@ -77,13 +77,11 @@ length-certificateWords c = length-framedWords (formWord (certificateForm c)) (c
 -- ---- the longest system, and the longest certificate for it
 
 module _ (limits : Limits) where
-  pub longSystem : System
-  longSystem = record {
-    modulus = 2;
-    rows = limits .rows;
-    columns = limits .columns;
+  pub longSystems : Systems
+  longSystems = record {
+    head = record { shape = record { modulus = 2; rows = limits .rows; columns = limits .columns }; sides = limits .sides };
     matrix = full (limits .systemCoefficients) (limits .rows * limits .columns);
-    side = full (limits .systemCoefficients) (limits .rows);
+    sideEntries = full (limits .systemCoefficients) (limits .sides * limits .rows);
   }
 
   pub longCertificate : Certificate
@@ -91,19 +89,18 @@ module _ (limits : Limits) where
       let c = limits .certificateCoefficients in
       solution (ones c) (full c (limits .columns)) (ones c) (full c (limits .rows))
 
-  pub systemWords-reached : length (systemWords longSystem) ≡ longestSystem limits
-  unfolding longSystem
-  systemWords-reached =
+  pub systemsWords-reached : length (systemsWords longSystems) ≡ longestSystem limits
+  unfolding longSystems
+  systemsWords-reached =
       let c = limits .systemCoefficients in
       let A = full c (limits .rows * limits .columns) in
-      let b = full c (limits .rows) in
+      let b = full c (limits .sides * limits .rows) in
       omega (
         arith,
-        length-systemWords longSystem,
+        length-systemsWords longSystems,
         length-append-words A b,
-        length-full c
-            (limits .rows * limits .columns),
-        length-full c (limits .rows),
+        length-full c (limits .rows * limits .columns),
+        length-full c (limits .sides * limits .rows),
       )
 
   pub certificateWords-reached : length (certificateWords longCertificate) ≡ longestCertificate limits
@@ -123,22 +120,25 @@ module _ (limits : Limits) where
         length-full c (limits .rows),
       )
 
-  module _ (some-rows : 1 ≤ limits .rows) (some-columns : 1 ≤ limits .columns) where
-    pub longSystem-within : SystemWithin limits longSystem
-    unfolding longSystem prime?
-    longSystem-within = record {
-      shape = record {
-        prime = prime-of-true 2 refl;
-        modulus = omega arith;
-        rows = (some-rows, le-refl (limits .rows));
-        columns = (some-columns, le-refl (limits .columns));
+  module _ (some-rows : 1 ≤ limits .rows) (some-columns : 1 ≤ limits .columns) (some-sides : 1 ≤ limits .sides) where
+    pub longSystems-within : SystemsWithin limits longSystems
+    unfolding longSystems prime?
+    longSystems-within = record {
+      head = record {
+        shape = record {
+          prime = prime-of-true 2 refl;
+          modulus = omega arith;
+          rows = (some-rows, le-refl (limits .rows));
+          columns = (some-columns, le-refl (limits .columns));
+        };
+        sides = (some-sides, le-refl (limits .sides));
       };
       matrix = full-within 2 (omega arith) (limits .systemCoefficients) (limits .rows * limits .columns);
-      side = full-within 2 (omega arith) (limits .systemCoefficients) (limits .rows);
+      sideEntries = full-within 2 (omega arith) (limits .systemCoefficients) (limits .sides * limits .rows);
     }
 
-  pub longCertificate-within : CertificateWithin limits (shape longSystem) longCertificate
-  unfolding longSystem longCertificate CertificateWithin
+  pub longCertificate-within : CertificateWithin limits (longSystems .head .shape) longCertificate
+  unfolding longSystems longCertificate CertificateWithin
   longCertificate-within =
       let c = limits .certificateCoefficients in
       record {

@@ -5,12 +5,11 @@ use mathlib.Core.Bool.{Bool, true, false, not, _&&_, _||_}
 use mathlib.Core.Logic.{_⊎_, inl, inr, ⊎-elim, _↔_}
 use mathlib.Core.Option.{Option, none, some}
 use mathlib.Core.List.{List, _∷_, _++_}
-use Prim.Native.Nat.{ℕ, suc, _*_, _/_, _%_, _≤_, _<_}
+use Prim.Native.Nat.{ℕ, suc, _*_, _≤_, _<_}
 use native.Mathlib.Omega.{arith}
 use lib.ListN.{length, getD, take}
-use lib.Dec.{eqb}
+use lib.Dec.{eqb, leb}
 use borrow.Author.Tests.{ltb-false}
-use Rattle.modular.specs.Bits.{bound4}
 use Rattle.modular.specs.Prime.{prime?}
 use Rattle.modular.specs.Primality.{prime-of-true}
 use Rattle.words.specs.Limits.{Limits, longestSystem}
@@ -20,21 +19,20 @@ use Rattle.words.specs.Outcome.Outcome.{refused}
 use Rattle.words.specs.OutcomeLaws.{refuse-refused-iff}
 use Rattle.words.specs.BytesLaws.{length-wordsOf, or-right}
 use Rattle.words.specs.Reading.{Reading, turnBack}
-use Rattle.words.specs.System.{Shape, ShapeWithin, headShape, countsWithin, systemWords, systemHeadFrom, systemDue}
-use Rattle.words.specs.System.{zeroUnit}
-use Rattle.words.specs.System.{readSystem}
+use Rattle.words.specs.System.{Shape, ShapeWithin, countsWithin}
+use Rattle.words.specs.Systems.{Head, HeadWithin, headIn, systemsWords, systemsHeadFrom, systemsDue, readSystems}
 use Rattle.words.specs.Certificate.{formWhen, certificateHeadFrom, certificateDue, certificateWords, readCertificate}
 use Rattle.words.specs.Certificate.Form.{absent}
-use Rattle.words.specs.Bytes.{wordsOf, broken, tooLong, readSystemFile, wordBytes}
+use Rattle.words.specs.Bytes.{wordsOf, broken, tooLong, readSystemsFile, wordBytes}
 use Rattle.words.specs.LimitsLaws.{LimitsFit}
-use Rattle.words.specs.SystemLaws.{systemFormat, system-laws, system-expressible}
+use Rattle.words.specs.SystemsLaws.{systemsFormat, systems-laws, systems-expressible}
 use Rattle.words.specs.CertificateLaws.{certificateFormat, certificate-laws, certificate-expressible}
 use Rattle.words.specs.Table.{tableRow, numberAt, dueAfter, Passed, ByTable}
 use Rattle.words.specs.Table.{systemHeadNumber, certificateHeadNumber, systemTable, certificateTable}
 use Rattle.words.specs.Table.Expected.{head}
 use Rattle.words.specs.TableLaws.{turned, HeadWalk}
 use Rattle.words.specs.PassLaws.{none-some}
-use Rattle.words.specs.FirstFault.{SystemBegins, SystemWhole, CertificateBegins, CertificateWhole, FirstFault}
+use Rattle.words.specs.FirstFault.{SystemsBegin, SystemsWhole, CertificateBegins, CertificateWhole, FirstFault}
 use Rattle.words.specs.OnTableLaws as place
 use Rattle.words.specs.TenFirst.{TenFirst, FileRefused}
 use Rattle.words.specs.TenFirst.TenFirst.{ten, others}
@@ -50,16 +48,16 @@ row-turned : {A : Type 0} (b : Bool) (number : ℕ) (ws : List ℕ) (next : Read
 row-turned true number ws next below other h = refl
 row-turned false number ws next below other h = h
 
-system-heads : (limits : Limits) → HeadWalk (systemHeadFrom limits) (systemDue limits) (systemTable limits) 0
-unfolding systemHeadFrom systemHeadNumber
-system-heads limits =
+systems-heads : (limits : Limits) → HeadWalk (systemsHeadFrom limits) (systemsDue limits) (systemTable limits) 0
+unfolding systemsHeadFrom systemHeadNumber
+systems-heads limits =
     record {
-      value = headShape;
+      value = headIn;
       missing = refl;
       word = λ w ws.
-          row-turned (not (eqb (kind w) 1 && eqb (w / zeroUnit % bound4) 0)) 1 (w ∷ ws) _ _ _
-          (row-turned (not (prime? (headShape w .modulus))) 2 (w ∷ ws) _ _ _
-          (row-turned (not (countsWithin limits (headShape w))) 3 (w ∷ ws) _ none _ refl));
+          row-turned (not (eqb (kind w) 1 && leb (headIn w .sides) (limits .sides))) 1 (w ∷ ws) _ _ _
+          (row-turned (not (prime? (headIn w .shape .modulus))) 2 (w ∷ ws) _ _ _
+          (row-turned (not (countsWithin limits (headIn w .shape))) 3 (w ∷ ws) _ none _ refl));
       says = λ w. refl;
     }
 
@@ -74,12 +72,12 @@ certificate-heads limits h =
       says = λ w. refl;
     }
 
-system-head-numbers : (limits : Limits) (w n : ℕ) → systemHeadNumber limits w ≡ some n → (1 ≤ n) × (n ≤ 3)
+systems-head-numbers : (limits : Limits) (w n : ℕ) → systemHeadNumber limits w ≡ some n → (1 ≤ n) × (n ≤ 3)
 unfolding systemHeadNumber
-system-head-numbers limits w n h =
-    head-row (not (eqb (kind w) 1 && eqb (w / zeroUnit % bound4) 0)) 1 _ (omega arith)
-    (head-row (not (prime? (headShape w .modulus))) 2 _ (omega arith)
-    (head-row (not (countsWithin limits (headShape w))) 3 none (omega arith) (λ e. absurd (none-some e)))) h
+systems-head-numbers limits w n h =
+    head-row (not (eqb (kind w) 1 && leb (headIn w .sides) (limits .sides))) 1 _ (omega arith)
+    (head-row (not (prime? (headIn w .shape .modulus))) 2 _ (omega arith)
+    (head-row (not (countsWithin limits (headIn w .shape))) 3 none (omega arith) (λ e. absurd (none-some e)))) h
   where
     head-row : (b : Bool) (i : ℕ) (below : Option ℕ) → (1 ≤ i) × (i ≤ 3) → (below ≡ some n → (1 ≤ n) × (n ≤ 3))
         → tableRow b i below ≡ some n → (1 ≤ n) × (n ≤ 3)
@@ -97,79 +95,81 @@ certificate-head-numbers w n h = head-row (not (eqb (kind w) 5 && (eqb (payload 
 -- ---- systems
 
 module _ (limits : Limits) where
-  abbrev system-tabled : Tabled (systemFormat limits)
-  system-tabled = record { table = systemTable limits; heads = system-heads limits }
+  abbrev systems-tabled : Tabled (systemsFormat limits)
+  systems-tabled = record { table = systemTable limits; heads = systems-heads limits }
 
   -- A system's words are refused just by the table: the number is that of the first row that the word at the place breaks, by what
   -- is due there, and no word before it breaks one.
-  pub system-refused-iff : (ws : List ℕ) (n k : ℕ) → (readSystem limits ws ≡ refused n k) ↔ ByTable (systemTable limits) 0 ws n k
-  unfolding readSystem
-  system-refused-iff ws n k = first.refused-iff (systemFormat limits) system-tabled ws n k
+  pub systems-refused-iff : (ws : List ℕ) (n k : ℕ) → (readSystems limits ws ≡ refused n k) ↔ ByTable (systemTable limits) 0 ws n k
+  unfolding readSystems
+  systems-refused-iff ws n k = first.refused-iff (systemsFormat limits) systems-tabled ws n k
 
   -- the same of the word at the place
-  pub system-number : (ws : List ℕ) {n k : ℕ} → readSystem limits ws ≡ refused n k → k < length ws
+  pub systems-number : (ws : List ℕ) {n k : ℕ} → readSystems limits ws ≡ refused n k → k < length ws
       → numberAt (systemTable limits) 0 (dueAfter (systemTable limits) head (take k ws)) (suc k) (getD ws k 0) ≡ some n
-  system-number ws {n} {k} e more = place.row-at-word (systemTable limits) 0 ws (system-refused-iff ws n k .0 e) more
+  systems-number ws {n} {k} e more = place.row-at-word (systemTable limits) 0 ws (systems-refused-iff ws n k .0 e) more
 
   -- 1 to 3 at 0, 4 at the number of words, 5 to 9 at a word behind the head
-  pub system-rows : (ws : List ℕ) → RefusesBy (systemRows ws) (readSystem limits ws)
-  system-rows ws = record {
-    in-rows = λ n k e. place.on-table (systemTable limits) 0 1 3 (system-head-numbers limits) ws (system-refused-iff ws n k .0 e);
+  pub systems-rows : (ws : List ℕ) → RefusesBy (systemRows ws) (readSystems limits ws)
+  systems-rows ws = record {
+    in-rows = λ n k e. place.on-table (systemTable limits) 0 1 3 (systems-head-numbers limits) ws (systems-refused-iff ws n k .0 e);
   }
 
   -- a first fault has one place
-  pub system-fault-once : (ws : List ℕ) {n k m j : ℕ} → FirstFault (SystemBegins limits) (SystemWhole limits) 4 ws n k
-      → FirstFault (SystemBegins limits) (SystemWhole limits) 4 ws m j → k ≡ j
-  unfolding SystemBegins SystemWhole systemWords
-  system-fault-once ws f g = first.first-fault-once (systemFormat limits) ws f g
+  pub systems-fault-once : (ws : List ℕ) {n k m j : ℕ} → FirstFault (SystemsBegin limits) (SystemsWhole limits) 4 ws n k
+      → FirstFault (SystemsBegin limits) (SystemsWhole limits) 4 ws m j → k ≡ j
+  unfolding SystemsBegin SystemsWhole systemsWords
+  systems-fault-once ws f g = first.first-fault-once (systemsFormat limits) ws f g
 
   module _ (fit : LimitsFit limits) where
-    system-roomy : Roomy (systemFormat limits)
-    system-roomy =
-        record { laws = system-laws limits fit; expressible = system-expressible limits fit; two = λ h w. w .prime .large }
+    systems-roomy : Roomy (systemsFormat limits)
+    systems-roomy =
+        record { laws = systems-laws limits fit; expressible = systems-expressible limits fit; two = λ h w. w .shape .prime .large }
 
     -- "or words follow, the first of them"
-    pub system-words-follow : (ws : List ℕ) → SystemWhole limits ws → (u : ℕ) (us : List ℕ)
-        → readSystem limits (ws ++ u ∷ us) ≡ refused 9 (length ws)
-    unfolding SystemWhole systemWords readSystem
-    system-words-follow ws t u us =
-        first.words-follow (systemFormat limits) system-tabled system-roomy ws t u us
+    pub systems-words-follow : (ws : List ℕ) → SystemsWhole limits ws → (u : ℕ) (us : List ℕ)
+        → readSystems limits (ws ++ u ∷ us) ≡ refused 9 (length ws)
+    unfolding SystemsWhole systemsWords readSystems
+    systems-words-follow ws t u us =
+        first.words-follow (systemsFormat limits) systems-tabled systems-roomy ws t u us
 
     -- where there is a system at all: without one, no words begin any
-    module _ (rows : 1 ≤ limits .rows) (columns : 1 ≤ limits .columns) where
-      smallest : Shape
-      smallest = record { modulus = 2; rows = 1; columns = 1 }
+    module _ (rows : 1 ≤ limits .rows) (columns : 1 ≤ limits .columns) (sides : 1 ≤ limits .sides) where
+      smallest : Head
+      smallest = record { shape = record { modulus = 2; rows = 1; columns = 1 }; sides = 1 }
 
-      smallest-within : ShapeWithin limits smallest
+      smallest-within : HeadWithin limits smallest
       unfolding smallest prime?
       smallest-within =
           record {
-            prime = prime-of-true 2 refl;
-            modulus = omega arith;
-            rows = (omega arith, rows);
-            columns =
-                (omega arith, columns);
+            shape = record {
+              prime = prime-of-true 2 refl;
+              modulus = omega arith;
+              rows = (omega arith, rows);
+              columns = (omega arith, columns);
+            };
+            sides = (omega arith, sides);
           }
 
       -- words begin a system just where none of them breaks a row
-      pub system-begins-iff : (us : List ℕ) → SystemBegins limits us ↔ Passed (systemTable limits) 0 0 head us
-      unfolding SystemBegins systemWords
-      system-begins-iff us =
-          first.begins-iff (systemFormat limits) system-tabled system-roomy smallest smallest-within us
+      pub systems-begins-iff : (us : List ℕ) → SystemsBegin limits us ↔ Passed (systemTable limits) 0 0 head us
+      unfolding SystemsBegin systemsWords
+      systems-begins-iff us =
+          first.begins-iff (systemsFormat limits) systems-tabled systems-roomy smallest smallest-within us
 
       -- the first word at fault decides
-      pub system-first-fault : (ws : List ℕ) {n k : ℕ} → readSystem limits ws ≡ refused n k
-          → FirstFault (SystemBegins limits) (SystemWhole limits) 4 ws n k
-      unfolding SystemBegins SystemWhole systemWords readSystem
-      system-first-fault ws e =
-          first.first-fault (systemFormat limits) system-tabled system-roomy smallest smallest-within ws e
+      pub systems-first-fault : (ws : List ℕ) {n k : ℕ} → readSystems limits ws ≡ refused n k
+          → FirstFault (SystemsBegin limits) (SystemsWhole limits) 4 ws n k
+      unfolding SystemsBegin SystemsWhole systemsWords readSystems
+      systems-first-fault ws e =
+          first.first-fault (systemsFormat limits) systems-tabled systems-roomy smallest smallest-within ws e
 
       -- 4, "a word is missing": just of words that begin a system and are none
-      pub system-missing-iff : (ws : List ℕ)
-          → (readSystem limits ws ≡ refused 4 (length ws)) ↔ (SystemBegins limits ws × ¬ SystemWhole limits ws)
-      unfolding SystemBegins SystemWhole systemWords readSystem
-      system-missing-iff ws =
-          first.missing-iff (systemFormat limits) system-tabled system-roomy smallest smallest-within ws
+      pub systems-missing-iff : (ws : List ℕ)
+          → (readSystems limits ws ≡ refused 4 (length ws)) ↔ (SystemsBegin limits ws × ¬ SystemsWhole limits ws)
+      unfolding SystemsBegin SystemsWhole systemsWords readSystems
+      systems-missing-iff ws =
+          first.missing-iff (systemsFormat limits) systems-tabled systems-roomy smallest smallest-within ws
 
 -- ---- certificates for a system of the shape h
 
@@ -254,19 +254,19 @@ ten-first-iff at-fault o Others iff n k = (
     back (others b h) = first .1 (inr (b, iff n k .1 h))
 
 pub file-refused-iff : (limits : Limits) (file : List ℕ) (n k : ℕ)
-    → (readSystemFile limits file ≡ refused n k) ↔ FileRefused limits file n k
-unfolding readSystemFile
+    → (readSystemsFile limits file ≡ refused n k) ↔ FileRefused limits file n k
+unfolding readSystemsFile
 file-refused-iff limits file =
-    ten-first-iff (broken file || tooLong limits file) (readSystem limits (wordsOf file)) _
-    (system-refused-iff limits (wordsOf file))
+    ten-first-iff (broken file || tooLong limits file) (readSystems limits (wordsOf file)) _
+    (systems-refused-iff limits (wordsOf file))
 
 -- 10 at 0, else a row of its words
-pub file-rows : (limits : Limits) (file : List ℕ) → RefusesBy (fileRows (wordsOf file)) (readSystemFile limits file)
-unfolding readSystemFile
-file-rows limits file = by-row (broken file || tooLong limits file) 10 (system-rows limits (wordsOf file))
+pub file-rows : (limits : Limits) (file : List ℕ) → RefusesBy (fileRows (wordsOf file)) (readSystemsFile limits file)
+unfolding readSystemsFile
+file-rows limits file = by-row (broken file || tooLong limits file) 10 (systems-rows limits (wordsOf file))
 
 -- so a place in a file that passes 10 is at most the number of words of the longest system
-pub file-place : (limits : Limits) (file : List ℕ) {n k : ℕ} → readSystemFile limits file ≡ refused n k → k ≤ longestSystem limits
+pub file-place : (limits : Limits) (file : List ℕ) {n k : ℕ} → readSystemsFile limits file ≡ refused n k → k ≤ longestSystem limits
 file-place limits file {n} {k} e = by (file-refused-iff limits file n k .0 e)
   where
     by : FileRefused limits file n k → k ≤ longestSystem limits

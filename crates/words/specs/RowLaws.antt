@@ -14,7 +14,7 @@ use Rattle.words.specs.Outcome.{Outcome, refuse, followedBy, mapped}
 use Rattle.words.specs.Outcome.Outcome.{accepted, refused}
 use Rattle.words.specs.OutcomeLaws.{refused-accepted, mapped-refused}
 use Rattle.words.specs.ReadingLaws.{and-passed}
-use Rattle.words.specs.System.{headShape}
+use Rattle.words.specs.Systems.{headIn}
 use Rattle.words.specs.Rows.{Row, InRow, InRows, RefusesBy, at-0, wordsRows, certificateRows, valueRows, checkRows}
 
 -- all numbers of these rows lie between two
@@ -95,9 +95,11 @@ words-below lowest highest by count rows h b = (omega arith, (omega arith, (omeg
 
 pub check-below : (ws cs : List ℕ) {most : ℕ} → length ws ≤ most → length cs ≤ most → most4 ≤ most
     → Below (suc most) (checkRows ws cs)
-unfolding headShape
+unfolding headIn
 check-below ws cs system certificate heads =
-    let values = valueRows (headShape (getD ws 0 0)) in
-    words-below 1 3 0 (length ws) (certificateRows cs ++ values) system
-    (words-below 21 21 20 (length cs) values certificate
-    (omega arith, (omega arith, (omega arith, (omega arith, (omega arith, (omega arith, tt)))))))
+    let values = valueRows (headIn (getD ws 0 0) .shape) in
+    words-below 1 3 0 (length ws) (at-0 40 ∷ certificateRows cs ++ values) system (
+      omega arith,
+      words-below 21 21 20 (length cs) values certificate
+          (omega arith, (omega arith, (omega arith, (omega arith, (omega arith, (omega arith, tt)))))),
+    )

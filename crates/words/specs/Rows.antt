@@ -7,7 +7,8 @@ use mathlib.Core.List.{List, [], _∷_, _++_}
 use lib.ListN.{length, getD}
 use Rattle.words.specs.Outcome.{Outcome}
 use Rattle.words.specs.Outcome.Outcome.{refused}
-use Rattle.words.specs.System.{Shape, headShape}
+use Rattle.words.specs.System.{Shape}
+use Rattle.words.specs.Systems.{headIn}
 
 -- the numbers `lowest` to `highest`, at the places from `first` on and below `below`
 pub record Row : Type 0 where
@@ -48,9 +49,13 @@ wordsRows lowest highest by count =
 abbrev pub polynomialRows : (count : ℕ) → List Row
 polynomialRows count = rowWith 4 4 count (suc count) ∷ rowWith 5 8 0 count ∷ []
 
--- 1 to 9 of a system's words
+-- 1 to 9 of a sheet's words
 abbrev pub systemRows : List ℕ → List Row
 systemRows ws = wordsRows 1 3 0 (length ws)
+
+-- and 40, of one line
+abbrev pub lineRows : List ℕ → List Row
+lineRows ws = systemRows ws ++ at-0 40 ∷ []
 
 -- 21 and 24 to 29 of a certificate's
 abbrev pub certificateRows : List ℕ → List Row
@@ -65,20 +70,23 @@ valueRows h =
 
 -- ---- entries
 
--- a system's file: 10 and the system's
+-- a sheet's file: 10 and the sheet's; the same of one line
 abbrev pub fileRows : List ℕ → List Row
 fileRows words = at-0 10 ∷ systemRows words
 
--- the solver: 11 behind the system's; on files behind 10 and the system's
+abbrev pub lineFileRows : List ℕ → List Row
+lineFileRows words = at-0 10 ∷ lineRows words
+
+-- the solver: 11 behind the line's; on files behind 10 and the line's
 abbrev pub solverRows : List ℕ → List Row
-solverRows ws = systemRows ws ++ at-0 11 ∷ []
+solverRows ws = lineRows ws ++ at-0 11 ∷ []
 
 abbrev pub solverFileRows : List ℕ → List Row
-solverFileRows words = fileRows words ++ at-0 11 ∷ []
+solverFileRows words = lineFileRows words ++ at-0 11 ∷ []
 
 -- the check on words
 abbrev pub checkRows : List ℕ → List ℕ → List Row
-checkRows ws cs = systemRows ws ++ certificateRows cs ++ valueRows (headShape (getD ws 0 0))
+checkRows ws cs = lineRows ws ++ certificateRows cs ++ valueRows (headIn (getD ws 0 0) .shape)
 
 -- the check on files, of their words
 abbrev pub checkFileRows : List ℕ → List ℕ → List Row

@@ -1,15 +1,15 @@
 -- The polynomials that stand in words behind a head, by the words alone: "Kind 2, start of a polynomial: the number of its
 -- coefficients", and so where the next start word stands. Of words that were read these are the polynomials of what was read
 -- (`FramedLaws`).
-use mathlib.Core.Path.{_≡_, refl, ap, _∙_}
+use mathlib.Core.Path.{_≡_, refl, sym, ap, _∙_}
 use mathlib.Core.Bool.{Bool, true, false}
 use mathlib.Core.List.{List, [], _∷_, _++_, map}
-use Prim.Native.Nat.{ℕ, zero, suc, _+_, _≤_, _<_}
+use Prim.Native.Nat.{ℕ, zero, suc, _+_, _*_, _≤_, _<_}
 use native.Mathlib.Omega.{arith}
 use native.Mathlib.Decide.{decLt}
 use lib.ListN.{length, getD, take, drop, length-append, length-drop, length-map, List·getD-append, List·getD-map}
 use lib.ListN.{List·getD-eq-default}
-use lib.Seq.{length-take-le, getD-at, getD-take, getD-drop}
+use lib.Seq.{length-take-le, getD-at, getD-take, getD-drop, take-add, drop-at, ext-getD}
 use lib.Dec.{eqb}
 use borrow.Author.Tests.{eq-eqb, eqb-true}
 use Rattle.words.specs.Word.{kind, payload}
@@ -33,6 +33,15 @@ coefficientsAt ws at = map payload (take (payload (getD ws at 0)) (drop (at + 1)
 unfoldable pub firstEntries : List ℕ → ℕ → List (List ℕ)
 firstEntries ws zero = []
 firstEntries ws (suc k) = firstEntries ws k ++ coefficientsAt ws (startPlace ws k) ∷ []
+
+-- so many behind the first `from`
+unfoldable pub entriesFrom : List ℕ → (from count : ℕ) → List (List ℕ)
+unfolding firstEntries
+entriesFrom ws from count = drop from (firstEntries ws (from + count))
+
+-- those of a matrix, and those of right side k: the right sides "stand one after another behind A"
+abbrev pub lineEntries : List ℕ → (rows columns k : ℕ) → List (List ℕ)
+lineEntries ws rows columns k = firstEntries ws (rows * columns) ++ entriesFrom ws (rows * columns + k * rows) rows
 
 -- so many polynomials stand there, each of at most so many coefficients
 pub record HasEntries (limit count : ℕ) (ws : List ℕ) : Type 0 where
@@ -117,3 +126,44 @@ module _ (ws : List ℕ) where
           )
       either (no past) =
           omega (arith, ap length (List·getD-eq-default (firstEntries ws k) [] {n = j} (omega (arith, length-firstEntries k))))
+
+  -- ---- those behind
+
+  module _ (from count : ℕ) where
+    pub length-entriesFrom : length (entriesFrom ws from count) ≡ count
+    unfolding entriesFrom
+    length-entriesFrom =
+        omega (arith, length-drop from (firstEntries ws (from + count)), length-firstEntries (from + count))
+
+    pub getD-entriesFrom : (k : ℕ) → k < count
+        → getD (entriesFrom ws from count) k [] ≡ coefficientsAt ws (startPlace ws (from + k))
+    unfolding entriesFrom
+    getD-entriesFrom k lt =
+        getD-drop from (firstEntries ws (from + count)) k [] ∙ getD-firstEntries (from + count) (from + k) (omega arith)
+
+  -- they are parts of all
+  pub firstEntries-part : (count all : ℕ) → count ≤ all → firstEntries ws count ≡ take count (firstEntries ws all)
+  firstEntries-part count all few =
+      let n = length-firstEntries count in
+      ext-getD [] (firstEntries ws count) (take count (firstEntries ws all))
+      (n ∙ sym (length-take-le count (firstEntries ws all) (omega (arith, length-firstEntries all))))
+      (λ k lt.
+      getD-firstEntries count k (omega arith)
+      ∙ sym (getD-take count (firstEntries ws all) k [] (omega arith) ∙ getD-firstEntries all k (omega arith)))
+
+  pub entriesFrom-part : (from count all : ℕ) → from + count ≤ all
+      → entriesFrom ws from count ≡ take count (drop from (firstEntries ws all))
+  unfolding entriesFrom
+  entriesFrom-part from count all few =
+      let fs = firstEntries ws all in
+      ap (drop from) (firstEntries-part (from + count) all few ∙ take-add from count fs)
+      ∙ drop-at (take from fs) (take count (drop from fs)) from
+      (length-take-le from fs (omega (arith, length-firstEntries all)))
+
+  -- where so many stand, fewer do
+  pub has-fewer : {limit n : ℕ} → HasEntries limit n ws → (m : ℕ) → m ≤ n → HasEntries limit m ws
+  has-fewer h m few = record {
+    starts = λ k lt. h .starts k (omega arith);
+    sizes = λ k lt. h .sizes k (omega arith);
+    inside = λ k lt. h .inside k (omega arith);
+  }

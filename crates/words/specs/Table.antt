@@ -1,19 +1,19 @@
 -- Document 01's table "Turned back", rows 1 to 9 and 21 to 29, as a table: what is due at a place, the first row that a word breaks
 -- there, and what is due behind it. No value is read here; that the readers refuse just by this table, and at the first word that
 -- breaks a row, is shown in `RefusedLaws`.
-use Prim.Native.Nat.{ℕ, zero, suc, _+_, _/_, _%_, _≤_}
+use Prim.Native.Nat.{ℕ, zero, suc, _+_, _≤_}
 use mathlib.Core.Path.{_≡_}
 use mathlib.Core.Bool.{Bool, true, false, not, _&&_, _||_}
 use mathlib.Core.Option.{Option, none, some}
 use mathlib.Core.List.{List, [], _∷_}
 use lib.ListN.{length, take, drop}
 use lib.Dec.{eqb, leb, ltb}
-use Rattle.modular.specs.Bits.{bound4}
 use Rattle.modular.specs.Prime.{prime?}
 use Rattle.words.specs.Limits.{Limits}
 use Rattle.words.specs.Word.{kind, payload}
 use Rattle.words.specs.Frame.{Due}
-use Rattle.words.specs.System.{Shape, headShape, countsWithin, systemDue, zeroUnit}
+use Rattle.words.specs.System.{Shape, countsWithin}
+use Rattle.words.specs.Systems.{headIn, systemsDue}
 use Rattle.words.specs.Certificate.{formWhen, certificateDue}
 
 -- ---- what is due
@@ -130,12 +130,12 @@ pub record PolynomialsByTable (p limit count : ℕ) (ws : List ℕ) (number plac
 
 -- ---- the heads
 
--- 1: kind not 1 or bits 24 to 27 not zero; 2: p not prime; 3: n or m outside 1 to 8
+-- 1: kind not 1, or bits 24 to 27, the number of right sides less one, above 7; 2: p not prime; 3: n or m outside 1 to 8
 unfoldable pub systemHeadNumber : Limits → ℕ → Option ℕ
 systemHeadNumber limits w =
-    tableRow (not (eqb (kind w) 1 && eqb (w / zeroUnit % bound4) 0)) 1
-    (tableRow (not (prime? (headShape w .modulus))) 2
-    (tableRow (not (countsWithin limits (headShape w))) 3
+    tableRow (not (eqb (kind w) 1 && leb (headIn w .sides) (limits .sides))) 1
+    (tableRow (not (prime? (headIn w .shape .modulus))) 2
+    (tableRow (not (countsWithin limits (headIn w .shape))) 3
     none))
 
 -- 21: kind not 5 or payload not 1 or 2
@@ -143,7 +143,7 @@ unfoldable pub certificateHeadNumber : ℕ → Option ℕ
 certificateHeadNumber w = tableRow (not (eqb (kind w) 5 && (eqb (payload w) 1 || eqb (payload w) 2))) 21 none
 
 abbrev pub systemTable : Limits → HeadTable
-systemTable limits = record { number = systemHeadNumber limits; due = λ w. systemDue limits (headShape w) }
+systemTable limits = record { number = systemHeadNumber limits; due = λ w. systemsDue limits (headIn w) }
 
 abbrev pub certificateTable : Limits → Shape → HeadTable
 certificateTable limits h =

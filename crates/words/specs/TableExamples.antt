@@ -7,10 +7,11 @@ use native.Mathlib.Omega.{arith}
 use Rattle.words.specs.Limits.{office, panel}
 use Rattle.words.specs.LimitsLaws.{office-fits, panel-fits}
 use Rattle.words.specs.Outcome.Outcome.{refused}
-use Rattle.words.specs.System.{Shape, readSystem}
+use Rattle.words.specs.System.{Shape}
+use Rattle.words.specs.Systems.{readSystems}
 use Rattle.words.specs.Certificate.{readCertificate}
-use Rattle.words.specs.FirstFault.{SystemBegins, SystemWhole, FirstFault}
-use Rattle.words.specs.RefusedLaws.{system-first-fault}
+use Rattle.words.specs.FirstFault.{SystemsBegin, SystemsWhole, FirstFault}
+use Rattle.words.specs.RefusedLaws.{systems-first-fault}
 
 systems : List (List ℕ)
 systems =
@@ -25,10 +26,10 @@ systems =
     ∷ (0x10110002 ∷ 0x20000000 ∷ 0x20000000 ∷ 0x40000005 ∷ [])
     ∷ []
 
-systems-refused : map (readSystem office) systems
+systems-refused : map (readSystems office) systems
     ≡ refused 1 0 ∷ refused 2 0 ∷ refused 3 0 ∷ refused 4 1 ∷ refused 5 1 ∷ refused 6 1 ∷ refused 7 2 ∷ refused 8 2 ∷ refused 9 3 ∷
     []
-unfolding readSystem systems
+unfolding readSystems systems
 systems-refused = refl
 
 certificates : List (List ℕ)
@@ -51,10 +52,10 @@ unfolding readCertificate certificates one
 certificates-refused = refl
 
 -- the limits of the office and of the panel meet what the law of the first fault asks
-office-first-fault : (ws : List ℕ) {n k : ℕ} → readSystem office ws ≡ refused n k
-    → FirstFault (SystemBegins office) (SystemWhole office) 4 ws n k
-office-first-fault ws e = system-first-fault office office-fits (omega arith) (omega arith) ws e
+office-first-fault : (ws : List ℕ) {n k : ℕ} → readSystems office ws ≡ refused n k
+    → FirstFault (SystemsBegin office) (SystemsWhole office) 4 ws n k
+office-first-fault ws e = systems-first-fault office office-fits (omega arith) (omega arith) (omega arith) ws e
 
-panel-first-fault : (ws : List ℕ) {n k : ℕ} → readSystem panel ws ≡ refused n k
-    → FirstFault (SystemBegins panel) (SystemWhole panel) 4 ws n k
-panel-first-fault ws e = system-first-fault panel panel-fits (omega arith) (omega arith) ws e
+panel-first-fault : (ws : List ℕ) {n k : ℕ} → readSystems panel ws ≡ refused n k
+    → FirstFault (SystemsBegin panel) (SystemsWhole panel) 4 ws n k
+panel-first-fault ws e = systems-first-fault panel panel-fits (omega arith) (omega arith) (omega arith) ws e

@@ -9,14 +9,14 @@ use Rattle.words.specs.Limits.{Limits}
 use Rattle.words.specs.Word.{word, AllBelow, Words, payloadBound}
 use Rattle.words.specs.Polynomial.{Within, AllWithin, polynomialWords, polynomialsWords}
 use Rattle.words.specs.Frame.{Due, endWord, framedWords}
-use Rattle.words.specs.System.{System, shape, SystemWithin, headWord, systemEntries, systemWords}
 use Rattle.words.specs.System.{Shape, ShapeWithin}
+use Rattle.words.specs.Systems.{Head, Systems, HeadWithin, SystemsWithin, headWord, systemsEntries, systemsWords}
 use Rattle.words.specs.Certificate.{Certificate, Form, CertificateWithin, certificateForm, certificateEntries, formWord}
 use Rattle.words.specs.Certificate.{certificateWords}
 use Rattle.words.specs.Certificate.Form.{solving, absent}
 use Rattle.words.specs.LimitsLaws.{LimitsFit}
 use Rattle.words.specs.FrameLaws.{Expressible, Entries, framedWords-most, length-framedWords}
-use Rattle.words.specs.SystemLaws.{systemFormat, system-laws, system-expressible}
+use Rattle.words.specs.SystemsLaws.{systemsFormat, systems-laws, systems-expressible}
 use Rattle.words.specs.CertificateLaws.{certificateFormat, certificate-laws, certificate-expressible}
 
 -- ---- lists below a bound
@@ -65,25 +65,26 @@ framed-words head due fs h x k =
     (polynomials-words (due .modulus) (x .modulus) (due .limit) (x .limit) fs (k .entries))
     (below-cons _ (endWord (1 + length ws)) [] (omega (arith, length-framedWords head fs)) (below-nil _ (omega arith))))
 
-headWord-word : (limits : Limits) → LimitsFit limits → (h : Shape) → ShapeWithin limits h → headWord h < bound32
+headWord-word : (limits : Limits) → LimitsFit limits → (h : Head) → HeadWithin limits h → headWord h < bound32
 unfolding headWord
 headWord-word limits fit h w =
-    let p = w .modulus in
-    let r = w .rows in
-    let c = w .columns in
-    omega arith
+    let p = w .shape .modulus in
+    let r = w .shape .rows in
+    let c = w .shape .columns in
+    let b = w .sides in
+    omega (arith, fit .rows, fit .columns, fit .sides)
 
 formWord-word : (form : Form) → formWord form < bound32
 unfolding formWord
 formWord-word solving = omega arith
 formWord-word absent = omega arith
 
-pub systemWords-words : (limits : Limits) → LimitsFit limits → (s : System) → SystemWithin limits s → Words (systemWords s)
-unfolding systemWords
-systemWords-words limits fit s h =
-    framed-words (headWord (shape s)) (systemFormat limits .due (shape s)) (systemEntries s)
-    (headWord-word limits fit (shape s) (h .shape))
-    (system-expressible limits fit (shape s) (h .shape)) (system-laws limits fit .apart s h .entries)
+pub systemsWords-words : (limits : Limits) → LimitsFit limits → (s : Systems) → SystemsWithin limits s → Words (systemsWords s)
+unfolding systemsWords
+systemsWords-words limits fit s h =
+    framed-words (headWord (s .head)) (systemsFormat limits .due (s .head)) (systemsEntries s)
+    (headWord-word limits fit (s .head) (h .head))
+    (systems-expressible limits fit (s .head) (h .head)) (systems-laws limits fit .apart s h .entries)
 
 pub certificateWords-words : (limits : Limits) → LimitsFit limits → (h : Shape) → ShapeWithin limits h → (c : Certificate)
     → CertificateWithin limits h c

@@ -17,10 +17,10 @@ use Rattle.answers.specs.declared.answer.Refusal.{Refusal}
 use Rattle.answers.specs.declared.answer.Counted.{Counted}
 use Rattle.answers.specs.declared.answer.Counted.the-variants.{Count, Refused}
 use Rattle.write_frame.specs.declared.format.Format.{Format}
-use Rattle.writer.specs.Writing.{refuseShape, refuseRoom, lentAfter, Writes}
+use Rattle.writer.specs.Writing.{refuseSides, refuseShape, refuseRoom, lentAfter, Writes}
 use Rattle.write_frame.specs.Trial.{passed, refusePolynomials}
 use Rattle.write_frame.specs.TrialLaws.{nextAfter, polynomials-first, polynomials-passed}
-use Rattle.writer.specs.WritingLaws.{shape-first}
+use Rattle.writer.specs.WritingLaws.{sides-first, shape-first}
 use Rattle.writer.specs.ValuesLaws.{canonical-below}
 use Rattle.write_frame.specs.Values.{polynomialIn}
 use Rattle.write_frame.specs.ValuesLaws.{length-polynomialIn, getD-polynomialsIn}
@@ -123,6 +123,17 @@ module _ (format : Format) (p : ℕ) (sizes coefficients : List ℕ) where
     values-words e h exit n w =
         writes-passed trial rest all trial-first lent exit (Count n) e
         (writes-words (format .longest) (length lent) (framedWords (format .head) entries) lent exit n h w)
+
+-- ---- a number of right sides before a shape
+
+module _ (limits : Limits) (sides : ℕ) (rest : Outcome (List ℕ)) (lent : List ℕ) where
+  pub sides-refused : (r : Refusal) → refused (r .number) (r .place) ≡ refuseSides limits sides passed
+      → Writes (refuseSides limits sides rest) lent (Refused r) lent
+  sides-refused = writes-refused _ _ _ (sides-first limits sides rest) lent
+
+  pub sides-written : {answer : Counted} {exit : List ℕ} → passed ≡ refuseSides limits sides passed → Writes rest lent answer exit
+      → Writes (refuseSides limits sides rest) lent answer exit
+  sides-written {answer} {exit} e w = writes-passed _ _ _ (sides-first limits sides rest) lent exit answer e w
 
 -- ---- a shape before values
 

@@ -8,7 +8,8 @@ use lib.ListN.{length}
 use Rattle.words.specs.Limits.{Limits, wordsFor}
 use Rattle.words.specs.LimitsLaws.{LimitsFit, systemCount-most, wordsFor-most}
 use Rattle.words.specs.System.{Shape, ShapeWithin}
-use Rattle.words.specs.SystemLaws.{system-expressible}
+use Rattle.words.specs.Systems.{Head}
+use Rattle.words.specs.SystemsLaws.{systems-expressible}
 use Rattle.words.specs.CertificateLaws.{entryCount-most, certificate-expressible}
 use Rattle.words.specs.Word.{payloadBound}
 use Rattle.answers.specs.Answer.{formOf}
@@ -17,7 +18,7 @@ use Rattle.write_frame.specs.Framing.{Covers}
 use Rattle.writer.specs.declared.format.Kind.{Kind}
 use Rattle.writer.specs.declared.format.Kind.the-variants as kind
 use Rattle.writer.specs.Values.{certificateStride}
-use Rattle.writer.specs.Formats.{systemFrame, certificateFrame, formatOf, mostOf, strideOf}
+use Rattle.writer.specs.Formats.{KindWithin, systemFrame, certificateFrame, formatOf, mostOf, strideOf}
 
 -- what writing values asks
 abbrev pub Ready : Format → ℕ → List ℕ → List ℕ → Type 0
@@ -42,17 +43,18 @@ pub ready-as : {computed format : Format} {p : ℕ} {sizes coefficients : List �
 ready-as {computed} {format} {p} {sizes} {coefficients} e r = subst (λ (g : Format). Ready g p sizes coefficients) (sym e) r
 
 module _ (limits : Limits) (fit : LimitsFit limits) (h : Shape) (within : ShapeWithin limits h) where
-  pub kind-ready : (k : Kind) (sizes coefficients : List ℕ) → limits .certificateCoefficients ≤ certificateStride
-      → mostOf limits k ≤ length sizes
+  pub kind-ready : (k : Kind) → KindWithin limits k → (sizes coefficients : List ℕ)
+      → limits .certificateCoefficients ≤ certificateStride → mostOf limits k ≤ length sizes
       → strideOf limits k * mostOf limits k ≤ length coefficients → Ready (formatOf limits h k) (h .modulus) sizes coefficients
-  kind-ready kind.System sizes coefficients apart s c =
-      let x = system-expressible limits fit h within in
-      let few = systemCount-most (within .rows .1) (within .columns .1) in (
-        covers (systemFrame limits h) _ sizes coefficients few s c (omega arith) (x .words) (omega arith),
+  kind-ready (kind.System sides) some sizes coefficients apart s c =
+      let head : Head = record { shape = h; sides = sides } in
+      let x = systems-expressible limits fit head (record { shape = within; sides = some }) in
+      let few = systemCount-most (within .rows .1) (within .columns .1) (some .1) in (
+        covers (systemFrame limits head) _ sizes coefficients few s c (omega arith) (x .words) (omega arith),
         x .modulus,
         wordsFor-most (limits .systemCoefficients) few,
       )
-  kind-ready (kind.Certificate form) sizes coefficients apart s c =
+  kind-ready (kind.Certificate form) some sizes coefficients apart s c =
       let x = certificate-expressible limits h fit within (formOf form) tt in
       let few = entryCount-most limits h fit within (formOf form) in (
         covers (certificateFrame limits h (formOf form)) _ sizes coefficients few s c apart (x .words) (omega arith),

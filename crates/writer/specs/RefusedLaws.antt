@@ -15,11 +15,12 @@ use Rattle.words.specs.Limits.{Limits, wordsFor, longestSystem, longestCertific
 use Rattle.words.specs.Outcome.{Outcome, refuse}
 use Rattle.words.specs.Outcome.Outcome.{accepted, refused}
 use Rattle.words.specs.OutcomeLaws.{refused-accepted, refuse-refused-iff, mapped-refused}
-use Rattle.words.specs.System.{System, Shape, ShapeWithin, shape, oneTo, systemEntries, systemWords}
+use Rattle.words.specs.System.{Shape, ShapeWithin, oneTo}
+use Rattle.words.specs.Systems.{Systems, systemsEntries, systemsWords}
 use Rattle.words.specs.Certificate.{Certificate, certificateEntries, certificateWords}
 use Rattle.words.specs.BytesLaws.{or-left, or-right}
 use Rattle.words.specs.ReadingLaws.{and-passed}
-use Rattle.words.specs.SystemHeadLaws.{oneTo-true, oneTo-from}
+use Rattle.words.specs.HeadLaws.{oneTo-true, oneTo-from}
 use Rattle.answers.specs.declared.answer.Refusal.{Refusal}
 use Rattle.answers.specs.declared.answer.Counted.the-variants.{Refused}
 use Rattle.write_frame.specs.Trial.{refusePolynomials}
@@ -27,17 +28,21 @@ use Rattle.write_frame.specs.Fault.{PolynomialFault}
 use Rattle.write_frame.specs.Fault.CoefficientFault.{large, last-zero}
 use Rattle.write_frame.specs.Fault.PolynomialFault.{many, coefficient}
 use Rattle.write_frame.specs.FaultLaws.{polynomials-refused-iff, value-place}
-use Rattle.writer.specs.Writing.{refuseShape, refuseRoom, writeSystem, writeCertificate, lentAfter, Writes}
-use Rattle.writer.specs.WritingLaws.{shape-within}
-use Rattle.writer.specs.Refused.{MayBeModulus, MayBeSizes, WriterFault, SystemFault, CertificateFault}
+use Rattle.writer.specs.Writing.{refuseShape, refuseRoom, writeSystems, writeCertificate, lentAfter, Writes}
+use Rattle.writer.specs.WritingLaws.{sides-within, shape-within}
+use Rattle.writer.specs.Refused.{MayBeSides, MayBeModulus, MayBeSizes, WriterFault, SystemFault, CertificateFault}
 use Rattle.writer.specs.Refused.WriterFault.{modulus, sizes, value, room}
+use Rattle.writer.specs.Refused.SystemFault.{sides, others}
 
--- ---- the tests of p, n and m
+-- ---- the tests of the number of right sides, of p, n and m
 
 -- a test that is passed just by what is good is failed just by what is not
 pub failed-iff : {Good : Type 0} (b : Bool) → (b ≡ false) ↔ Good → (b ≡ true) ↔ ¬ Good
 failed-iff true good = (λ e g. let z = good .1 g in let z′ : _≡_ {A = ℕ} 0 1 = cc in omega arith, λ no. refl)
 failed-iff false good = (λ e g. let z′ : _≡_ {A = ℕ} 0 1 = cc in omega arith, λ no. absurd (no (good .0 refl)))
+
+pub sides-iff : (limits : Limits) (count : ℕ) → (not (oneTo (limits .sides) count) ≡ false) ↔ MayBeSides limits count
+sides-iff limits count = (λ e. oneTo-from _ _ (not-false _ e), λ good. simp (oneTo-true _ _ (good .0) (good .1)))
 
 pub modulus-iff : (p : ℕ) → (not (prime? p) || ltb largestModulus p ≡ false) ↔ MayBeModulus p
 modulus-iff p = (
@@ -117,13 +122,44 @@ module _ (limits : Limits) (h : Shape) (limit by longest lent : ℕ) (fs : List 
 
 -- ---- systems, and certificates
 
-pub system-refused-iff-fault : (limits : Limits) (lent : ℕ) (s : System) (n k : ℕ)
-    → (writeSystem limits lent s ≡ refused n k) ↔ SystemFault limits lent s n k
-unfolding writeSystem
-system-refused-iff-fault limits lent s n k = (
-  fault-of limits (shape s) (limits .systemCoefficients) 0 (longestSystem limits) lent (systemEntries s) (systemWords s) n k,
-  of-fault limits (shape s) (limits .systemCoefficients) 0 (longestSystem limits) lent (systemEntries s) (systemWords s) n k,
-)
+module _ (limits : Limits) (lent : ℕ) (s : Systems) (n k : ℕ) where
+  abbrev h : Shape
+  h = s .head .shape
+
+  abbrev limit : ℕ
+  limit = limits .systemCoefficients
+
+  abbrev longest : ℕ
+  longest = longestSystem limits
+
+  -- what is tried behind the number of right sides
+  abbrev shapeTried : Outcome (List ℕ)
+  shapeTried = refuseShape limits h (tried limits h limit 0 longest lent (systemsEntries s) (systemsWords s) n k)
+
+  abbrev noSides : Bool
+  noSides = not (oneTo (limits .sides) (s .head .sides))
+
+  system-fault-of : writeSystems limits lent s ≡ refused n k → SystemFault limits lent s n k
+  unfolding writeSystems
+  system-fault-of e =
+      ⊎-elim
+      (λ t. sides (failed-iff noSides (sides-iff limits (s .head .sides)) .0 (t .0)) (t .1) (t .2))
+      (λ t.
+      others (sides-iff limits (s .head .sides) .0 (t .0))
+      (fault-of limits h limit 0 longest lent (systemsEntries s) (systemsWords s) n k (t .1)))
+      (refuse-refused-iff noSides 1 0 shapeTried n k .0 e)
+
+  system-of-fault : SystemFault limits lent s n k → writeSystems limits lent s ≡ refused n k
+  unfolding writeSystems
+  system-of-fault (sides bad number place) =
+      refuse-refused-iff noSides 1 0 shapeTried n k .1
+      (inl (failed-iff noSides (sides-iff limits (s .head .sides)) .1 bad, number, place))
+  system-of-fault (others good fault) =
+      sides-within limits (s .head .sides) shapeTried good
+      ∙ of-fault limits h limit 0 longest lent (systemsEntries s) (systemsWords s) n k fault
+
+  pub system-refused-iff-fault : (writeSystems limits lent s ≡ refused n k) ↔ SystemFault limits lent s n k
+  system-refused-iff-fault = (system-fault-of, system-of-fault)
 
 pub certificate-refused-iff-fault : (limits : Limits) (lent : ℕ) (h : Shape) (c : Certificate) (n k : ℕ)
     → (writeCertificate limits lent h c ≡ refused n k) ↔ CertificateFault limits lent h c n k
@@ -135,7 +171,7 @@ certificate-refused-iff-fault limits lent h c n k = (
       (certificateWords c) n k,
 )
 
--- ---- the numbers alone: 2, 3, 6 to 8 or 26 to 28, 11
+-- ---- the numbers alone: 2, 3, 6 to 8 or 26 to 28, 11; of a matrix with right sides 1 too
 
 abbrev pub WriterNumber : ℕ → ℕ → Type 0
 WriterNumber by n = (n ≡ 2) ⊎ ((n ≡ 3) ⊎ (((6 + by ≤ n) × (n ≤ 8 + by)) ⊎ (n ≡ 11)))
@@ -152,9 +188,13 @@ fault-number (sizes good bad number place) = inr (inl number)
 fault-number (value within fault) = inr (inr (inl (polynomial-number (fault .fault))))
 fault-number (room within all short number place) = inr (inr (inr number))
 
-pub system-writer-numbers : (limits : Limits) (lent : ℕ) (s : System) {n k : ℕ} → writeSystem limits lent s ≡ refused n k
-    → WriterNumber 0 n
-system-writer-numbers limits lent s {n} {k} e = fault-number (system-refused-iff-fault limits lent s n k .0 e)
+pub system-writer-numbers : (limits : Limits) (lent : ℕ) (s : Systems) {n k : ℕ} → writeSystems limits lent s ≡ refused n k
+    → (n ≡ 1) ⊎ WriterNumber 0 n
+system-writer-numbers limits lent s {n} {k} e = by (system-refused-iff-fault limits lent s n k .0 e)
+  where
+    by : SystemFault limits lent s n k → (n ≡ 1) ⊎ WriterNumber 0 n
+    by (sides bad number place) = inl number
+    by (others good fault) = inr (fault-number fault)
 
 pub certificate-writer-numbers : (limits : Limits) (lent : ℕ) (h : Shape) (c : Certificate) {n k : ℕ}
     → writeCertificate limits lent h c ≡ refused n k → WriterNumber 20 n
@@ -167,6 +207,11 @@ fault-place (modulus bad number place) = omega arith
 fault-place (sizes good bad number place) = omega arith
 fault-place (value within fault) = value-place fault
 fault-place (room within all short number place) = omega arith
+
+pub system-fault-place : {limits : Limits} {lent : ℕ} {s : Systems} {n k : ℕ} → SystemFault limits lent s n k
+    → k < wordsFor (length (systemsEntries s)) (limits .systemCoefficients)
+system-fault-place (sides bad number place) = omega arith
+system-fault-place (others good fault) = fault-place fault
 
 -- ---- calls
 
@@ -181,8 +226,8 @@ module _ {outcome : Outcome (List ℕ)} {entry exit : List ℕ} {r : Refusal} (w
   refused-lent = w .lent ∙ ap (λ (o : Outcome (List ℕ)). lentAfter o entry) call-refused
 
 -- of the two calls: what is at fault, and all lent words as they were
-pub system-call-fault : (limits : Limits) (s : System) {entry exit : List ℕ} {r : Refusal}
-    → Writes (writeSystem limits (length entry) s) entry (Refused r) exit
+pub system-call-fault : (limits : Limits) (s : Systems) {entry exit : List ℕ} {r : Refusal}
+    → Writes (writeSystems limits (length entry) s) entry (Refused r) exit
     → SystemFault limits (length entry) s (r .number) (r .place) × (exit ≡ entry)
 system-call-fault limits s {entry} {r = r} w =
     (system-refused-iff-fault limits (length entry) s (r .number) (r .place) .0 (call-refused w), refused-lent w)

@@ -3,7 +3,8 @@
 use Prim.Native.Nat.{ℕ, _+_, _*_}
 use mathlib.Core.List.{List}
 use Rattle.words.specs.Limits.{Limits}
-use Rattle.words.specs.System.{System, Shape}
+use Rattle.words.specs.System.{Shape}
+use Rattle.words.specs.Systems.{Head, Systems}
 use Rattle.words.specs.Certificate.{Certificate, Form}
 use Rattle.words.specs.Certificate.Certificate.{solution, absence}
 use Rattle.words.specs.Certificate.Form.{solving, absent}
@@ -12,16 +13,20 @@ use Rattle.write_frame.specs.Values.{polynomialIn, polynomialsIn}
 abbrev pub shapeWith : ℕ → ℕ → ℕ → Shape
 shapeWith p n m = record { modulus = p; rows = n; columns = m }
 
--- "A row by row, b"
-unfoldable pub systemInArrays : Limits → Shape → List ℕ → List ℕ → System
+-- and the number of right sides
+abbrev pub headWith : ℕ → ℕ → ℕ → ℕ → Head
+headWith p n m sides = record { shape = shapeWith p n m; sides = sides }
+
+-- "A row by row"; the right sides "one after another behind A"
+unfoldable pub systemInArrays : Limits → Head → List ℕ → List ℕ → Systems
 unfolding polynomialsIn
-systemInArrays limits h sizes coefficients = record {
-  modulus = h .modulus;
-  rows = h .rows;
-  columns = h .columns;
-  matrix = polynomialsIn (limits .systemCoefficients) sizes coefficients 0 (h .rows * h .columns);
-  side = polynomialsIn (limits .systemCoefficients) sizes coefficients (h .rows * h .columns) (h .rows);
-}
+systemInArrays limits h sizes coefficients =
+    let A = h .shape .rows * h .shape .columns in
+    record {
+      head = h;
+      matrix = polynomialsIn (limits .systemCoefficients) sizes coefficients 0 A;
+      sideEntries = polynomialsIn (limits .systemCoefficients) sizes coefficients A (h .sides * h .shape .rows);
+    }
 
 -- how far apart the polynomials of a certificate lie: as the solver leaves them
 abbrev pub certificateStride : ℕ

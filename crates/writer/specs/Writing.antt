@@ -11,12 +11,17 @@ use Rattle.modular.specs.Prime.{prime?}
 use Rattle.words.specs.Limits.{Limits, longestSystem, longestCertificate}
 use Rattle.words.specs.Outcome.{Outcome, refuse, mapped}
 use Rattle.words.specs.Outcome.Outcome.{accepted, refused}
-use Rattle.words.specs.System.{System, Shape, shape, oneTo, systemEntries, systemWords}
+use Rattle.words.specs.System.{Shape, oneTo}
+use Rattle.words.specs.Systems.{Systems, systemsEntries, systemsWords}
 use Rattle.words.specs.Certificate.{Certificate, certificateEntries, certificateWords}
 use Rattle.answers.specs.declared.answer.Counted.{Counted}
 use Rattle.answers.specs.Answer.{countedOutcome}
 use Rattle.write_frame.specs.Overwriting.{overwritten}
 use Rattle.write_frame.specs.Trial.{refusePolynomials}
+
+-- "from a sheet's writer, for a number of right sides outside 1 to 8, place 0, tried first" (document 02, item 1)
+abbrev pub refuseSides : {A : Type 0} → Limits → ℕ → Outcome A → Outcome A
+refuseSides limits sides next = refuse (not (oneTo (limits .sides) sides)) 1 0 next  -- 1
 
 -- p, n and m: 2, then 3, at place 0
 abbrev pub refuseShape : {A : Type 0} → Limits → Shape → Outcome A → Outcome A
@@ -29,14 +34,15 @@ refuseShape limits h next =
 abbrev pub refuseRoom : {A : Type 0} → ℕ → ℕ → Outcome A → Outcome A
 refuseRoom longest lent next = refuse (ltb lent longest) 11 0 next  -- 11
 
--- the words of a system where so many words are lent
-unfoldable pub writeSystem : Limits → ℕ → System → Outcome (List ℕ)
-unfolding refusePolynomials systemWords
-writeSystem limits lent s =
-    refuseShape limits (shape s)
-    (refusePolynomials (s .modulus) (limits .systemCoefficients) 0 1 (systemEntries s)
+-- the words of a matrix with its right sides, A and then one right side after another, where so many words are lent
+unfoldable pub writeSystems : Limits → ℕ → Systems → Outcome (List ℕ)
+unfolding refusePolynomials systemsWords
+writeSystems limits lent s =
+    refuseSides limits (s .head .sides)
+    (refuseShape limits (s .head .shape)
+    (refusePolynomials (s .head .shape .modulus) (limits .systemCoefficients) 0 1 (systemsEntries s)
     (refuseRoom (longestSystem limits) lent
-    (accepted (systemWords s))))
+    (accepted (systemsWords s)))))
 
 -- the words of a certificate for a system of that shape
 unfoldable pub writeCertificate : Limits → ℕ → Shape → Certificate → Outcome (List ℕ)

@@ -1,6 +1,8 @@
--- The trial of p, n and m: it is made first, whatever comes next; and it refuses nothing exactly where they keep the limits.
+-- The trials of the number of right sides, and of p, n and m: each is made first, whatever comes next; and it refuses nothing
+-- exactly where they keep the limits.
 use mathlib.Core.Path.{_≡_, refl}
 use mathlib.Core.Bool.{Bool, not, _&&_, _||_}
+use Prim.Native.Nat.{ℕ}
 use lib.Dec.{ltb}
 use borrow.Author.Tests.{le-ltb, ltb-false, not-false}
 use Rattle.modular.specs.LargestPrime.{largestModulus}
@@ -13,10 +15,24 @@ use Rattle.words.specs.OutcomeLaws.{refuse-passed}
 use Rattle.words.specs.System.{Shape, ShapeWithin, oneTo}
 use Rattle.words.specs.BytesLaws.{or-left, or-right}
 use Rattle.words.specs.ReadingLaws.{and-passed}
-use Rattle.words.specs.SystemHeadLaws.{oneTo-true, oneTo-from}
+use Rattle.words.specs.HeadLaws.{oneTo-true, oneTo-from}
 use Rattle.write_frame.specs.Trial.{passed}
 use Rattle.write_frame.specs.TrialLaws.{nextAfter, refuse-after}
-use Rattle.writer.specs.Writing.{refuseShape}
+use Rattle.writer.specs.Writing.{refuseSides, refuseShape}
+use Rattle.writer.specs.Refused.{MayBeSides}
+
+module _ {A : Type 0} (limits : Limits) (sides : ℕ) (next : Outcome A) where
+  abbrev noSides : Bool
+  noSides = not (oneTo (limits .sides) sides)
+
+  pub sides-first : refuseSides limits sides next ≡ nextAfter (refuseSides limits sides passed) next
+  sides-first = refuse-after noSides 1 0 passed next refl
+
+  pub sides-passed : {a : A} → refuseSides limits sides next ≡ accepted a → MayBeSides limits sides × (next ≡ accepted a)
+  sides-passed e = let t = refuse-passed noSides 1 0 next e in (oneTo-from _ _ (not-false _ (t .0)), t .1)
+
+  pub sides-within : MayBeSides limits sides → refuseSides limits sides next ≡ next
+  sides-within w = simp (oneTo-true _ _ (w .0) (w .1))
 
 module _ {A : Type 0} (limits : Limits) (h : Shape) (next : Outcome A) where
   abbrev notPrime : Bool

@@ -9,15 +9,16 @@ use Rattle.words.specs.LimitsLaws.{LimitsFit}
 use Rattle.words.specs.Outcome.{Outcome, mapped}
 use Rattle.words.specs.Outcome.Outcome.{accepted}
 use Rattle.words.specs.OutcomeLaws.{refused-accepted}
-use Rattle.words.specs.System.{System, Shape, ShapeWithin, shape, readSystem}
-use Rattle.words.specs.SystemLaws.{system-written-of-read}
+use Rattle.words.specs.System.{Shape, ShapeWithin}
+use Rattle.words.specs.Systems.{Systems, readSystems}
+use Rattle.words.specs.SystemsLaws.{systems-written-of-read}
 use Rattle.words.specs.Certificate.{Certificate, readCertificate, certificateForm}
 use Rattle.words.specs.CertificateLaws.{certificate-written-of-read}
 use Rattle.answers.specs.declared.answer.Counted.{Counted}
 use Rattle.answers.specs.declared.answer.Counted.the-variants as counted
 use Rattle.answers.specs.Answer.{countedOutcome}
 use Rattle.write_frame.specs.Overwriting.{overwritten}
-use Rattle.writer.specs.Writing.{writeSystem, writeCertificate, lentAfter, Writes}
+use Rattle.writer.specs.Writing.{writeSystems, writeCertificate, lentAfter, Writes}
 use Rattle.writer.specs.WrittenLaws.{system-writes, certificate-writes}
 use Rattle.writer.specs.Values.{systemInArrays, certificateIn}
 
@@ -39,14 +40,14 @@ writes-back {outcome} {ws} {entry} {exit} {answer} e w = record {
 }
 
 module _ (limits : Limits) (fit : LimitsFit limits) (ws sizes coefficients : List ℕ) {entry exit : List ℕ} {answer : Counted} where
-  pub system-written-back : (s : System) → readSystem limits ws ≡ accepted s
-      → systemInArrays limits (shape s) sizes coefficients ≡ s → longestSystem limits ≤ length entry
-      → Writes (writeSystem limits (length entry) (systemInArrays limits (shape s) sizes coefficients)) entry answer exit
+  pub system-written-back : (s : Systems) → readSystems limits ws ≡ accepted s
+      → systemInArrays limits (s .head) sizes coefficients ≡ s → longestSystem limits ≤ length entry
+      → Writes (writeSystems limits (length entry) (systemInArrays limits (s .head) sizes coefficients)) entry answer exit
       → WritesBack ws entry answer exit
   system-written-back s read held room w =
-      let written = system-written-of-read limits fit ws s read in
+      let written = systems-written-of-read limits fit ws s read in
       writes-back
-      (ap (writeSystem limits (length entry)) held ∙ system-writes limits (length entry) fit s (written .1) room
+      (ap (writeSystems limits (length entry)) held ∙ system-writes limits (length entry) fit s (written .1) room
       ∙ ap accepted (sym (written .0))) w
 
   -- for a system of the shape h

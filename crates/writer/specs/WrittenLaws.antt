@@ -12,20 +12,21 @@ use Rattle.words.specs.Limits.{Limits, longestSystem, longestCertificate}
 use Rattle.words.specs.Outcome.{Outcome}
 use Rattle.words.specs.Outcome.Outcome.{accepted, refused}
 use Rattle.words.specs.Polynomial.{AllWithin}
-use Rattle.words.specs.System.{System, Shape, shape, ShapeWithin, SystemWithin, systemWords, systemEntries, readSystem}
+use Rattle.words.specs.System.{Shape, ShapeWithin}
+use Rattle.words.specs.Systems.{Head, Systems, HeadWithin, SystemsWithin, systemsWords, systemsEntries, readSystems}
 use Rattle.words.specs.Certificate.{Certificate, Form, SolutionWithin, CertificateWithin, certificateWords, certificateEntries}
 use Rattle.words.specs.Certificate.{readCertificate}
 use Rattle.words.specs.Certificate.Form.{solving, absent}
 use Rattle.words.specs.LimitsLaws.{LimitsFit}
-use Rattle.words.specs.SystemLaws.{system-laws, system-read-of-written}
+use Rattle.words.specs.SystemsLaws.{systems-laws, systems-read-of-written}
 use Rattle.words.specs.CertificateLaws.{certificate-laws, certificate-read-of-written}
 use Rattle.words.specs.OutcomeLaws.{refuse-passed}
 use Rattle.answers.specs.declared.answer.Counted.the-variants.{Count}
 use Rattle.write_frame.specs.ValuesLaws.{length-polynomialsIn}
 use Rattle.write_frame.specs.Trial.{refusePolynomials}
 use Rattle.write_frame.specs.TrialLaws.{polynomials-passed, polynomials-within}
-use Rattle.writer.specs.Writing.{refuseShape, refuseRoom, writeSystem, writeCertificate, lentAfter, Writes}
-use Rattle.writer.specs.WritingLaws.{shape-passed, shape-within}
+use Rattle.writer.specs.Writing.{refuseShape, refuseRoom, writeSystems, writeCertificate, lentAfter, Writes}
+use Rattle.writer.specs.WritingLaws.{sides-passed, sides-within, shape-passed, shape-within}
 use Rattle.writer.specs.Values.{systemInArrays, certificateIn, certificateStride}
 
 -- ---- both writers
@@ -62,47 +63,49 @@ all-split p limit (f ∷ fs) gs h = let t = all-split p limit fs gs (h .1) in ((
 
 -- ---- systems
 
--- arrays that stand for polynomials within the limit stand for a system within the limits
-pub system-within : (limits : Limits) (h : Shape) (sizes coefficients : List ℕ) → ShapeWithin limits h
-    → AllWithin (h .modulus) (limits .systemCoefficients) (systemEntries (systemInArrays limits h sizes coefficients))
-    → SystemWithin limits (systemInArrays limits h sizes coefficients)
+-- arrays that stand for polynomials within the limit stand for a matrix with right sides within the limits
+pub system-within : (limits : Limits) (h : Head) (sizes coefficients : List ℕ) → HeadWithin limits h
+    → AllWithin (h .shape .modulus) (limits .systemCoefficients) (systemsEntries (systemInArrays limits h sizes coefficients))
+    → SystemsWithin limits (systemInArrays limits h sizes coefficients)
 unfolding systemInArrays
-system-within limits h sizes coefficients shape entries =
+system-within limits h sizes coefficients head entries =
     let limit = limits .systemCoefficients in
     let s = systemInArrays limits h sizes coefficients in
-    let each = all-split (h .modulus) limit (s .matrix) (s .side) entries in
+    let each = all-split (h .shape .modulus) limit (s .matrix) (s .sideEntries) entries in
     record {
-      shape = shape;
+      head = head;
       matrix = record { entries = each .0; count = length-polynomialsIn limit sizes coefficients _ _ };
-      side = record { entries = each .1; count = length-polynomialsIn limit sizes coefficients _ _ };
+      sideEntries = record { entries = each .1; count = length-polynomialsIn limit sizes coefficients _ _ };
     }
 
 module _ (limits : Limits) (lent : ℕ) where
-  pub system-writes : LimitsFit limits → (s : System) → SystemWithin limits s → longestSystem limits ≤ lent
-      → writeSystem limits lent s ≡ accepted (systemWords s)
-  unfolding writeSystem
+  pub system-writes : LimitsFit limits → (s : Systems) → SystemsWithin limits s → longestSystem limits ≤ lent
+      → writeSystems limits lent s ≡ accepted (systemsWords s)
+  unfolding writeSystems
   system-writes fit s h room =
-      write-within limits (shape s) (limits .systemCoefficients) 0 (longestSystem limits) lent (systemEntries s) (systemWords s)
-      (h .shape)
-      (system-laws limits fit .apart s h .entries .entries) room
+      sides-within limits (s .head .sides) _ (h .head .sides)
+      ∙ write-within limits (s .head .shape) (limits .systemCoefficients) 0 (longestSystem limits) lent (systemsEntries s)
+      (systemsWords s) (h .head .shape)
+      (systems-laws limits fit .apart s h .entries .entries) room
 
-  module _ (h : Shape) (sizes coefficients : List ℕ) where
-    abbrev system : System
+  module _ (h : Head) (sizes coefficients : List ℕ) where
+    abbrev system : Systems
     system = systemInArrays limits h sizes coefficients
 
-    pub system-accepted : (ws : List ℕ) → writeSystem limits lent system ≡ accepted ws
-        → SystemWithin limits system × (systemWords system ≡ ws)
-    unfolding writeSystem systemInArrays
+    pub system-accepted : (ws : List ℕ) → writeSystems limits lent system ≡ accepted ws
+        → SystemsWithin limits system × (systemsWords system ≡ ws)
+    unfolding writeSystems systemInArrays
     system-accepted ws e =
-        let w = write-accepted limits h (limits .systemCoefficients) 0 (longestSystem limits) lent (systemEntries system)
-        (systemWords system) ws e in
-        (system-within limits h sizes coefficients (w .shape) (w .entries), w .form)
+        let t = sides-passed limits (h .sides) _ e in
+        let w = write-accepted limits (h .shape) (limits .systemCoefficients) 0 (longestSystem limits) lent (systemsEntries system)
+        (systemsWords system) ws (t .1) in
+        (system-within limits h sizes coefficients (record { shape = w .shape; sides = t .0 }) (w .entries), w .form)
 
-    pub system-written-is-read : LimitsFit limits → (ws : List ℕ) → writeSystem limits lent system ≡ accepted ws
-        → readSystem limits ws ≡ accepted system
+    pub system-written-is-read : LimitsFit limits → (ws : List ℕ) → writeSystems limits lent system ≡ accepted ws
+        → readSystems limits ws ≡ accepted system
     system-written-is-read fit ws e =
         let w = system-accepted ws e in
-        ap (readSystem limits) (sym (w .1)) ∙ system-read-of-written limits fit system (w .0)
+        ap (readSystems limits) (sym (w .1)) ∙ systems-read-of-written limits fit system (w .0)
 
 -- ---- certificates
 
@@ -174,14 +177,14 @@ count-words (accepted ws) {entry} {exit} {n} w =
     ap accepted (sym (ap (take n) (w .lent) ∙ take-at ws (drop (length ws) entry) n (sym e)))
 count-words (refused number place) w = absurd (let t = w .told in let z : _≡_ {A = ℕ} 0 1 = cc in omega arith)
 
-module _ (limits : Limits) (fit : LimitsFit limits) (h : Shape) (sizes coefficients : List ℕ) {entry exit : List ℕ} {n : ℕ} where
-  pub system-call-is-read :
-      Writes (writeSystem limits (length entry) (systemInArrays limits h sizes coefficients)) entry (Count n) exit
-      → readSystem limits (take n exit) ≡ accepted (systemInArrays limits h sizes coefficients)
-  system-call-is-read w = system-written-is-read limits (length entry) h sizes coefficients fit (take n exit) (count-words _ w)
+module _ (limits : Limits) (fit : LimitsFit limits) (sizes coefficients : List ℕ) {entry exit : List ℕ} {n : ℕ} where
+  pub system-call-is-read : (h : Head)
+      → Writes (writeSystems limits (length entry) (systemInArrays limits h sizes coefficients)) entry (Count n) exit
+      → readSystems limits (take n exit) ≡ accepted (systemInArrays limits h sizes coefficients)
+  system-call-is-read h w = system-written-is-read limits (length entry) h sizes coefficients fit (take n exit) (count-words _ w)
 
-  pub certificate-call-is-read : (form : Form)
+  pub certificate-call-is-read : (h : Shape) (form : Form)
       → Writes (writeCertificate limits (length entry) h (certificateIn h form sizes coefficients)) entry (Count n) exit
       → readCertificate limits h (take n exit) ≡ accepted (certificateIn h form sizes coefficients)
-  certificate-call-is-read form w =
+  certificate-call-is-read h form w =
       certificate-written-is-read limits (length entry) h sizes coefficients fit form (take n exit) (count-words _ w)

@@ -2,6 +2,7 @@
 use answers::Form;
 use answers::head::COLUMN_UNIT;
 use answers::head::ROW_UNIT;
+use answers::head::SIDE_UNIT;
 use answers::word::CERTIFICATE_HEAD;
 use answers::word::SYSTEM_HEAD;
 use limits::Office;
@@ -12,11 +13,11 @@ ghost use Rattle.words.specs.Limits.{office};
 ghost use Rattle.words.specs.System.{ShapeWithin};
 ghost use Rattle.answers.specs.Answer.{formOf};
 ghost use Rattle.writer.specs.Values.{shapeWith};
-ghost use Rattle.writer.specs.Formats.{certificateFrame, formatOf};
+ghost use Rattle.writer.specs.Formats.{KindWithin, certificateFrame, formatOf};
 
-// What is written.
+// What is written: a matrix with so many right sides, or a certificate of that form.
 pub enum Kind {
-    System,
+    System(u32),
     Certificate(Form),
 }
 
@@ -62,15 +63,16 @@ pub fn certificate_format(form: Form, rows: u32, columns: u32) -> Format
     }
 }
 
-// Returns the format of what is written for a shape within the limits.
+// Returns the format of what is written for a shape and a number of right sides within the limits.
 pub fn format_for(kind: Kind, rows: u32, columns: u32, modulus: u32) -> Format
-    requires { ⌜ ShapeWithin office (shapeWith modulus rows columns) ⌝ }
+    requires { ⌜ ShapeWithin office (shapeWith modulus rows columns) × KindWithin office kind ⌝ }
     ensures { λ r. ⌜ r ≡ formatOf office (shapeWith modulus rows columns) kind ⌝ }
 {
     match kind {
-        Kind::System => Format {
-            head: SYSTEM_HEAD + (modulus + rows * ROW_UNIT + columns * COLUMN_UNIT),
-            count: (rows * columns + rows) as usize,
+        Kind::System(sides) => Format {
+            head: SYSTEM_HEAD
+                + (modulus + rows * ROW_UNIT + columns * COLUMN_UNIT + (sides - 1) * SIDE_UNIT),
+            count: (rows * columns + sides * rows) as usize,
             limit: Office::COEFFICIENTS as usize,
             stride: Office::COEFFICIENTS as usize,
             by: 0,

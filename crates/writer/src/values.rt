@@ -14,7 +14,7 @@ ghost use Rattle.words.specs.Limits.{office, wordsFor};
 ghost use Rattle.words.specs.Word.{payloadBound};
 ghost use Rattle.write_frame.specs.Framing.{Covers};
 ghost use Rattle.writer.specs.Values.{shapeWith};
-ghost use Rattle.writer.specs.Formats.{writeFramed, formatOf, mostOf, strideOf};
+ghost use Rattle.writer.specs.Formats.{KindWithin, writeFramed, formatOf, mostOf, strideOf};
 ghost use Rattle.writer.specs.Writing.{refuseShape, Writes};
 
 // Tries polynomials, 6 to 8, or greater by so much as the format says, then the room, 11; where nothing is refused, writes the
@@ -58,7 +58,7 @@ pub fn write_shaped(
     columns: u32,
     modulus: u32,
 ) -> Counted
-    requires { ⌜ (mostOf office kind ≤ length (now sizes))
+    requires { ⌜ KindWithin office kind × (mostOf office kind ≤ length (now sizes))
         × (strideOf office kind * mostOf office kind ≤ length (now coefficients)) ⌝ }
     ensures { λ r. ⌜ Writes
         (refuseShape office (shapeWith modulus rows columns)

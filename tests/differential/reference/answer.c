@@ -1,13 +1,13 @@
-// What is to be said of a system's file: a refusal, or kind and least denominator; the report's text on it.
+// What is to be said of a right side of a system's file: a refusal, or kind and least denominator; the report's text on it.
 #include <stdio.h>
 #include "reference.h"
 
-void answer_to(struct answer *a, const struct file *system)
+void answer_to(struct answer *a, const struct file *system, uint64_t side)
 {
     static struct system s;
-    a->refusal = read_system(&s, system);
+    a->refusal = read_to_side(&s, system, side);
     if (a->refusal.number == 0)
-        a->kind = least_denominator(&s, &a->d);
+        a->kind = least_denominator(&s, (uint32_t)side, &a->d);
 }
 
 size_t report_text(char text[REPORT_ROOM], const struct answer *a)

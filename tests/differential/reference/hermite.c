@@ -69,6 +69,31 @@ static void make_basis(const struct system *s, struct basis *h, bool record)
         clear_row(s->p, s->m, h, row);
 }
 
+static bool same_matrix(const struct system *s, const struct system *t)
+{
+    bool same = s->p == t->p && s->n == t->n && s->m == t->m;
+    for (uint32_t i = 0; same && i < s->n; i++)
+        for (uint32_t j = 0; same && j < s->m; j++)
+            same = equal(&s->a[i][j], &t->a[i][j]);
+    return same;
+}
+
+// The basis of A, with the rows of the unit matrix if wanted. The last one is kept, because the right sides of a system are asked for
+// one after another.
+static const struct basis *basis_of(const struct system *s, bool record)
+{
+    static struct system last;
+    static struct basis h;
+    if (same_matrix(s, &last) && (h.height > s->n || !record))
+        return &h;
+    make_basis(s, &h, record);
+    last.p = s->p, last.n = s->n, last.m = s->m;
+    for (uint32_t i = 0; i < s->n; i++)
+        for (uint32_t j = 0; j < s->m; j++)
+            copy(&last.a[i][j], &s->a[i][j]);
+    return &h;
+}
+
 // One coordinate: b less the coordinates so far is rest / d, and the next is rest[pivot] / (d · pivot entry). The denominator
 // grows by the factor e that this pivot entry has not in common with rest[pivot].
 static void take_coordinate(uint32_t p, const struct basis *h, uint32_t k, uint32_t n, struct polynomial *rest,
@@ -102,11 +127,11 @@ static bool all_zero(const struct polynomial *f, uint32_t count)
 }
 
 // kind, and the least denominator, by the pivots in the rows of A
-static enum kind find_denominator(const struct system *s, const struct basis *h, struct polynomial *d)
+static enum kind find_denominator(const struct system *s, const struct basis *h, const struct polynomial *b, struct polynomial *d)
 {
     static struct polynomial rest[MOST];
     for (uint32_t i = 0; i < s->n; i++)
-        copy(&rest[i], &s->b[i]);
+        copy(&rest[i], &b[i]);
     set_constant(d, 1);
     for (uint32_t k = 0; k < h->rank && h->pivot[k] < s->n; k++) {
         if (!all_zero(rest, h->pivot[k])) // no column from k on has anything above its pivot
@@ -117,44 +142,52 @@ static enum kind find_denominator(const struct system *s, const struct basis *h,
     return all_zero(rest, s->n) ? SOLUTION : ABSENCE;
 }
 
-enum kind least_denominator(const struct system *s, struct polynomial *d)
-{
-    static struct basis h;
-    make_basis(s, &h, false);
-    return find_denominator(s, &h, d);
-}
-
 // (d·b, 0) less multiples of all columns is (0, -N): a pivot in a row of A leaves nothing, one below it a remainder
-enum kind solve_system(const struct system *s, struct polynomial *d, struct polynomial *numerator)
+static enum kind find_solution(const struct system *s, const struct basis *h, const struct polynomial *b, struct polynomial *d,
+                               struct polynomial *numerator)
 {
-    static struct basis h;
     static struct polynomial rest[HEIGHT];
-    make_basis(s, &h, true);
-    if (find_denominator(s, &h, d) == ABSENCE)
+    if (find_denominator(s, h, b, d) == ABSENCE)
         return ABSENCE;
-    for (uint32_t i = 0; i < h.height; i++)
+    for (uint32_t i = 0; i < h->height; i++)
         rest[i].size = 0;
     for (uint32_t i = 0; i < s->n; i++)
-        set_product(s->p, &rest[i], d, &s->b[i]);
+        set_product(s->p, &rest[i], d, &b[i]);
     for (uint32_t k = 0; k < s->m; k++)
-        reduce_vector(s->p, h.height, h.pivot[k], rest, h.column[k].entry);
+        reduce_vector(s->p, h->height, h->pivot[k], rest, h->column[k].entry);
     for (uint32_t j = 0; j < s->m; j++) {
-        copy(&numerator[j], &rest[h.height - 1 - j]);
+        copy(&numerator[j], &rest[h->height - 1 - j]);
         scale(s->p, &numerator[j], s->p - 1);
     }
     return SOLUTION;
 }
 
-uint32_t kernel(const struct system *s, struct polynomial v[MOST][MOST])
+enum kind least_denominator(const struct system *s, uint32_t side, struct polynomial *d)
+{
+    return find_denominator(s, basis_of(s, false), s->b[side], d);
+}
+
+enum kind solve_side(const struct system *s, uint32_t side, struct polynomial *d, struct polynomial *numerator)
+{
+    return find_solution(s, basis_of(s, true), s->b[side], d, numerator);
+}
+
+enum kind solve_single(const struct system *s, struct polynomial *d, struct polynomial *numerator)
 {
     static struct basis h;
-    uint32_t count = 0;
     make_basis(s, &h, true);
+    return find_solution(s, &h, s->b[0], d, numerator);
+}
+
+uint32_t kernel(const struct system *s, struct polynomial v[MOST][MOST])
+{
+    const struct basis *h = basis_of(s, true);
+    uint32_t count = 0;
     for (uint32_t k = 0; k < s->m; k++) {
-        if (h.pivot[k] < s->n)
+        if (h->pivot[k] < s->n)
             continue;
         for (uint32_t j = 0; j < s->m; j++)
-            copy(&v[count][j], &h.column[k].entry[h.height - 1 - j]);
+            copy(&v[count][j], &h->column[k].entry[h->height - 1 - j]);
         count++;
     }
     return count;

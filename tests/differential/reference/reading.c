@@ -86,7 +86,8 @@ static bool read_system_head(struct reader *r, struct system *s)
     uint32_t head;
     if (!next_word(r, &head))
         return false;
-    if (head >> 28 != SYSTEM_HEAD || (head >> 24 & 0xF) != 0)
+    s->sides = (head >> 24 & 0xF) + 1;
+    if (head >> 28 != SYSTEM_HEAD || s->sides > SIDES)
         return refuse(r, 1, 0);
     s->p = head & 0xFFFF;
     s->n = head >> 16 & 0xF;
@@ -107,9 +108,20 @@ struct refusal read_system(struct system *s, const struct file *f)
     bool read = read_system_head(&r, s);
     for (uint32_t i = 0; read && i < s->n; i++)
         read = read_polynomials(&r, s->a[i], s->m);
-    if (read && read_polynomials(&r, s->b, s->n))
+    for (uint32_t k = 0; read && k < s->sides; k++)
+        read = read_polynomials(&r, s->b[k], s->n);
+    if (read)
         read_end(&r);
     return r.refusal;
+}
+
+// the system, and then whether it has that right side
+struct refusal read_to_side(struct system *s, const struct file *f, uint64_t side)
+{
+    struct refusal r = read_system(s, f);
+    if (r.number == 0 && side >= s->sides)
+        r.number = 40;
+    return r;
 }
 
 bool holds_words(const struct file *f)

@@ -1,4 +1,4 @@
-// Document 01's systems, certificates and refusals as values, and their bounds.
+// Systems, certificates and refusals of document 01, with the right sides of document 02's item 1, as values, and their bounds.
 #ifndef WORDS_H
 #define WORDS_H
 #include <stddef.h>
@@ -6,9 +6,10 @@
 
 enum {
     MOST = 8, // rows, columns
+    SIDES = 8,
     SYSTEM_SIZE = 16,
     CERTIFICATE_SIZE = 121, // coefficients of a polynomial
-    LONGEST_SYSTEM = 1226,
+    LONGEST_SYSTEM = 2178,
     LONGEST_CERTIFICATE = 2198 // words
 };
 
@@ -17,8 +18,8 @@ enum kind_of_word { SYSTEM_HEAD = 1, START, COEFFICIENT, END, CERTIFICATE_HEAD }
 enum kind { SOLUTION = 1, ABSENCE = 2 };
 
 struct system {
-    uint32_t p, n, m;
-    struct polynomial a[MOST][MOST], b[MOST];
+    uint32_t p, n, m, sides;
+    struct polynomial a[MOST][MOST], b[SIDES][MOST]; // b: by right side
 };
 
 struct certificate {

@@ -30,10 +30,11 @@ static void put_end(struct file *f)
 void write_system(struct file *f, const struct system *s)
 {
     f->count = 0;
-    put(f, SYSTEM_HEAD, s->m << 20 | s->n << 16 | s->p);
+    put(f, SYSTEM_HEAD, (s->sides - 1) << 24 | s->m << 20 | s->n << 16 | s->p);
     for (uint32_t i = 0; i < s->n; i++)
         put_polynomials(f, s->a[i], s->m);
-    put_polynomials(f, s->b, s->n);
+    for (uint32_t k = 0; k < s->sides; k++)
+        put_polynomials(f, s->b[k], s->n);
     put_end(f);
 }
 

@@ -11,7 +11,7 @@ use Rattle.link.proofs.yezsdolak_check.Tie as tie
 
 pack-verdict-requires : tie.Need-pack-verdict-requires
 pack-verdict-requires c κs =
-    let most = file-verdict-most office office-fits _ _ packedMost (omega arith) (omega arith) (omega arith) in
+    let most = file-verdict-most office office-fits _ _ _ packedMost (omega arith) (omega arith) (omega arith) in
     subst (VerdictMost packedMost) (sym (c .check-files .ensures)) most
 
 returns : tie.Need-returns

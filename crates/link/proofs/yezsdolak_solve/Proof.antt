@@ -12,7 +12,7 @@ pack-counted-requires : tie.Need-pack-counted-requires
 pack-counted-requires c κs =
     let call = c .before .before in
     let lent = call .before .before .before .before .args .certificate .now in
-    most-wider (omega arith) (omega arith) (solves-file-most office office-fits _ lent (call .solve-file .last .0) _
+    most-wider (omega arith) (omega arith) (solves-file-most office office-fits _ _ lent (call .solve-file .last .0) _
     (call .solve-file .ensures))
 
 pub yezsdolak-solve-spec : {M : Type 1} → statement M

@@ -7,13 +7,17 @@ use Rattle.linksolve.proofs.main.Tie as tie
 part-deliver-end : tie.Need-part-deliver-end
 part-deliver-end c =
     let read = c .before .before in
-    certificate-most _ _ _ _ _ (read .before .before .before .reply .ensures) (read .replied .given .1)
+    certificate-most _ _ _ _ _ _ (read .before .before .before .reply .ensures) (read .replied .given .1)
 
 pub main-spec : {M : Type 1} → statement M
 main-spec =
     tie.close
     (tie.spec
     (λ c κs. search needs)
+    (λ c κs. search needs)
+    (λ c. search needs)
+    (λ c κs. search needs)
+    (λ c. search needs)
     (λ c. search needs)
     (λ c κs. search needs)
     (λ c. search needs)

@@ -9,7 +9,7 @@ use Rattle.linksolve.proofs.reply.Statement.{statement}
 use Rattle.linksolve.proofs.reply.Tie as tie
 
 returns : tie.Need-returns
-returns c = replies-nothing _ _ _ (c .enum-told .given .1) refl
+returns c = replies-nothing _ _ _ _ (c .enum-told .given .1) refl
 
 slice-aggregate-solve-file : tie.Need-slice-aggregate-solve-file
 slice-aggregate-solve-file c =
@@ -21,14 +21,15 @@ returns-2 : tie.Need-returns-2
 returns-2 c =
     let solved = c .before .before .before .before .before in
     let read = solved .before .before .before .before in
-    replies-certificate _ _ _ (read .input .given .1) (read .before .before .before .before .pre .0) _ (solved .solve-file .ensures)
+    replies-certificate _ _ _ _ (read .input .given .1) (read .before .before .before .before .pre .0) _
+    (solved .solve-file .ensures)
     (c .before .solved .given .1)
 
 returns-3 : tie.Need-returns-3
 returns-3 c =
     let solved = c .before .before .before .before .before in
     let read = solved .before .before .before .before in
-    replies-refusal _ _ _ (read .input .given .1) (read .before .before .before .before .pre .0) _ (solved .solve-file .ensures)
+    replies-refusal _ _ _ _ (read .input .given .1) (read .before .before .before .before .pre .0) _ (solved .solve-file .ensures)
     (c .before .solved2 .given .1)
 
 pub reply-spec : {M : Type 1} → statement M

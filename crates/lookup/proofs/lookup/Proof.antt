@@ -7,7 +7,7 @@ use lib.ListN.{length, take, drop}
 use Rattle.words.specs.Outcome.{Outcome}
 use Rattle.limits.specs.Value.{limitsOf}
 use Rattle.lookup.specs.Lookup.{Part, polynomialLookup, wordsShown, placeShown, boundsShown}
-use Rattle.lookup.specs.Answer.{sideAsked, partOutcome}
+use Rattle.lookup.specs.Answer.{ofAsked, partOutcome}
 use Rattle.lookup.specs.declared.part.Part.{Part as PartValue}
 use Rattle.lookup.proofs.Findings.{found-cut, found-place, part-address, refused-empty, refused-place}
 use borrow.Author.Needs.{needs}
@@ -20,7 +20,7 @@ entry f = f .before .before .before .before
 abbrev told : tie.After-lookup-part → Outcome Part
 told f =
     let a = entry f .args in
-    polynomialLookup (limitsOf (a .limits)) (a .system .now) (a .certificate .now) (sideAsked (a .side)) (a .number)
+    polynomialLookup (limitsOf (a .limits)) (a .system .now) (a .certificate .now) (ofAsked (a .of)) (a .number)
 
 found : (f : tie.After-lookup-part) (p : PartValue) → f .lookup-part .result ≡ p → partOutcome p ≡ boundsShown (told f)
 found f p e = ap partOutcome (sym e) ∙ f .lookup-part .ensures
@@ -42,13 +42,13 @@ module _ (p : tie.After-part) where
   cut : (from ≤ to) × (to ≤ length words) × (take (to - from) (drop from words) ≡ wordsShown (told f))
   cut =
       let a = entry f .args in
-      found-cut (limitsOf (a .limits)) (a .system .now) (a .certificate .now) (sideAsked (a .side)) (a .number) from to
+      found-cut (limitsOf (a .limits)) (a .system .now) (a .certificate .now) (ofAsked (a .of)) (a .number) from to
       (found f _ (p .part .given .1)) words (f .before .words-on .ensures .0)
 
   begins : placeShown (told f) ≡ from
   begins =
       let a = entry f .args in
-      found-place (limitsOf (a .limits)) (a .system .now) (a .certificate .now) (sideAsked (a .side)) (a .number) from to
+      found-place (limitsOf (a .limits)) (a .system .now) (a .certificate .now) (ofAsked (a .of)) (a .number) from to
       (found f _ (p .part .given .1)) words (f .before .words-on .ensures .0)
 
 mul-result : tie.Need-mul-result

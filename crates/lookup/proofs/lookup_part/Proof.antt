@@ -1,14 +1,15 @@
--- `lookup::lookup_part` meets its contract, from what the two readers tell and what is found in the words of the side.
+-- `lookup::lookup_part` meets its contract, from what the two readers tell and what is found in the words that are asked
+-- for.
 use mathlib.Core.Path.{_≡_, sym, ap, _∙_}
 use mathlib.Core.List.{List}
 use Prim.Native.Nat.{ℕ}
 use native.Mathlib.Omega.{arith}
-use Rattle.answers.specs.Answer.{shapeOf, formOf, systemOutcome, certificateOutcome}
+use Rattle.answers.specs.Answer.{headOf, formOf, systemOutcome, certificateOutcome}
 use Rattle.limits.specs.Value.{limitsOf}
 use Rattle.lookup.specs.Lookup.{on, polynomialLookup, boundsShown}
-use Rattle.lookup.specs.Answer.{sideAsked, partOutcome}
+use Rattle.lookup.specs.Answer.{ofAsked, partOutcome}
 use Rattle.lookup.specs.Standing.{StartsInside, partIn}
-use Rattle.lookup.specs.declared.Side.{Side}
+use Rattle.lookup.specs.declared.Of.{Of}
 use Rattle.lookup.specs.declared.part.Part.{Part}
 use Rattle.lookup.proofs.FindSteps.{find-system-refused, find-certificate-refused, find-inside, find-part}
 use borrow.Author.Needs.{needs}
@@ -21,36 +22,36 @@ module _ (f : tie.After-enum-told) where
   y = f .before .before
 
   abbrev r : tie.After-read-system
-  r = y .before .before .before .before
+  r = y .before .before .before .before .before
 
   abbrev start : tie.Start
   start = r .before .before .before
 
-  abbrev of-side : Side → List ℕ
-  of-side side = on (sideAsked side) (start .args .system .now) (start .args .certificate .now)
+  abbrev words-of : Of → List ℕ
+  words-of of = on (ofAsked of) (start .args .system .now) (start .args .certificate .now)
 
-  inside : (side : Side) → start .args .side ≡ side → StartsInside (of-side side)
-  inside side is =
+  inside : (of : Of) → start .args .of ≡ of → StartsInside (words-of of)
+  inside of is =
       let a = start .args in
-      let e = y .before .before .read .given in
+      let e = y .before .before .before .read .given in
       let g = f .enum-told .given in
-      find-inside (limitsOf (a .limits)) (a .system .now) (a .certificate .now) (sideAsked (a .side)) (a .number)
-      (shapeOf (e .0 .0)) (ap systemOutcome (sym (e .1)) ∙ r .read-system .ensures)
+      find-inside (limitsOf (a .limits)) (a .system .now) (a .certificate .now) (ofAsked (a .of)) (a .number)
+      (headOf (e .0 .0)) (ap systemOutcome (sym (e .1)) ∙ r .read-system .ensures)
       (formOf (g .0 .0)) (ap certificateOutcome (sym (g .1)) ∙ y .read-certificate .ensures)
-      (omega (arith, start .good)) (omega (arith, start .good)) (of-side side) (ap of-side (sym is))
+      (omega (arith, start .good)) (omega (arith, start .good)) (words-of of) (ap words-of (sym is))
 
-  tells : (side : Side) → start .args .side ≡ side → (part : Part)
-      → partOutcome part ≡ partIn (of-side side) (start .args .number)
+  tells : (of : Of) → start .args .of ≡ of → (part : Part)
+      → partOutcome part ≡ partIn (words-of of) (start .args .number)
       → partOutcome part ≡ boundsShown (polynomialLookup (limitsOf (start .args .limits)) (start .args .system .now)
-      (start .args .certificate .now) (sideAsked (start .args .side)) (start .args .number))
-  tells side is =
+      (start .args .certificate .now) (ofAsked (start .args .of)) (start .args .number))
+  tells of is =
       let a = start .args in
-      let e = y .before .before .read .given in
+      let e = y .before .before .before .read .given in
       let g = f .enum-told .given in
-      find-part (limitsOf (a .limits)) (a .system .now) (a .certificate .now) (sideAsked (a .side)) (a .number)
-      (shapeOf (e .0 .0)) (ap systemOutcome (sym (e .1)) ∙ r .read-system .ensures)
+      find-part (limitsOf (a .limits)) (a .system .now) (a .certificate .now) (ofAsked (a .of)) (a .number)
+      (headOf (e .0 .0)) (ap systemOutcome (sym (e .1)) ∙ r .read-system .ensures)
       (formOf (g .0 .0)) (ap certificateOutcome (sym (g .1)) ∙ y .read-certificate .ensures)
-      (omega (arith, start .good)) (omega (arith, start .good)) (of-side side) (ap of-side (sym is))
+      (omega (arith, start .good)) (omega (arith, start .good)) (words-of of) (ap words-of (sym is))
 
 part-of-requires : tie.Need-part-of-requires
 part-of-requires c κs = inside (c .before .before) _ (c .enum-told2 .given .1)
@@ -71,12 +72,12 @@ returns-2 c =
 returns-3 : tie.Need-returns-3
 returns-3 c =
     let y = c .before .before .before in
-    let r = y .before .before .before .before in
+    let r = y .before .before .before .before .before in
     let a = r .before .before .before .args in
-    let e = y .before .before .read .given in
+    let e = y .before .before .before .read .given in
     let g = c .before .read2 .given in
-    find-certificate-refused (limitsOf (a .limits)) (a .system .now) (a .certificate .now) (sideAsked (a .side)) (a .number)
-    (shapeOf (e .0 .0)) (ap systemOutcome (sym (e .1)) ∙ r .read-system .ensures) _
+    find-certificate-refused (limitsOf (a .limits)) (a .system .now) (a .certificate .now) (ofAsked (a .of)) (a .number)
+    (headOf (e .0 .0)) (ap systemOutcome (sym (e .1)) ∙ r .read-system .ensures) _
     (ap certificateOutcome (sym (g .1)) ∙ y .read-certificate .ensures)
 
 returns-4 : tie.Need-returns-4
@@ -84,7 +85,7 @@ returns-4 c =
     let r = c .before .before .before in
     let a = r .before .before .before .args in
     let e = c .before .read3 .given in
-    find-system-refused (limitsOf (a .limits)) (a .system .now) (a .certificate .now) (sideAsked (a .side)) (a .number) _
+    find-system-refused (limitsOf (a .limits)) (a .system .now) (a .certificate .now) (ofAsked (a .of)) (a .number) _
     (ap systemOutcome (sym (e .1)) ∙ r .read-system .ensures)
 
 pub lookup-part-spec : {M : Type 1} → statement M

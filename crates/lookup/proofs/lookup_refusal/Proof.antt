@@ -3,7 +3,7 @@ use mathlib.Core.Path.{_≡_, sym, ap, _∙_}
 use Rattle.words.specs.Outcome.{Outcome}
 use Rattle.limits.specs.Value.{limitsOf}
 use Rattle.lookup.specs.Lookup.{Part, polynomialLookup, boundsShown}
-use Rattle.lookup.specs.Answer.{sideAsked, partOutcome}
+use Rattle.lookup.specs.Answer.{ofAsked, partOutcome}
 use Rattle.lookup.specs.declared.part.Part.{Part as PartValue}
 use Rattle.lookup.proofs.Findings.{found-companion, refused-companion}
 use borrow.Author.Needs.{needs}
@@ -13,7 +13,7 @@ use Rattle.lookup.proofs.lookup_refusal.Tie as tie
 abbrev told : tie.After-lookup-part → Outcome Part
 told f =
     let a = f .before .before .before .args in
-    polynomialLookup (limitsOf (a .limits)) (a .system .now) (a .certificate .now) (sideAsked (a .side)) (a .number)
+    polynomialLookup (limitsOf (a .limits)) (a .system .now) (a .certificate .now) (ofAsked (a .of)) (a .number)
 
 found : (f : tie.After-lookup-part) (p : PartValue) → f .lookup-part .result ≡ p → partOutcome p ≡ boundsShown (told f)
 found f p e = ap partOutcome (sym e) ∙ f .lookup-part .ensures

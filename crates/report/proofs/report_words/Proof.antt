@@ -1,9 +1,8 @@
 -- What the reader tells decides what is reported (`Giving`).
 use mathlib.Core.Path.{ap}
 use borrow.Author.Needs.{needs}
-use Rattle.answers.specs.Answer.{systemOutcome}
-use Rattle.reader.specs.ReadLaws.{system-refused}
-use Rattle.solver.proofs.Reading.{was-read}
+use Rattle.answers.specs.Answer.{lineOutcome}
+use Rattle.solver.proofs.Reading.{was-read, reading-refused}
 use Rattle.report.proofs.Giving.{given-refused}
 use Rattle.report.proofs.report_words.Statement.{statement}
 use Rattle.report.proofs.report_words.Tie as tie
@@ -12,16 +11,16 @@ report-read-requires : tie.Need-report-read-requires
 report-read-requires c κs =
     let read = c .before .before in
     let told = read .before .before in
-    let tells = ap systemOutcome (read .read .given .1) in
-    (was-read _ _ (told .before .limits .ensures) (told .read-system .ensures) tells, search needs)
+    let tells = ap lineOutcome (read .read .given .1) in
+    (was-read 0 _ _ (told .before .limits .ensures) (told .read-line .ensures) tells, search needs)
 
 returns-2 : tie.Need-returns-2
 returns-2 c =
     let refuses = c .before .before in
     let read = refuses .before .before .before in
     let told = read .before .before in
-    let tells = ap systemOutcome (read .read2 .given .1) in
-    given-refused _ _ (system-refused _ _ (told .before .limits .ensures) (told .read-system .ensures) tells)
+    let tells = ap lineOutcome (read .read2 .given .1) in
+    given-refused _ _ (reading-refused 0 _ _ (told .before .limits .ensures) (told .read-line .ensures) tells)
     (refuses .write-refusal .ensures)
 
 pub report-words-spec : {M : Type 1} → statement M

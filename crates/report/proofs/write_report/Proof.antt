@@ -4,7 +4,7 @@ use native.Mathlib.Omega.{arith}
 use borrow.Author.Needs.{needs}
 use Rattle.words.specs.Limits.{office}
 use Rattle.answers.specs.Answer.{countedOutcome}
-use Rattle.files.specs.OpeningLaws.{opened-room, opened-length, system-file-refused, system-file-read}
+use Rattle.files.specs.OpeningLaws.{opened-room, opened-length, line-file-refused, line-file-read}
 use Rattle.report.proofs.Giving.{file-short, file-refused, file-words}
 use Rattle.report.proofs.write_report.Statement.{statement}
 use Rattle.report.proofs.write_report.Tie as tie
@@ -29,7 +29,7 @@ returns-2 c =
     let found = c .before .before .before .before .before .before in
     let call = found .before .before .before in
     file-words _ (call .before .before .if1 .left)
-    (system-file-read office (call .open-file .ensures) (omega arith) (ap countedOutcome (found .opened .given .1)))
+    (line-file-read office (call .open-file .ensures) 0 (omega arith) (ap countedOutcome (found .opened .given .1)))
     (c .before .before .report-words .ensures)
 
 returns-3 : tie.Need-returns-3
@@ -37,7 +37,7 @@ returns-3 c =
     let found = c .before .before .before .before .before in
     let call = found .before .before .before in
     file-refused _ (call .before .before .if1 .left) _ _
-    (system-file-refused office (call .open-file .ensures) (ap countedOutcome (found .opened2 .given .1)))
+    (line-file-refused office (call .open-file .ensures) 0 (ap countedOutcome (found .opened2 .given .1)))
     (c .before .before .write-refusal .ensures)
 
 pub write-report-spec : {M : Type 1} → statement M

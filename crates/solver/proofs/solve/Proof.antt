@@ -1,12 +1,11 @@
--- The reader's refusals, then 11; else what `solve_read` gives (`Reading`).
+-- The reader's refusals, 40 the last of them, then 11; else what `solve_read` gives (`Reading`).
 use Prim.Native.Nat.{ℕ}
 use mathlib.Core.Path.{refl, ap}
 use native.Mathlib.Omega.{arith}
 use Rattle.words.specs.Limits.{office, longestCertificate}
 use Rattle.words.specs.Certificate.{certificateWords}
-use Rattle.answers.specs.Answer.{systemOutcome}
-use Rattle.reader.specs.ReadLaws.{system-refused}
-use Rattle.solver.proofs.Reading.{was-read, solves-refused, solves-short, solves-given}
+use Rattle.answers.specs.Answer.{lineOutcome}
+use Rattle.solver.proofs.Reading.{was-read, reading-refused, solves-refused, solves-short, solves-given}
 use borrow.Author.Needs.{needs}
 use Rattle.solver.proofs.solve.Statement.{statement}
 use Rattle.solver.proofs.solve.Tie as tie
@@ -20,14 +19,14 @@ returns c =
     let read = c .before .before in
     let told = read .before .before in
     let lent = told .before .before .before .before .args .words .now in
-    let R = was-read _ _ (told .before .limits .ensures) (told .read-system .ensures) (ap systemOutcome (read .read .given .1)) in
+    let R = was-read _ _ _ (told .before .limits .ensures) (told .read-line .ensures) (ap lineOutcome (read .read .given .1)) in
     solves-short longest certificateWords lent lent _ _ (R .read) (omega (arith, c .if1 .taken)) refl refl
 
 solve-read-requires : tie.Need-solve-read-requires
 solve-read-requires c κs =
     let read = c .before .before .before in
     let told = read .before .before in (
-      was-read _ _ (told .before .limits .ensures) (told .read-system .ensures) (ap systemOutcome (read .read .given .1)),
+      was-read _ _ _ (told .before .limits .ensures) (told .read-line .ensures) (ap lineOutcome (read .read .given .1)),
       search needs,
     )
 
@@ -35,7 +34,7 @@ returns-2 : tie.Need-returns-2
 returns-2 c =
     let read = c .before .before .before .before .before .before in
     let told = read .before .before in
-    let R = was-read _ _ (told .before .limits .ensures) (told .read-system .ensures) (ap systemOutcome (read .read .given .1)) in
+    let R = was-read _ _ _ (told .before .limits .ensures) (told .read-line .ensures) (ap lineOutcome (read .read .given .1)) in
     solves-given longest certificateWords _ _ _ _ (R .read) (search needs) _ refl
     (c .before .before .solve-read .ensures (R .system) (R .read))
 
@@ -44,8 +43,8 @@ returns-3 c =
     let told = c .before .before .before in
     let lent = told .before .before .before .before .args .words .now in
     solves-refused longest certificateWords lent lent _ _
-    (system-refused _ _ (told .before .limits .ensures) (told .read-system .ensures)
-    (ap systemOutcome (c .before .read2 .given .1)))
+    (reading-refused _ _ _ (told .before .limits .ensures) (told .read-line .ensures)
+    (ap lineOutcome (c .before .read2 .given .1)))
     refl refl
 
 pub solve-spec : {M : Type 1} → statement M

@@ -46,7 +46,7 @@ module _ (c : tie.After-known-told) where
   told-at = ap certificateOutcome (sym (c .before .read .given .1)) ∙ read-at answered
 
 format-for-requires : tie.Need-format-for-requires
-format-for-requires c κs = shape-passed office _ passed (sym (passed-at (shaped (answered c)))) .0
+format-for-requires c κs = (shape-passed office _ passed (sym (passed-at (shaped (answered c)))) .0, tt)
 
 load-entries-requires : tie.Need-load-entries-requires
 load-entries-requires c κs =

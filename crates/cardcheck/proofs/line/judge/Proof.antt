@@ -30,7 +30,7 @@ returns c =
     let files = second .before .before .before .before .before .args in
     same-line
     (checked .check-files .ensures
-    ∙ ap₂ (λ i j. fileVerdict office (take i (files .system .now)) (take j (files .certificate .now)))
+    ∙ ap₂ (λ i j. fileVerdict office (files .side) (take i (files .system .now)) (take j (files .certificate .now)))
     (second .before .bytes-seen .ensures) (second .bytes-seen2 .ensures))
     (c .before .before .write-verdict .ensures)
 

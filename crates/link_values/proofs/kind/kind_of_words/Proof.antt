@@ -1,5 +1,6 @@
 -- What the readers tell decides (`Reading`).
 use mathlib.Core.Path.{ap}
+use Rattle.words.specs.Systems.{systemsHead, readSystems}
 use Rattle.answers.specs.Answer.{systemOutcome, certificateOutcome}
 use Rattle.reader.specs.ReadLaws.{system-refused, system-read, certificate-refused, both-read}
 use Rattle.link_values.proofs.Reading.{refused-system, refused-certificate, kind-read}
@@ -11,12 +12,12 @@ returns : tie.Need-returns
 returns c =
     let found = c .before .before in
     let certificate-part = found .before .before in
-    let read = certificate-part .before .before .before in
+    let read = certificate-part .before .before .before .before in
     let system-part = read .before .before in
     kind-read _ _
-    (both-read _ _ (system-part .before .limits .ensures) (system-part .read-system .ensures)
+    (both-read readSystems systemsHead _ _ (system-part .before .limits .ensures) (system-part .read-system .ensures)
     (ap systemOutcome (read .read .given .1))
-    _ _ (certificate-part .before .limits2 .ensures) (certificate-part .read-certificate .ensures)
+    (λ h. h .shape) _ _ (certificate-part .before .limits2 .ensures) (certificate-part .read-certificate .ensures)
     (ap certificateOutcome (found .found .given .1)))
     (c .number-of .ensures)
 
@@ -24,18 +25,20 @@ returns-2 : tie.Need-returns-2
 returns-2 c =
     let found = c .before in
     let certificate-part = found .before .before in
-    let read = certificate-part .before .before .before in
+    let read = certificate-part .before .before .before .before in
     let system-part = read .before .before in
     let told = ap systemOutcome (read .read .given .1) in
-    refused-certificate _ _ (system-read _ _ (system-part .before .limits .ensures) (system-part .read-system .ensures) told .1)
-    (certificate-refused _ _ (system-part .before .limits .ensures) (system-part .read-system .ensures) told
-    _ _ (certificate-part .before .limits2 .ensures) (certificate-part .read-certificate .ensures)
+    let office-limits = system-part .before .limits .ensures in
+    refused-certificate _ _ (system-read readSystems systemsHead _ _ office-limits (system-part .read-system .ensures) told .1)
+    (certificate-refused readSystems systemsHead _ _ office-limits (system-part .read-system .ensures) told
+    (λ h. h .shape) _ _ (certificate-part .before .limits2 .ensures) (certificate-part .read-certificate .ensures)
     (ap certificateOutcome (found .found2 .given .1)))
 
 returns-3 : tie.Need-returns-3
 returns-3 c =
     let system-part = c .before .before .before in
-    refused-system _ _ (system-refused _ _ (system-part .before .limits .ensures) (system-part .read-system .ensures)
+    refused-system _ _
+    (system-refused readSystems systemsHead _ _ (system-part .before .limits .ensures) (system-part .read-system .ensures)
     (ap systemOutcome (c .before .read2 .given .1)))
 
 pub kind-of-words-spec : {M : Type 1} → statement M

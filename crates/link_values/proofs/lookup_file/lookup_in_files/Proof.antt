@@ -10,7 +10,7 @@ use Rattle.files.specs.OpeningLaws.{opened-room, opened-length}
 use Rattle.files.specs.OpeningBothLaws.{both-are, none-is}
 use Rattle.answers.specs.Answer.{refusedBy, countedOutcome}
 use Rattle.answers.specs.Packed.{packedMost, AnswerMost}
-use Rattle.link_values.specs.Files.{sideNumbered, lookupOf, fileLookup}
+use Rattle.link_values.specs.Files.{ofNumbered, lookupOf, fileLookup}
 use Rattle.link_values.specs.Giving.{GivesList}
 use Rattle.link_values.specs.GivingLaws.{gives-as, gives-refusal, gives-packed}
 use Rattle.link_values.proofs.Opens.{none-opened, both-opened}
@@ -31,10 +31,10 @@ module _ (call : tie.After-open-both) where
   g = start .args .certificate .now
 
   abbrev sought : Outcome (List ℕ)
-  sought = fileLookup office f g (sideNumbered (start .args .side)) (start .args .number)
+  sought = fileLookup office f g (ofNumbered (start .args .of)) (start .args .number)
 
   small : AnswerMost packedMost packedMost (mapped length sought)
-  small = lookup-small f g (sideNumbered (start .args .side)) (start .args .number)
+  small = lookup-small f g (ofNumbered (start .args .of)) (start .args .number)
 
 -- both files are opened
 abbrev call : tie.After-opened → tie.After-open-both
@@ -50,7 +50,7 @@ module _ (c : tie.After-lookup-words) where
   given =
       let opens = both-are office _ _ _ _ _ _ _ (call told .open-both .ensures) (told .opened .given .1) in
       gives-as
-      (ap₂ (λ s o. lookupOf s (start (call told) .args .number) o) (sym (c .before .side-of .ensures))
+      (ap₂ (λ s o. lookupOf s (start (call told) .args .number) o) (sym (c .before .of-numbered .ensures))
       (both-opened _ _ opens (omega arith) (omega arith)))
       (c .lookup-words .ensures)
 
@@ -61,7 +61,7 @@ module _ (c : tie.After-opened2) where
 
   stops : sought call2 ≡ refusedBy (c .opened2 .given .0 .0)
   stops =
-      ap (lookupOf (sideNumbered (start call2 .args .side)) (start call2 .args .number))
+      ap (lookupOf (ofNumbered (start call2 .args .of)) (start call2 .args .number))
       (none-opened (f call2) (g call2) (none-is office _ _ _ _ _ _ _ (call2 .open-both .ensures) (c .opened2 .given .1)))
 
 array-share-prefix-system-words : tie.Need-array-share-prefix-system-words

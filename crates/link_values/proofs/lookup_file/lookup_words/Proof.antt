@@ -2,7 +2,7 @@
 use mathlib.Core.Path.{sym, ap, _∙_}
 use native.Mathlib.Omega.{arith}
 use Rattle.answers.specs.Answer.{verdictOutcome}
-use Rattle.lookup.specs.Answer.{sideAsked}
+use Rattle.lookup.specs.Answer.{ofAsked}
 use Rattle.link_values.specs.GivingLaws.{gives-refusal}
 use Rattle.link_values.proofs.Looking.{sought-refused, none-shown, some-shown, gives-found}
 use borrow.Author.Needs.{needs}
@@ -28,7 +28,7 @@ returns-2 c =
     let refusal = c .before .before .before in
     let a = refusal .before .before .before .before .before .before .before .args in
     gives-refusal
-    (sought-refused (a .system .now) (a .certificate .now) (sideAsked (a .side)) (a .number) _ (refusal .before .limits2 .ensures)
+    (sought-refused (a .system .now) (a .certificate .now) (ofAsked (a .of)) (a .number) _ (refusal .before .limits2 .ensures)
     (ap verdictOutcome (sym (c .before .refusal .given .1)) ∙ refusal .lookup-refusal .ensures)) _
 
 returns-3 : tie.Need-returns-3

@@ -1,6 +1,6 @@
 -- The answer, packed; its count and its place are small.
 use mathlib.Core.Path.{sym, subst}
-use Rattle.writer.specs.Values.{shapeWith}
+use Rattle.writer.specs.Values.{headWith}
 use Rattle.answers.specs.Packed.{packedMost, AnswerMost}
 use Rattle.link_values.specs.GivingLaws.{gives-packed}
 use Rattle.link_values.proofs.Small.{write-small}
@@ -13,7 +13,7 @@ pack-counted-requires c κs =
     let call = c .before .before in
     let a = call .before .before .before .args in
     subst (AnswerMost packedMost packedMost) (sym (call .write-to-bytes .ensures .told))
-    (write-small _ (shapeWith (a .modulus) (a .rows) (a .columns)) (a .sizes .now) (a .coefficients .now))
+    (write-small _ (headWith (a .modulus) (a .rows) (a .columns) (a .sides)) (a .sizes .now) (a .coefficients .now))
 
 returns : tie.Need-returns
 returns c = gives-packed (c .before .before .before .write-to-bytes .ensures) (c .pack-counted .ensures)

@@ -7,12 +7,12 @@ use lib.ListN.{length, replicate, take}
 use borrow.Author.Needs.{needs}
 use Rattle.words.specs.Limits.{office, longestSystem}
 use Rattle.words.specs.Outcome.Outcome.{accepted}
-use Rattle.words.specs.System.{System}
+use Rattle.words.specs.Systems.{Systems}
 use Rattle.files.specs.FileBytesLaws.{written-count, written-all}
 use Rattle.answers.specs.declared.answer.Counted.{Counted}
 use Rattle.answers.specs.declared.answer.Counted.the-variants.{Count}
-use Rattle.writer.specs.Writing.{writeSystem, Writes}
-use Rattle.writer.specs.Values.{shapeWith, systemInArrays}
+use Rattle.writer.specs.Writing.{writeSystems, Writes}
+use Rattle.writer.specs.Values.{headWith, systemInArrays}
 use Rattle.writer.specs.WrittenLaws.{count-words}
 use Rattle.link_values.specs.GivingLaws.{gives-refusal, gives-list}
 use Rattle.link_values.specs.WritingLaws.{write-refused, write-short, write-whole}
@@ -22,10 +22,10 @@ use Rattle.link_values.proofs.writing.write_to_bytes.Tie as tie
 
 -- the values, and the words of one's own
 module _ (call : tie.After-write-system) where
-  abbrev system : System
+  abbrev system : Systems
   system =
       let a = call .before .before .before .args in
-      systemInArrays office (shapeWith (a .modulus) (a .rows) (a .columns)) (a .sizes .now) (a .coefficients .now)
+      systemInArrays office (headWith (a .modulus) (a .rows) (a .columns) (a .sides)) (a .sizes .now) (a .coefficients .now)
 
   abbrev words : List ℕ
   words = call .write-system .last .0
@@ -35,8 +35,8 @@ module _ (call : tie.After-write-system) where
   zeros = replicate (longestSystem office) 0
 
   writes : (answer : Counted) → call .write-system .result ≡ answer
-      → Writes (writeSystem office (longestSystem office) system) zeros answer words
-  writes answer e = subst (λ a. Writes (writeSystem office (longestSystem office) system) zeros a words) e
+      → Writes (writeSystems office (longestSystem office) system) zeros answer words
+  writes answer e = subst (λ a. Writes (writeSystems office (longestSystem office) system) zeros a words) e
       (call .write-system .ensures)
 
 -- so many words are written
@@ -44,11 +44,11 @@ module _ (c : tie.After-written) where
   abbrev call : tie.After-write-system
   call = c .before .before .before
 
-  counted : Writes (writeSystem office (longestSystem office) (system call)) (zeros call) (Count (c .written .given .0 .0))
+  counted : Writes (writeSystems office (longestSystem office) (system call)) (zeros call) (Count (c .written .given .0 .0))
       (words call)
   counted = writes call _ (c .written .given .1)
 
-  are : writeSystem office (longestSystem office) (system call) ≡ accepted (take (c .written .given .0 .0) (words call))
+  are : writeSystems office (longestSystem office) (system call) ≡ accepted (take (c .written .given .0 .0) (words call))
   are = count-words _ counted
 
   room : length (words call) ≡ longestSystem office

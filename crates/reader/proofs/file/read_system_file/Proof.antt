@@ -3,7 +3,7 @@ use mathlib.Core.Path.{sym, ap, _∙_}
 use native.Mathlib.Omega.{arith}
 use Rattle.words.specs.Limits.{office}
 use Rattle.words.specs.Outcome.{mapped}
-use Rattle.words.specs.System.{shape}
+use Rattle.words.specs.Systems.{systemsHead, readSystems}
 use Rattle.answers.specs.Answer.{countedOutcome}
 use Rattle.files.specs.OpeningLaws.{opened-room, opened-length, system-file-refused, system-file-read}
 use Rattle.reader.specs.ReadLaws.{system-told}
@@ -24,14 +24,14 @@ slice-aggregate-read-system c =
 returns : tie.Need-returns
 returns c =
     let opened = c .before .before .before .before in
-    system-told _ _ (c .before .limits .ensures) (c .read-system .ensures)
-    ∙ ap (mapped shape) (sym (system-file-read office (opened .before .before .before .open-file .ensures) (omega arith)
+    system-told readSystems systemsHead _ _ (c .before .limits .ensures) (c .read-system .ensures)
+    ∙ ap (mapped systemsHead) (sym (system-file-read office (opened .before .before .before .open-file .ensures) (omega arith)
     (ap countedOutcome (opened .opened .given .1))))
 
 returns-2 : tie.Need-returns-2
 returns-2 c =
     let opened = c .before in
-    ap (mapped shape) (sym (system-file-refused office (opened .before .before .before .open-file .ensures)
+    ap (mapped systemsHead) (sym (system-file-refused office (opened .before .before .before .open-file .ensures)
     (ap countedOutcome (opened .opened2 .given .1))))
 
 pub read-system-file-spec : {M : Type 1} → statement M

@@ -17,7 +17,7 @@ returns-2 c =
 
 returns-3 : tie.Need-returns-3
 returns-3 c =
-    let e = c .before in
+    let e = c .before .before in
     let k = e .before in
     sym (head-bits _ _ (k .before .before .if1 .left) (sym (k .kind-of .ensures) ∙ e .if2 .left) (c .if3 .taken))
 
@@ -25,7 +25,7 @@ returns-4 : tie.Need-returns-4
 returns-4 c =
     let q = c .before in
     let t = q .before in
-    let e = t .before in
+    let e = t .before .before in
     let k = e .before in
     sym (head-composite _ _ (k .before .before .if1 .left) (sym (k .kind-of .ensures) ∙ e .if2 .left) (t .if3 .left)
     (sym (q .is-prime .ensures) ∙ not-true _ (c .if4 .taken)))
@@ -35,7 +35,7 @@ returns-5 c =
     let r = c .before in
     let q = r .before .before .before in
     let t = q .before in
-    let e = t .before in
+    let e = t .before .before in
     let k = e .before in
     sym
     (head-rows _ _ (k .before .before .if1 .left) (sym (k .kind-of .ensures) ∙ e .if2 .left) (t .if3 .left)
@@ -48,7 +48,7 @@ returns-6 c =
     let r = m .before .before .before in
     let q = r .before .before .before in
     let t = q .before in
-    let e = t .before in
+    let e = t .before .before in
     let k = e .before in
     sym
     (head-columns _ _ (k .before .before .if1 .left) (sym (k .kind-of .ensures) ∙ e .if2 .left) (t .if3 .left)
@@ -62,7 +62,7 @@ returns-7 c =
     let r = m .before .before .before in
     let q = r .before .before .before in
     let t = q .before in
-    let e = t .before in
+    let e = t .before .before in
     let k = e .before in
     sym
     (head-right _ _ (k .before .before .if1 .left) (sym (k .kind-of .ensures) ∙ e .if2 .left) (t .if3 .left)
@@ -78,6 +78,8 @@ read-head-spec =
     (λ c. search needs)
     (λ c κs. search needs)
     returns-2
+    (λ c. search needs)
+    (λ c. search needs)
     returns-3
     (λ c. search needs)
     (λ c κs. search needs)
@@ -88,6 +90,7 @@ read-head-spec =
     (λ c. search needs)
     (λ c κs. search needs)
     returns-6
+    (λ c. search needs)
     (λ c. search needs)
     (λ c. search needs)
     returns-7)

@@ -7,7 +7,7 @@ use lib.ListN.{length}
 use Rattle.words.specs.Limits.{office, longestCertificate}
 use Rattle.words.specs.Bytes.{wordBytes}
 use Rattle.answers.specs.Answer.{countedOutcome}
-use Rattle.files.specs.OpeningLaws.{opened-room, opened-length, system-file-refused, system-file-read}
+use Rattle.files.specs.OpeningLaws.{opened-room, opened-length, line-file-refused, line-file-read}
 use Rattle.solver.specs.Solving.{withRoom, certificateBytes, SolvesOr}
 use Rattle.solver.proofs.Reading.{solves-refused}
 use Rattle.solver.proofs.file.solve_file.Statement.{statement}
@@ -35,7 +35,7 @@ returns c =
     let solved = c .before .before .solve-to-bytes in
     subst (λ o. SolvesOr office certificateBytes (withRoom (wordBytes * longest) (length lent) o) lent (solved .last .0)
     (countedOutcome (solved .result)))
-    (sym (system-file-read office (call .open-file .ensures) (omega arith) (ap countedOutcome (found .opened .given .1))))
+    (sym (line-file-read office (call .open-file .ensures) _ (omega arith) (ap countedOutcome (found .opened .given .1))))
     (solved .ensures)
 
 returns-2 : tie.Need-returns-2
@@ -43,7 +43,7 @@ returns-2 c =
     let call = c .before .before .before .before in
     let lent = call .before .before .before .before .args .bytes .now in
     solves-refused (wordBytes * longest) certificateBytes lent lent _ _
-    (system-file-refused office (call .open-file .ensures) (ap countedOutcome (c .before .opened2 .given .1))) refl refl
+    (line-file-refused office (call .open-file .ensures) _ (ap countedOutcome (c .before .opened2 .given .1))) refl refl
 
 pub solve-file-spec : {M : Type 1} → statement M
 solve-file-spec =

@@ -27,14 +27,14 @@ call c = c .before .before .before
 -- the certificate's words are among those of the solver's own
 fits : (c : tie.After-solved) → c .solved .given .0 .0 ≤ length (call c .solve .last .0)
 fits c = gives-fits
-    (was-solved (call c .before .before .before .before .args .system .now) (replicate longest 0) _ _ (call c .solve .ensures)
+    (was-solved _ (call c .before .before .before .before .args .system .now) (replicate longest 0) _ _ (call c .solve .ensures)
     (ap countedOutcome (c .solved .given .1)) .2 .given)
 
 returns : tie.Need-returns
 returns c =
     let counted = c .before .before in
     let lent = call counted .before .before .before .before .args .bytes .now in
-    let given = was-solved (call counted .before .before .before .before .args .system .now) (replicate longest 0) _ _
+    let given = was-solved _ (call counted .before .before .before .before .args .system .now) (replicate longest 0) _ _
     (call counted .solve .ensures)
     (ap countedOutcome (counted .solved .given .1)) in
     solves-short (wordBytes * longest) certificateBytes lent lent _ _ (given .1) (c .if1 .taken) refl refl
@@ -42,7 +42,7 @@ returns c =
 returns-2 : tie.Need-returns-2
 returns-2 c =
     let counted = c .before .before .before .before .before .before .before in
-    let given = was-solved (call counted .before .before .before .before .args .system .now) (replicate longest 0) _ _
+    let given = was-solved _ (call counted .before .before .before .before .args .system .now) (replicate longest 0) _ _
     (call counted .solve .ensures)
     (ap countedOutcome (counted .solved .given .1)) in
     let few = fits counted in
@@ -57,7 +57,7 @@ returns-3 c =
     let told = c .before .before .before .before in
     let lent = told .before .before .before .before .args .bytes .now in
     solves-refused (wordBytes * longest) certificateBytes lent lent _ _
-    (was-refused (told .before .before .before .before .args .system .now) (replicate longest 0) _ _ (told .solve .ensures)
+    (was-refused _ (told .before .before .before .before .args .system .now) (replicate longest 0) _ _ (told .solve .ensures)
     (omega arith)
     (ap countedOutcome (c .before .solved2 .given .1))) refl refl
 

@@ -12,7 +12,7 @@ use Rattle.stored_cases.proofs.polynomials.unpack.Tie as tie
 abbrev Inv-loop : tie.InvT-loop
 Inv-loop sizes₀ coefficients₀ case stride limit place₀ k₀ sizes coefficients place k =
     (k ≤ length sizes) × (length sizes ≡ length sizes₀) × (length coefficients ≡ length coefficients₀)
-    × (place ≤ 5 + (1 + office .certificateCoefficients) * k)
+    × (place ≤ 6 + (1 + office .certificateCoefficients) * k)
 
 abbrev μ-loop : tie.MeasureT-loop
 μ-loop sizes₀ coefficients₀ case stride limit place₀ k₀ sizes coefficients place k = length sizes - k

@@ -8,7 +8,7 @@ use Rattle.stored_cases.proofs.solution.show_solved.Tie as tie
 
 part-show-accepted-end : tie.Need-part-show-accepted-end
 part-show-accepted-end c =
-    let read = c .before .before in
+    let read = c .before .before .before .before in
     let solved = read .before .before .before .solve-file in
     solves-fits _ _ _ _ _ _ (solved .ensures) _ (ap countedOutcome (read .solved .given .1))
 
@@ -19,6 +19,8 @@ show-solved-spec =
     (λ c. search needs)
     (λ c κs. search needs)
     (λ c. search needs)
+    (λ c. search needs)
+    (λ c κs. search needs)
     (λ c. search needs)
     (λ c. search needs)
     part-show-accepted-end

@@ -37,14 +37,14 @@ returns : tie.Need-returns
 returns c =
     let o = c .before .before .before .before in
     let opens = both-are office _ _ _ _ _ _ _ (o .before .before .before .before .open-both .ensures) (o .opened .given .1) in
-    both-opened _ _ opens (omega arith) (omega arith) (c .check .ensures)
+    both-opened _ _ _ opens (omega arith) (omega arith) (c .check .ensures)
 
 returns-2 : tie.Need-returns-2
 returns-2 c =
     let o = c .before in
     let call = o .before .before .before .before in
     let a = call .before .before .before .before .before .args in
-    none-opened (a .system .now) (a .certificate .now)
+    none-opened _ (a .system .now) (a .certificate .now)
     (none-is office _ _ _ _ _ _ _ (call .open-both .ensures) (o .opened2 .given .1))
 
 pub check-files-spec : {M : Type 1} → statement M

@@ -35,7 +35,7 @@ write-values-requires c κs =
     let f = c .before in
     let S = start (f .before) in
     ready-as (f .format-for .ensures)
-    (kind-ready office office-fits _ (within-at (f .before)) (S .args .kind) _ _ (omega arith) (S .pre .0) (S .pre .1))
+    (kind-ready office office-fits _ (within-at (f .before)) (S .args .kind) (S .pre .0) _ _ (omega arith) (S .pre .1) (S .pre .2))
 
 returns : tie.Need-returns
 returns c =
@@ -55,7 +55,7 @@ write-shaped-spec =
     (tie.spec
     (λ c κs. search needs)
     (λ c. search needs)
-    (λ c κs. within-at c)
+    (λ c κs. (within-at c, start c .pre .0))
     write-values-requires
     (λ c. search needs)
     (λ c. search needs)
