@@ -6,7 +6,7 @@ use mathlib.Core.List.{List}
 use Prim.Native.Nat.{ℕ, _*_, _%_, _≤_}
 use native.Mathlib.Omega.{arith}
 use lib.ListN.{length}
-use borrow.Author.Tests.{eq-eqb, eqb-true, le-ltb, ltb-false, not-false}
+use borrow.Author.Tests.{eq-eqb, eqb-true, le-ltb, not-false}
 use Rattle.words.specs.Limits.{Limits, longestSystem}
 use Rattle.words.specs.Word.{Bytes}
 use Rattle.words.specs.Outcome.{refuse, followedBy}
@@ -15,15 +15,14 @@ use Rattle.words.specs.OutcomeLaws.{refuse-passed}
 use Rattle.words.specs.System.{System, SystemWithin}
 use Rattle.words.specs.Systems.{readSystems, lineOf, readLine}
 use Rattle.words.specs.Bytes.{wordsOf, bytesOf, broken, tooLong, readSystemsFile, readLineFile, wordBytes}
-use Rattle.words.specs.BytesLaws.{length-wordsOf, length-bytesOf, wordsOf-bytesOf, bytesOf-wordsOf, or-left, or-right}
+use Rattle.words.specs.BytesLaws.{length-bytesOf, wordsOf-bytesOf, bytesOf-wordsOf, or-left}
 use Rattle.words.specs.LimitsLaws.{LimitsFit}
 use Rattle.words.specs.SystemsLaws.{systemsWords-most}
 use Rattle.words.specs.Line.{LineIn, LineRefused}
 use Rattle.words.specs.Line.LineRefused.{by-words, no-side}
 use Rattle.words.specs.LineLaws.{line-in-within, line-read-of-written, line-written-of-read, line-refused-iff}
 use Rattle.words.specs.TenFirst.{LineFileRefused}
-use Rattle.words.specs.TenFirst.TenFirst.{ten, others}
-use Rattle.words.specs.RefusedLaws.{ten-first-iff}
+use Rattle.words.specs.RefusedLaws.{ten-first-iff, ten-place}
 use Rattle.words.specs.Rows.{RefusesBy, lineFileRows}
 use Rattle.words.specs.RowLaws.{by-row}
 use Rattle.words.specs.SourceLaws.{line-rows}
@@ -82,24 +81,15 @@ module _ (limits : Limits) (k : ℕ) where
         ten-first-iff (broken file || tooLong limits file) (readLine limits k (wordsOf file)) _
         (line-refused-iff limits fit k (wordsOf file))
 
-    -- so a place in a file that passes 10 is at most the number of words of the longest sheet
+    -- so its place is at most the number of words of the longest sheet
     pub line-file-place : (file : List ℕ) {number place : ℕ} → readLineFile limits k file ≡ refused number place
         → place ≤ longestSystem limits
-    line-file-place file {number} {place} e = by (line-file-refused-iff file number place .0 e)
+    line-file-place file {number} {place} e =
+        ten-place limits file (LineRefused limits k (wordsOf file)) inside (line-file-refused-iff file number place .0 e)
       where
-        short : (broken file || tooLong limits file) ≡ false → length (wordsOf file) ≤ longestSystem limits
-        short b =
-            let few = ltb-false (wordBytes * longestSystem limits) (length file) (or-right (broken file) (tooLong limits file) b) in
-            omega (arith, length-wordsOf file, few)
-
-        of-words : LineRefused limits k (wordsOf file) number place → length (wordsOf file) ≤ longestSystem limits
-            → place ≤ longestSystem limits
-        of-words (by-words h) few = omega (arith, h .within, few)
-        of-words (no-side s w within less n p) few = omega (arith, p)
-
-        by : LineFileRefused limits k file number place → place ≤ longestSystem limits
-        by (ten b n p) = omega arith
-        by (others b h) = of-words h (short b)
+        inside : LineRefused limits k (wordsOf file) number place → place ≤ length (wordsOf file)
+        inside (by-words h) = h .within
+        inside (no-side s w within less n p) = omega (arith, p)
 
   -- 10 at 0, else a row of the line's words
   pub line-file-rows : (file : List ℕ) → RefusesBy (lineFileRows (wordsOf file)) (readLineFile limits k file)

@@ -265,12 +265,15 @@ pub file-rows : (limits : Limits) (file : List ℕ) → RefusesBy (fileRows (wor
 unfolding readSystemsFile
 file-rows limits file = by-row (broken file || tooLong limits file) 10 (systems-rows limits (wordsOf file))
 
--- so a place in a file that passes 10 is at most the number of words of the longest system
+-- so a place in a file that passes 10 is at most the number of words of the longest sheet, where its words have no place behind
+-- their end
+pub ten-place : (limits : Limits) (file : List ℕ) (Others : (number place : ℕ) → Type 0) {n k : ℕ}
+    → (Others n k → k ≤ length (wordsOf file)) → TenFirst (broken file || tooLong limits file) Others n k → k ≤ longestSystem limits
+ten-place limits file Others {n} {k} inside (ten b en ek) = omega arith
+ten-place limits file Others {n} {k} inside (others b h) =
+    let short = ltb-false (wordBytes * longestSystem limits) (length file) (or-right (broken file) (tooLong limits file) b) in
+    omega (arith, inside h, length-wordsOf file, short)
+
 pub file-place : (limits : Limits) (file : List ℕ) {n k : ℕ} → readSystemsFile limits file ≡ refused n k → k ≤ longestSystem limits
-file-place limits file {n} {k} e = by (file-refused-iff limits file n k .0 e)
-  where
-    by : FileRefused limits file n k → k ≤ longestSystem limits
-    by (ten b en ek) = omega arith
-    by (others b h) =
-        let short = ltb-false (wordBytes * longestSystem limits) (length file) (or-right (broken file) (tooLong limits file) b) in
-        omega (arith, h .within, length-wordsOf file, short)
+file-place limits file {n} {k} e =
+    ten-place limits file (ByTable (systemTable limits) 0 (wordsOf file)) (λ h. h .within) (file-refused-iff limits file n k .0 e)
