@@ -28,10 +28,10 @@
 extern "C" {
 #endif
 
-#define YEZSDOLAK_VERSION "0.10.0"
+#define YEZSDOLAK_VERSION "0.11.0"
 
 enum {
-    YEZSDOLAK_VERSION_NUMBER = 1000, // 10000 × major + 100 × minor + patch
+    YEZSDOLAK_VERSION_NUMBER = 1100, // 10000 × major + 100 × minor + patch
 
     YEZSDOLAK_SYSTEM_BYTES = 8712,      // no system's file is longer: to be lent to yezsdolak_write_system
     YEZSDOLAK_CERTIFICATE_BYTES = 8792, // no certificate's file is longer: to be lent to yezsdolak_solve
@@ -82,8 +82,17 @@ uint64_t yezsdolak_check(const uint8_t *system, size_t system_bytes, uint64_t si
                          size_t certificate_bytes);
 
 // Writes the report of the system's file on its first right side, lines of text without a zero at the end, over the first of the lent
-// bytes; those behind keep their values. The count is that of these bytes. A refused system has a report too, which says so: this call
-// refuses nothing. Where fewer than YEZSDOLAK_REPORT_BYTES are lent, nothing is written and the count is 0.
+// bytes; those behind keep their values. The count is that of these bytes. The lines are
+//
+//     answer solution
+//     denominator 0 1
+//     feedback 0 delay 1
+//
+// for d = x: the coefficients of the least denominator d, lowest power first; the degree of d after its factors x are taken out, and
+// the number of these factors. No solution has less of either. Of another right side they follow from its d, which yezsdolak_lookup
+// gives as polynomial 0 of its certificate: the degree less the number of zeros in front, and that number. Where there is no solution
+// the only line is `answer none`. A refused system has a report too, the line `refused N at P`: this call refuses nothing. Each line
+// ends with a line feed. Where fewer than YEZSDOLAK_REPORT_BYTES are lent, nothing is written and the count is 0.
 uint64_t yezsdolak_report(const uint8_t *system, size_t system_bytes, uint8_t *text, size_t lent_bytes);
 
 // ---- systems from values, certificates as values

@@ -40,7 +40,10 @@ static void print_solution(const struct certificate *c)
     printf("answer solution; denominator");
     for (uint32_t i = 0; i < c->d.size; i++)
         printf(" %u", c->d.coefficient[i]);
-    printf("; feedback %u;", c->d.size - 1);
+    uint32_t delay = 0; // factors x
+    while (delay + 1 < c->d.size && c->d.coefficient[delay] == 0)
+        delay++;
+    printf("; feedback %u delay %u;", c->d.size - 1 - delay, delay);
 }
 
 static void print_words(const uint8_t *bytes, uint64_t words)

@@ -12,12 +12,14 @@ enum part { SYSTEMS = 1, DAMAGED };
 
 enum { NUMBERS = 64, NO_SUCH_SIDE = 40 };
 enum { LONGEST_EVERY = 500 }; // one of so many cases has the longest system
-enum { ENOUGH = 10000 };      // in so many damaged cases each number must come that may come
+enum { ENOUGH = 10000 };      // in so many damaged cases each number must come that may come, in so many systems each kind of report
+enum { RARE = 50 };           // one of so many reports at least
 
 struct tally {
     uint64_t several, longest;               // systems with several right sides, with as many words as any has
     uint64_t solutions, fractions, none;     // right sides; fractions: whose least denominator is not 1
     uint32_t degree;                         // the greatest of a least denominator
+    uint64_t feedback, delay, both;          // reports: with feedback alone, with delay alone, with both
     uint64_t solve[NUMBERS], check[NUMBERS]; // by number of the refusal
     uint64_t before[NUMBERS];                // for right sides that no system has: by the number that came before 40
     uint64_t hidden[NUMBERS];                // of 40: by the number that would have come without it, 0 for none
@@ -46,6 +48,15 @@ static void count_answer(struct tally *t, const struct answer *a)
     t->fractions += a->d.size > 1;
     if (t->degree < a->d.size - 1)
         t->degree = a->d.size - 1;
+}
+
+static void count_report(struct tally *t, const struct answer *a)
+{
+    if (a->kind == ABSENCE)
+        return;
+    t->feedback += a->feedback > 0 && a->delay == 0;
+    t->delay += a->feedback == 0 && a->delay > 0;
+    t->both += a->feedback > 0 && a->delay > 0;
 }
 
 // the drawn system with its columns in another order
@@ -87,6 +98,7 @@ static void try_system(struct draws *g, struct tally *t)
         try_side(g, t, &a);
     }
     compare_report(g, &a, REPORT_ROOM + (chance(g, 50) ? 0 : below(g, 300)));
+    count_report(t, &a);
     t->several += drawn.sides > 1;
     t->longest += given.count == 4 * LONGEST_SYSTEM;
     if (drawn.m > 1)
@@ -224,12 +236,17 @@ static void try_systems(uint64_t count, uint64_t seed)
         try_system(&g, &t);
     }
     printf("systems: %lu agree, of these with several right sides %lu, of %u words %lu; right sides: solution %lu, of these with a "
-           "denominator %lu, of degree up to %u; none %lu\n",
+           "denominator %lu, of degree up to %u; none %lu; reports: feedback alone %lu, delay alone %lu, both %lu\n",
            (unsigned long)count, (unsigned long)t.several, LONGEST_SYSTEM, (unsigned long)t.longest, (unsigned long)t.solutions,
-           (unsigned long)t.fractions, t.degree, (unsigned long)t.none);
+           (unsigned long)t.fractions, t.degree, (unsigned long)t.none, (unsigned long)t.feedback, (unsigned long)t.delay,
+           (unsigned long)t.both);
     fflush(stdout);
     if (t.longest < count / LONGEST_EVERY) {
         fprintf(stderr, "systems: too few have %u words\n", LONGEST_SYSTEM);
+        exit(1);
+    }
+    if (count >= ENOUGH && (t.feedback < count / RARE || t.delay < count / RARE || t.both < count / RARE)) {
+        fputs("systems: too few reports have feedback, delay or both\n", stderr);
         exit(1);
     }
 }

@@ -1,4 +1,4 @@
-// The reference against the stored sets that tests/reference/split writes to a folder: selftest FOLDER.
+// The reference against reports by hand and the stored sets that tests/reference/split writes to a folder: selftest FOLDER.
 #include <stdio.h>
 #include <stdlib.h>
 #include <string.h>
@@ -182,13 +182,53 @@ static uint32_t try_set(const char *folder, const char *name, void try(struct se
     return set.cases;
 }
 
+// the report on A = (f), b = 1, where f is monic, or zero
+static const struct {
+    uint32_t p, size, f[SYSTEM_SIZE];
+    const char *text;
+} by_hand[] = {
+    {2,     0, {0},                 "answer none\n"                                                   },
+    {2,     1, {1},                 "answer solution\ndenominator 1\nfeedback 0 delay 0\n"            },
+    {2,     2, {0, 1},              "answer solution\ndenominator 0 1\nfeedback 0 delay 1\n"          },
+    {2,     2, {1, 1},              "answer solution\ndenominator 1 1\nfeedback 1 delay 0\n"          },
+    {2,     4, {0, 0, 1, 1},        "answer solution\ndenominator 0 0 1 1\nfeedback 1 delay 2\n"      },
+    {3,     5, {0, 2, 0, 0, 1},     "answer solution\ndenominator 0 2 0 0 1\nfeedback 3 delay 1\n"    },
+    {257,   5, {256, 0, 0, 0, 1},   "answer solution\ndenominator 256 0 0 0 1\nfeedback 4 delay 0\n"  },
+    {65521, 5, {0, 0, 0, 65520, 1}, "answer solution\ndenominator 0 0 0 65520 1\nfeedback 1 delay 3\n"}
+};
+
+enum { BY_HAND = sizeof by_hand / sizeof by_hand[0] };
+
+static void try_by_hand(void)
+{
+    static struct system s;
+    static struct file system;
+    static struct answer a;
+    for (uint32_t i = 0; i < BY_HAND; i++) {
+        char text[REPORT_ROOM];
+        s.p = by_hand[i].p, s.n = s.m = s.sides = 1;
+        resize(&s.a[0][0], by_hand[i].size);
+        for (uint32_t k = 0; k < by_hand[i].size; k++)
+            s.a[0][0].coefficient[k] = by_hand[i].f[k];
+        set_constant(&s.b[0][0], 1);
+        write_system(&system, &s);
+        answer_to(&a, &system, 0);
+        if (report_text(text, &a) != strlen(by_hand[i].text) || strcmp(text, by_hand[i].text) != 0) {
+            fprintf(stderr, "self-test: report by hand %u: %s", i, text);
+            exit(1);
+        }
+    }
+}
+
 int main(int count, char **argument)
 {
     const char *folder = count == 2 ? argument[1] : "target/differential/stored";
+    try_by_hand();
     uint32_t solutions = try_set(folder, "solutions", try_solution);
     uint32_t sides = try_set(folder, "sides", try_side);
     uint32_t systems = try_set(folder, "systems", try_system);
     uint32_t verdicts = try_set(folder, "verdicts", try_verdict);
-    printf("self-test: %u solutions, %u right sides, %u systems, %u verdicts as stored\n", solutions, sides, systems, verdicts);
+    printf("self-test: %u reports as by hand; %u solutions, %u right sides, %u systems, %u verdicts as stored\n", BY_HAND, solutions,
+           sides, systems, verdicts);
     return 0;
 }

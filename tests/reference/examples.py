@@ -44,6 +44,37 @@ SHARED_WORDS = [
 # The cases whose certificate is not the one that the solver chooses.
 NOT_CHOSEN = [9, 10]
 
+# The reports on cases 1 to 8, whole.
+REPORTS = [
+    ["answer solution", "denominator 0 1", "feedback 0 delay 1"],
+    ["answer solution", "denominator 1", "feedback 0 delay 0"],
+    ["answer none"],
+    ["answer solution", "denominator 1", "feedback 0 delay 0"],
+    ["answer none"],
+    ["answer solution", "denominator 1", "feedback 0 delay 0"],
+    ["answer solution", "denominator 0 1", "feedback 0 delay 1"],
+    ["answer solution", "denominator 0 0 1", "feedback 0 delay 2"],
+]
+
+# Least denominators, each after its prime, and the third line of the report on them: document 02, item 2, by hand.
+THIRD_LINES = [
+    (2, [1], "feedback 0 delay 0"),
+    (2, [1, 1], "feedback 1 delay 0"),
+    (2, [0, 1, 1], "feedback 1 delay 1"),  # x·(x + 1)
+    (2, [0, 0, 1, 1], "feedback 1 delay 2"),  # x²·(x + 1)
+    (2, [0, 1, 0, 1], "feedback 2 delay 1"),  # x·(x² + 1)
+    (3, [2, 0, 0, 1], "feedback 3 delay 0"),  # x³ - 1: its zeros are no factors x
+    (3, [0, 0, 2, 0, 0, 1], "feedback 3 delay 2"),
+    (257, [256, 1], "feedback 1 delay 0"),  # x - 1
+    (65521, [0, 65000, 10, 65520, 1], "feedback 3 delay 1"),
+    (65521, [0] * 15 + [1], "feedback 0 delay 15"),
+    (2, [0] * 120 + [1], "feedback 0 delay 120"),
+    (2, [1] * 121, "feedback 120 delay 0"),
+    (257, [0] * 119 + [256, 1], "feedback 1 delay 119"),
+    (257, [0, 256] + [0] * 118 + [1], "feedback 119 delay 1"),
+    (65521, [0] * 60 + [1] * 61, "feedback 60 delay 60"),
+]
+
 # The table's examples on certificates: system, certificate, and what the check says.
 TABLE_VERDICTS = [
     (SYSTEM_1, Solution([], [[1]], [0, 1], [[1]]), "refused 31 at 0"),

@@ -16,7 +16,8 @@ from minors import least_denominator
 from reading import read_certificate, read_system
 from report import report_on
 from samples import (
-    STRUCTURES, chain, common_factor, generic, longest, low_rank, of_rank, outside, powers_of_x, prime, shapes, sharing,
+    STRUCTURES, chain, common_factor, concealed, delayed_chain, generic, longest, low_rank, of_rank, outside, powers_of_x, prime, shapes,
+    sharing,
 )
 from says import says_solved
 from searched import with_denominator
@@ -28,7 +29,14 @@ def add(cases, system):
     """A case on a system, or on systems that share a matrix."""
     words = write_system(system)
     certificate, certificate_words = confirmed(words, 0)
-    cases.add([words], "; ".join(report_on(certificate) + [form.hexadecimal(certificate_words)]))
+    cases.add([words], "; ".join(report_on(certificate, system.p) + [form.hexadecimal(certificate_words)]))
+
+
+def add_delayed(cases, system, feedback, delay):
+    """A case on a system that was made to have this feedback and this delay."""
+    add(cases, system)
+    if cases.lines[-1].split("; ")[2] != f"feedback {feedback} delay {delay}":
+        raise SystemExit(f"not feedback {feedback} and delay {delay}: {system}")
 
 
 def confirmed(words, side):
@@ -142,6 +150,20 @@ def several_sides(cases, draws):
         add_bytes(cases, bytes(count))
 
 
+def delays(cases, draws):
+    """Feedback, delay and both: of one row and column, of degree 120, and where rows and columns are mixed and added."""
+    for p in (2, 3, 257, 65521):
+        for feedback, delay in ((1, 1), (1, 2), (2, 1), (5, 3), (1, 14), (14, 1), (15, 0), (0, 15)):
+            add_delayed(cases, delayed_chain(draws, p, 1, feedback, delay), feedback, delay)
+        for feedback, delay in ((1, 119), (119, 1), (60, 60), (120, 0), (0, 120)):
+            add_delayed(cases, delayed_chain(draws, p, 8, feedback, delay), feedback, delay)
+        for n, m, r in ((1, 2, 1), (2, 1, 1), (2, 2, 2), (3, 2, 2), (2, 4, 2), (4, 4, 3), (3, 8, 3), (8, 3, 3), (5, 6, 4)):
+            feedback, delay = draws.between(1, 4 * r), draws.between(1, 4 * r)
+            add_delayed(cases, concealed(draws, delayed_chain(draws, p, r, feedback, delay), n, m), feedback, delay)
+    for p, feedback, delay in ((2, 119, 1), (257, 60, 60), (65521, 1, 119)):
+        add_delayed(cases, concealed(draws, delayed_chain(draws, p, 8, feedback, delay), 8, 8), feedback, delay)
+
+
 def make():
     """Make the set."""
     cases, draws = CaseSet("solutions", REPORT, 500), Draws(0x0F)
@@ -155,4 +177,5 @@ def make():
     every_rank(cases, Draws(0x10))
     long_and_low(cases, Draws(0x11))
     several_sides(cases, Draws(0x0F01))
+    delays(cases, Draws(0x0F02))
     return cases

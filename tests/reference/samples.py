@@ -1,7 +1,7 @@
 """Random polynomials and systems with a chosen structure, all within document 01's bounds."""
 
 import polynomial as poly
-from matrix import nonsingular_part
+from matrix import nonsingular_part, transposed
 from residue import is_prime
 from words import System, Systems
 
@@ -149,10 +149,44 @@ def constants(draws, p, n, m, size):
 
 
 def chain(p, n, degree):
-    """Diagonal x to the degree, ones beside it, the last unit vector on the right: d is x to the n times degree."""
-    power = poly.shift(poly.ONE, degree)
-    matrix = [[power if j == i else poly.ONE if j == i + 1 else poly.ZERO for j in range(n)] for i in range(n)]
+    """Diagonal x to the degree: d is x to the n times degree."""
+    return chain_of(p, [poly.shift(poly.ONE, degree)] * n)
+
+
+def chain_of(p, diagonal):
+    """This diagonal, ones beside it, the last unit vector on the right: d is the product of the diagonal, made monic."""
+    n = len(diagonal)
+    matrix = [[diagonal[i] if j == i else poly.ONE if j == i + 1 else poly.ZERO for j in range(n)] for i in range(n)]
     return System(p, matrix, [poly.ZERO] * (n - 1) + [poly.ONE])
+
+
+def delayed_chain(draws, p, n, feedback, delay):
+    """A chain whose d has so many factors x as the delay says and without them the degree that the feedback says; its diagonal has n
+    polynomials of degrees as equal as can be."""
+    is_x = [True] * delay + [False] * feedback
+    parts = [is_x[i::n] for i in range(n)]
+    return chain_of(p, [poly.shift(not_divisible(draws, p, part.count(False)), part.count(True)) for part in parts])
+
+
+def not_divisible(draws, p, degree):
+    """A polynomial of this degree that has no factor x."""
+    return [draws.between(1, p - 1)] + exact(draws, p, degree)
+
+
+def concealed(draws, system, n, m):
+    """The system, square and nonsingular, in n rows and m columns, not fewer than it has, with the same least denominator. Its rows and
+    columns are mixed; rows that are added are combinations by constants, columns that are added by polynomials."""
+    p, size = system.p, max(len(f) for row in system.matrix for f in row)
+    down = mixing_rows(draws, p, n, system.rows(), 1)
+    across = transposed(mixing_rows(draws, p, m, system.columns(), LIMIT + 2 - size))
+    return System(p, product(down, product(system.matrix, across, p), p), image(down, system.right, p))
+
+
+def mixing_rows(draws, p, count, r, size):
+    """So many rows of r entries, in any order: of r rows a triangle of constants with ones as its diagonal, and others of this size."""
+    triangle = [vector(draws, p, i, 1) + [poly.ONE] + [poly.ZERO] * (r - 1 - i) for i in range(r)]
+    rows = triangle + grid(draws, p, count - r, r, size)
+    return [rows.pop(draws.below(len(rows))) for _ in range(count)]
 
 
 def another_right(draws, system):

@@ -1,4 +1,4 @@
-"""Every example of document 01 against this implementation, and the laws that its arithmetic must keep.
+"""Every example of document 01 against this implementation, and the laws that its arithmetic and its answers must keep.
 
 Prints how many held; stops at the first that does not.
 """
@@ -10,17 +10,18 @@ import polynomial as poly
 import residue
 import words as form
 from check import check_values, check_words
-from chosen import chosen, solve_words
-from conditions import is_chosen
+from chosen import chosen, shortest_relation, solve_words
+from conditions import is_chosen, solves
 from draws import Draws
 from lookup import IN_SYSTEM
+from matrix import nonsingular_part
 from minors import least_denominator
 from reading import read_both, read_system
-from report import report
-from samples import STRUCTURES, exact, prime, sharing, up_to, vector
+from report import feedback_and_delay, report, report_on
+from samples import STRUCTURES, concealed, delayed_chain, exact, prime, sharing, up_to, vector
 from says import answer, says_certificate, says_check, says_lookup, says_system, says_written
 from solve import solve
-from trials import certificates, polynomials
+from trials import certificates, polynomials, solutions
 from words import Absence, Solution, System, Systems, bytes_of_words
 from writing import pairs, write_certificate, write_certificate_values, write_system, write_system_values
 
@@ -121,10 +122,30 @@ def writers():
     expect(says_written(write_certificate_values, form.ABSENCE, 2, 1, 1, [(1, [1])], 2198)[:7], "wrote 4")
 
 
-def whole_report():
-    """The report on case 1, whole."""
-    lines = ["answer solution", "denominator 0 1", "feedback 1"]
-    expect(report(bytes_of_words(examples.SYSTEM_1_WORDS)), lines)
+def reports():
+    """The reports on cases 1 to 8; those on A = (d), b = 1 with d of every kind, and the third line where d is too long for that."""
+    expect(report(bytes_of_words(examples.SYSTEM_1_WORDS)), examples.REPORTS[0])
+    for (_, system, _, _), lines in zip(examples.CASES, examples.REPORTS):
+        expect(report(bytes_of_words(write_system(system))), lines)
+    for p, d, line in examples.THIRD_LINES:
+        denominator = "denominator " + " ".join(map(str, d))
+        expect(report_on(Solution(d, [poly.ONE], d, [poly.ONE]), p), ["answer solution", denominator, line])
+        if len(d) <= form.SYSTEM_LIMIT:
+            expect(report(bytes_of_words(write_system(System(p, [[d]], [poly.ONE])))), ["answer solution", denominator, line])
+
+
+def delays():
+    """Feedback and delay of random polynomials: their sum is the degree, both add up in products, and x to the delay is what a
+    polynomial has in common with a higher power of x."""
+    draws = Draws(0xDE1A)
+    for _ in range(200):
+        p = prime(draws)
+        f, g = (poly.shift(exact(draws, p, draws.between(1, 20)), draws.below(20)) for _ in range(2))
+        feedback, delay = feedback_and_delay(f, p)
+        expect(feedback + delay, poly.degree(f))
+        expect(poly.gcd(f, poly.shift(poly.ONE, len(f)), p), poly.shift(poly.ONE, delay))
+        more, later = feedback_and_delay(g, p)
+        expect(feedback_and_delay(poly.multiply(f, g, p), p), (feedback + more, delay + later))
 
 
 def primes():
@@ -243,11 +264,62 @@ def uniqueness():
         expect(certificates(system, room), [chosen(system)])
 
 
+def delayed(draws):
+    """A system, mostly with more columns than its rank, that is made to have a drawn feedback and a drawn delay; and these two."""
+    p, r = prime(draws), draws.between(1, 3)
+    feedback, delay = draws.between(0, 3 * r), draws.between(0, 3 * r)
+    system = concealed(draws, delayed_chain(draws, p, r, feedback, delay), draws.between(r, 4), draws.between(r, 5))
+    return system, feedback, delay
+
+
+def other_solutions(draws, system, certificate):
+    """Rational solutions M/e, as pairs of e and M: N/d plus fractions of vectors v with A·v = 0, and those without one of the columns."""
+    p, m = system.p, system.columns()
+    independent = nonsingular_part(system.matrix, p)[1]
+    kernel = [shortest_relation(system, j) for j in range(m) if j not in independent]
+    for _ in range(4):
+        h = poly.shift(exact(draws, p, draws.between(1, 3)), draws.below(3))
+        M = [poly.multiply(h, f, p) for f in certificate.N]
+        for v in kernel:
+            g = up_to(draws, p, 4)
+            M = [poly.add(f, poly.multiply(g, a, p), p) for f, a in zip(M, v)]
+        yield poly.multiply(h, certificate.d, p), M
+    for j in range(m if m > 1 else 0):
+        found = solve(System(p, [row[:j] + row[j + 1:] for row in system.matrix], system.right))
+        if isinstance(found, Solution):
+            yield found.d, found.N[:j] + [poly.ZERO] + found.N[j:]
+
+
+def has_less(e, M, feedback, delay, p):
+    """Whether the denominator of M/e has less feedback than this, or less delay."""
+    denominator = poly.exact_quotient(e, poly.common_divisor([e] + M, p), p)
+    found = feedback_and_delay(denominator, p)
+    return found[0] < feedback or found[1] < delay
+
+
+def least_of_both():
+    """No rational solution has less feedback or less delay than d: others of random systems that are made to have both, and all of small
+    systems that can be written down."""
+    draws = Draws(0xDE1B)
+    for _ in range(120):
+        system, feedback, delay = delayed(draws)
+        certificate = solve(system)
+        expect(feedback_and_delay(certificate.d, system.p), (feedback, delay))
+        for e, M in other_solutions(draws, system, certificate):
+            expect(solves(system, e, M), True)
+            expect(has_less(e, M, feedback, delay, system.p), False)
+    for system, room in small_systems(Draws(0xC406)):
+        certificate = solve(system)
+        if isinstance(certificate, Solution):
+            feedback, delay = feedback_and_delay(certificate.d, system.p)
+            expect([(e, M) for e, M in solutions(system, room) if has_less(e, M, feedback, delay, system.p)], [])
+
+
 def main():
     """Run all tests."""
     for test in (
-        cases, printed_words, shared_words, bounds, table, writers, whole_report, primes, arithmetic, solver, sides, conditions,
-        uniqueness,
+        cases, printed_words, shared_words, bounds, table, writers, reports, primes, arithmetic, delays, solver, sides, conditions,
+        uniqueness, least_of_both,
     ):
         test()
     print(f"{held} examples and laws hold")

@@ -43,11 +43,17 @@ def certificates(system, size):
     pivots, both = least_lengths(system.matrix, size, p), least_lengths(extended(system), size, p)
     if len(both) > len(pivots):
         return [Absence(q) for q in vectors(p, system.rows(), size) if is_row(system, q, pivots, both)]
-    solutions = [(d, N) for d in polynomials(p, size) for N in vectors(p, system.columns(), size) if solves(system, d, N)]
-    degree = min(len(d) for d, _ in solutions)
-    solutions = [(d, N) for d, N in solutions if len(d) == degree and is_reduced(system, N, size)]
+    found = solutions(system, size)
+    degree = min(len(d) for d, _ in found)
+    found = [(d, N) for d, N in found if len(d) == degree and is_reduced(system, N, size)]
     fractions = [(w, Z) for w in polynomials(p, size) for Z in vectors(p, system.rows(), size) if poly.is_monic(w)]
-    return [Solution(d, N, w, Z) for d, N in solutions for w, Z in fractions if certifies(system, d, w, Z, both)]
+    return [Solution(d, N, w, Z) for d, N in found for w, Z in fractions if certifies(system, d, w, Z, both)]
+
+
+def solutions(system, size):
+    """All rational solutions M/e, as pairs of e, which is monic, and M, whose polynomials have at most so many coefficients."""
+    columns = vectors(system.p, system.columns(), size)
+    return [(e, M) for e in polynomials(system.p, size) for M in columns if solves(system, e, M)]
 
 
 def solves(system, d, N):

@@ -5,6 +5,7 @@ mod lexer;
 mod modular;
 mod polynomial;
 mod reading;
+mod receiver;
 mod refusal;
 mod refusals;
 mod show;
@@ -30,7 +31,7 @@ const HELP: &str = "\
 NAME write TEXT SHEET                   write the system in the file TEXT to the file SHEET
 NAME write TEXT > SHEET                 the same
 NAME show [--signed] SHEET              show a system as text that `write` reads
-NAME show [--signed] SHEET CARD [SIDE]  show a certificate for that system, and what is wrong with it
+NAME show [--signed] SHEET CARD [SIDE]  show a certificate, and its feedback and delay or what is wrong with it
 NAME explain NUMBER                     say what a refusal means and what to do
 NAME --help                             show this
 
@@ -282,7 +283,7 @@ fn side_of(system: &System, sheet: &OsStr, digits: &str) -> Result<usize, String
 }
 
 /// Number 10, of either file, comes before what is wrong with their words, and 40 behind what is wrong with the system's. A certificate
-/// that reads is shown, right or not.
+/// that reads is shown, right or not; of its receiver nothing is said unless it is right, since a wrong d says nothing of the link.
 fn show_certificate(sheet: &OsStr, card: &OsStr, digits: &str, signed: bool) -> Result<Answer, String> {
     let written = sheet_bytes(sheet)?;
     reading::file(Subject::System, written.len()).map_err(|refusal| refusal.report(&shown(sheet)))?;
@@ -293,7 +294,7 @@ fn show_certificate(sheet: &OsStr, card: &OsStr, digits: &str, signed: bool) -> 
     let notation = Notation { modulus: system.modulus, signed };
     let text = notation.certificate(&certificate, (system.sides.len() > 1).then_some(side));
     Ok(match check::first_fault(&certificate, &system, side, notation) {
-        None => Answer { output: (text + ACCEPTED).into(), ..Answer::default() },
+        None => Answer { output: (text + &receiver::line(&certificate) + ACCEPTED).into(), ..Answer::default() },
         Some(mut fault) => {
             fault.lines.push(UNPROVED.to_string());
             Answer { output: text.into(), error: refusal::report(fault.number, fault.place, &shown(card), &fault.lines) }

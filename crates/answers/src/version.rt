@@ -4,7 +4,7 @@ ghost use Rattle.answers.specs.Version.{version};
 
 const MAJOR: u64 = 0;
 
-const MINOR: u64 = 10;
+const MINOR: u64 = 11;
 
 const PATCH: u64 = 0;
 

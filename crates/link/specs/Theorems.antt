@@ -1,18 +1,22 @@
--- The customer's three demands, each sentence as a field, each proved from the laws below it; and behind them what document 02,
--- item 1, asks of lines that share a matrix. "Sheet" is a system here, or several with one matrix, "card" a certificate. What a
--- call gives is what its contract says: `Solves` and `verdict` for the solver and the check on words, `SolvesPacked` for the number
--- and the bytes of `yezsdolak_solve`, `checkGives` for the number of `yezsdolak_check`, `GivesPacked` and `packed` for
--- `yezsdolak_write_system`, `_lookup`, `_shape` and `_kind`, `Writes` for the writers, `LoadsSystem` and `LoadsCertificate` for the
--- calls that hand out values, `polynomialLookup` for the lookup, `Opened` for the words of a file. Each of these has a contract
--- without `requires`, so it is proved for all that is lent that the call reads and writes nothing beside it and returns.
+-- The customer's three demands, each sentence as a field, each proved from the laws below it; and behind them what document 02
+-- asks: item 1 of lines that share a matrix, item 2 of delay and feedback. "Sheet" is a system here, or several with one matrix,
+-- "card" a certificate. What a call gives is what its contract says: `Solves` and `verdict` for the solver and the check on
+-- words, `SolvesPacked` for the number and the bytes of `yezsdolak_solve`, `checkGives` for the number of `yezsdolak_check`,
+-- `ReportsPacked` for the number and the bytes of `yezsdolak_report`, `GivesPacked` and `packed` for `yezsdolak_write_system`,
+-- `_lookup`, `_shape` and `_kind`, `Writes` for the writers, `LoadsSystem` and `LoadsCertificate` for the calls that hand out
+-- values, `polynomialLookup` for the lookup, `Opened` for the words of a file. Each of these has a contract without `requires`,
+-- so it is proved for all that is lent that the call reads and writes nothing beside it and returns.
 use Prim.Native.Nat.{ℕ, _+_, _*_, _/_, _%_, _≤_, _<_}
 use mathlib.Core.Path.{_≡_, refl, ap, subst}
 use mathlib.Core.Logic.{_↔_}
 use mathlib.Core.Bool.{Bool, true, false, _||_}
-use mathlib.Core.List.{List}
+use mathlib.Core.List.{List, []}
 use native.Mathlib.Omega.{arith}
 use lib.ListN.{length, take}
 use borrow.Author.Tests.{le-ltb}
+use Rattle.modular.specs.Prime.{Prime}
+use Rattle.modular.specs.Canonical.{Canonical}
+use Rattle.modular.specs.Delay.{delay, undelayed, feedback}
 use Rattle.words.specs.Limits.{office, systemCount, solutionCount, longestSystem, longestCertificate}
 use Rattle.words.specs.LimitsLaws.{office-fits}
 use Rattle.words.specs.Word.{Bytes}
@@ -22,7 +26,7 @@ use Rattle.words.specs.System.{System, Shape, shape, ShapeWithin, SystemWithin}
 use Rattle.words.specs.Systems.{Systems, Head, SystemsWithin, systemsWords, line, single, readSystems, readLine}
 use Rattle.words.specs.SystemsLaws.{systems-accepted-iff, systemsWords-injective}
 use Rattle.words.specs.Line.{LineIn, LineRefused}
-use Rattle.words.specs.LineLaws.{line-within, line-read-of-written, line-refused-iff}
+use Rattle.words.specs.LineLaws.{line-within, line-in-within, line-read-of-written, line-refused-iff}
 use Rattle.words.specs.LineFileLaws.{line-file-refused-iff}
 use Rattle.words.specs.Before.{ZeroBits, readBefore, longestBefore, readBeforeFile}
 use Rattle.words.specs.BeforeLaws.{before-read, before-line, before-accepted, before-file, before-line-file}
@@ -36,18 +40,22 @@ use Rattle.words.specs.PolynomialsRefused.{polynomial-refused-iff, polynomials-
 use Rattle.words.specs.TenFirst.{FileRefused, LineFileRefused}
 use Rattle.words.specs.Pair.{PairRefused, whole, oneLine}
 use Rattle.words.specs.RefusedLaws.{systems-refused-iff, certificate-refused-iff, file-refused-iff}
+use Rattle.truth.specs.Solution.{RationalSolution, Answers}
+use Rattle.truth.specs.Solution.Answer.{least}
 use Rattle.truth.specs.Verdict.{certificateVerdict, verdict}
-use Rattle.truth.specs.Accepted.{AcceptedWords}
+use Rattle.truth.specs.Accepted.{AcceptedWords, proper}
 use Rattle.truth.specs.CertifiedWords.{CertifiedWords, accepted-iff-certified}
 use Rattle.truth.specs.TurnedBack.{Fault}
 use Rattle.truth.specs.RefusedWords.{words-refused-iff}
 use Rattle.truth.specs.DemandLaws.{Says, Agree, accepted-says, verdicts-agree}
+use Rattle.truth.specs.Feedback.{TakenOut, SolutionWith, LeastOfEither, SaysLeast}
+use Rattle.truth.specs.FeedbackLaws.{taken-out, taken-out-only, solution-with, solution-one, answer-least, says-least, least-one}
 use Rattle.truth.specs.Chosen.{Chosen}
 use Rattle.files.specs.Opening.{Opened}
 use Rattle.files.specs.OpeningLaws.{opened-unchanged}
 use Rattle.files.specs.OpeningBoth.{filesBroken}
 use Rattle.verifier.specs.File.{fileVerdict}
-use Rattle.verifier.specs.Checked.{CertifiedFiles}
+use Rattle.verifier.specs.Checked.{CertifiedFiles, system-of-file, files-true}
 use Rattle.verifier.specs.FilesRefused.{FilesRefused}
 use Rattle.lookup.specs.Lookup.{Of, polynomialLookup}
 use Rattle.lookup.specs.RefusedLaws.{NoPolynomial, lookup-refused-iff}
@@ -70,18 +78,25 @@ use Rattle.values.specs.HeldLaws.{InArrays, system-held, certificate-held}
 use Rattle.values.specs.RoundTrip.{SystemRoom, CertificateRoom, WritesSystem, WritesCertificate}
 use Rattle.values.specs.RoundTrip.{system-writes-form, certificate-writes-form}
 use Rattle.values.specs.RoundTrip.{system-reads-back, system-loads-back, certificate-reads-back, certificate-loads-back}
+use Rattle.solve_meaning.specs.Answers.{answerOf}
 use Rattle.solve_meaning.specs.Existence.{officeCertificate, office-suffices, chosenCertificate-chosen, chosenCertificate-same}
 use Rattle.solver.specs.Solving.{Solves, systemToSolve, withRoom, SolvesOr, certificateBytes}
 use Rattle.solver.specs.SolvingLaws.{line-of-written, every-system-solved, refused-unchanged as words-unchanged}
 use Rattle.solver.specs.RefusedLaws.{RoomLast, solve-refused-iff}
 use Rattle.solver.specs.OneCertificate.{GivesWords, Call, SameGiven, solved-certificate}
 use Rattle.solver.specs.SameLine.{SameLine, same-line-given, alone-given}
-use Rattle.link.specs.Packed.{SolvesPacked}
+use Rattle.report_text.specs.Text.{solutionText, reportText}
+use Rattle.report_text.specs.TextLaws.{text-apart}
+use Rattle.report_text.specs.Longest.{reportSpace}
+use Rattle.report.specs.ReportingLaws.{reports-text}
+use Rattle.report.specs.Reporting.{Reports, ReportOf}
+use Rattle.report.specs.LeastReported.{ReportSays, report-of-certificate, file-says}
+use Rattle.link.specs.Packed.{SolvesPacked, ReportsPacked}
 use Rattle.link_values.specs.Files.{fileShape, fileKind, fileLookup, writeSystemsFile}
 use Rattle.link_values.specs.Giving.{GivesPacked}
 use Rattle.link_values.specs.RefusedLaws.{FilesRefusedBy, NothingTried, shape-gives-iff, kind-gives-iff, lookup-gives-iff}
 use Rattle.link_values.specs.RefusedLaws.{write-gives-iff, unchanged-lookup, unchanged-write}
-use Rattle.link.specs.PackedLaws.{solver-refused-iff, packed-same, packed-unique}
+use Rattle.link.specs.PackedLaws.{solver-refused-iff, packed-same, packed-unique, report-unpacked}
 use Rattle.link.specs.Checked.{checkGives, checked-iff, checked-says, checked-refused-iff, checked-agree, checked-same}
 use Rattle.link.specs.Checked.{checked-alone, checked-no-side}
 use Rattle.link.specs.Together.{checkedAfter, lineCertificate, CertificateBytesIn, every-system-checked}
@@ -470,4 +485,75 @@ of-before = record {
       (λ o. followedBy o (λ s. followedBy (readCertificate office (shape s) cs) (certificateVerdict s)))
       (before-line office (omega arith) office-fits ws zeros);
   checked = λ f g few zeros. ap packedVerdict (checked-before f g few zeros);
+}
+
+-- Document 02, item 2: "a factor x of d is a tick of delay; feedback is the degree of d after all such factors are taken out. ..
+-- No rational solution has less of either, and that is to be shown." A solution's are those of its own denominator;
+-- `LeastOfEither` says it also of whatever else but zero clears it, and that one solution has both.
+pub record DelayAndFeedback : Type 0 where
+  -- d = x^k·f, where k is the delay and f is not divisible by x, for no other k and f; `feedback` is the degree of that f
+  pub taken : (p : ℕ) → Prime p → (d : List ℕ) → Canonical p d → ¬ (d ≡ []) → TakenOut p d (delay d) (undelayed d)
+  pub taken-only : (p : ℕ) → Prime p → (d : List ℕ) (k : ℕ) (f : List ℕ) → TakenOut p d k f
+      → (delay d ≡ k) × (undelayed d ≡ f)
+  -- every rational solution has both, and one of each
+  pub every-solution : (s : System) → Prime (s .modulus) → (M : List (List ℕ)) (e : List ℕ) → RationalSolution s M e
+      → (n : ℕ) × (k : ℕ) × SolutionWith s M e n k
+  pub one-each : (s : System) → Prime (s .modulus) → (M : List (List ℕ)) (e : List ℕ) (n k i j : ℕ) → SolutionWith s M e n k
+      → SolutionWith s M e i j
+      → (n ≡ i) × (k ≡ j)
+  -- of the answer to a system, of any size and any degree, none has less; no other numbers are the least
+  pub answer : (s : System) → Prime (s .modulus) → (d : List ℕ) → Answers s (least d) → LeastOfEither s (feedback d) (delay d)
+  pub least-only : (s : System) (n k i j : ℕ) → LeastOfEither s n k → LeastOfEither s i j → (n ≡ i) × (k ≡ j)
+  -- of the bytes that `yezsdolak_report` gives; d, feedback and delay can be read off them
+  pub reported : {file entry exit : List ℕ} {r : ℕ} → ReportsPacked office file entry exit r → reportSpace ≤ length entry
+      → {s : System} → readLineFile office 0 file ≡ accepted s → ReportSays s (take (r / placeUnit) exit)
+  pub read-off : (d f : List ℕ) (n k i j : ℕ) → solutionText d n k ≡ solutionText f i j → (d ≡ f) × (n ≡ i) × (k ≡ j)
+  -- of an accepted certificate, of every right side: its own solution has both
+  pub certified-words : (k : ℕ) (ws cs : List ℕ) → verdict office k ws cs ≡ accepted tt
+      → (a : AcceptedWords office k ws cs) × SaysLeast (a .system) (a .certificate)
+  pub certified : (k : ℕ) (f g : List ℕ) → Bytes f → Bytes g → checkGives k f g ≡ 0 → (a : CertifiedFiles office k f g)
+      × SaysLeast (a .written .system) (a .written .certificate)
+  -- and the report has the kind, the denominator, its feedback and its delay of every accepted certificate for the first right side
+  pub as-certified : (f g : List ℕ) → Bytes f → Bytes g → checkGives 0 f g ≡ 0 → {entry exit : List ℕ} {r : ℕ}
+      → ReportsPacked office f entry exit r → reportSpace ≤ length entry
+      → (a : CertifiedFiles office 0 f g) × (take (r / placeUnit) exit ≡ reportText (accepted (answerOf (a .written .certificate))))
+
+line-prime : (s : System) (k : ℕ) (ws : List ℕ) → LineIn office k s ws → Prime (s .modulus)
+line-prime s k ws h = proper office s (line-in-within office office-fits k ws h) .prime
+
+-- the bytes that the report's call gives, where enough are lent
+given-report : {file entry exit : List ℕ} {r : ℕ} → ReportsPacked office file entry exit r → reportSpace ≤ length entry
+    → ReportOf office file (take (r / placeUnit) exit)
+given-report {file} {entry} {exit} {r} h room = reports-text office file entry exit (r / placeUnit) room (report-unpacked h .1)
+
+pub delay-and-feedback : DelayAndFeedback
+delay-and-feedback = record {
+  taken = taken-out;
+  taken-only = taken-out-only;
+  every-solution = solution-with;
+  one-each = solution-one;
+  answer = answer-least;
+  least-only = least-one;
+  reported = λ {file} {entry} {exit} {r} h room is.
+      file-says office office-fits file is (take (r / placeUnit) exit) (given-report h room);
+  read-off = text-apart;
+  certified-words = λ k ws cs e.
+      let says = accepted-says office office-fits k ws cs e in
+      let a = says .0 in
+      (a, says-least (a .system) (line-prime (a .system) k ws (a .system-words)) (a .certificate) (says .1));
+  certified = λ k f g small-f small-g e.
+      let says = checked-says k f g small-f small-g e in
+      let a = says .0 in
+      let w = a .written in
+      (a, says-least (w .system) (line-prime (w .system) k (a .system-words) (w .system-words)) (w .certificate) (says .1));
+  as-certified = λ f g small-f small-g e {entry} {exit} {r} h room.
+      let a = checked-iff 0 f g small-f small-g .0 e in
+      let w = a .written in
+      let within = line-in-within office office-fits 0 (a .system-words) (w .system-words) in
+      let text = take (r / placeUnit) exit in
+      let reports = subst (λ o. Reports o text) (system-of-file office office-fits 0 f g a) (given-report h room) in (
+        a,
+        report-of-certificate (w .system) (proper office (w .system) within) text reports (w .certificate)
+            (files-true office office-fits 0 f g a),
+      );
 }

@@ -1,4 +1,3 @@
--- interface, what contracts, other crates and documents cite: Printing
--- inside: PrintingLaws
+-- interface, what contracts, other crates and documents cite: Printing, PrintingLaws
 pub mod Printing
 pub mod PrintingLaws

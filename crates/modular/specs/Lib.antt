@@ -1,6 +1,6 @@
 -- interface, what contracts, other crates and documents cite: Bits, Prime, Primality, LargestPrime, Remainder, Modulo, Inverse,
 --   Residue, Canonical, Closed, Coefficientwise, Product, Values, Arithmetic, Numbers, Carried, SizeLaws, DivisionLaws, MonicLaws,
---   GcdLaws, Lists
+--   GcdLaws, Lists, Delay, DelayLaws
 -- inside: Total, Entries, Length, Step, LcmLaws, Examples
 pub mod Bits
 pub mod Prime
@@ -28,4 +28,6 @@ pub mod MonicLaws
 pub mod GcdLaws
 pub mod LcmLaws
 pub mod Lists
+pub mod Delay
+pub mod DelayLaws
 pub mod Examples

@@ -1,11 +1,12 @@
 -- The laws that contracts cite, on lists of numbers that are canonical modulo a prime.
-use mathlib.Core.Path.{_≡_, refl, _∙_, ap}
+use mathlib.Core.Path.{_≡_, refl, sym, _∙_, ap}
 use mathlib.Core.List.{List, []}
-use Prim.Native.Nat.{ℕ, suc, _+_, _-_, _*_, _%_, _<_, _≤_}
+use Prim.Native.Nat.{ℕ, zero, suc, _+_, _-_, _*_, _%_, _<_, _≤_}
+use native.Mathlib.Nat.{zero-add, suc-add}
 use native.Mathlib.Omega.{arith}
 use lib.ListN.{length}
 use Rattle.algebra.specs.Operations.{Operations}
-use Rattle.algebra.specs.Coefficients.{one, constant, leading, add, mul, negate, subtract, scale, shift}
+use Rattle.algebra.specs.Coefficients.{cons, one, constant, leading, add, mul, negate, subtract, scale, shift}
 use Rattle.algebra.specs.Coefficients.{monic, quotient, remainder, gcd}
 use Rattle.algebra.specs.Divides.{Divides}
 use Rattle.modular.specs.Prime.{Prime}
@@ -82,6 +83,16 @@ module _ (p : ℕ) (prime : Prime p) where
     where
       a : Residue p
       a = record { value = c; below = l }
+
+  -- x^k times a product, and times x^j
+  pub shift-mul : (k : ℕ) (f g : List ℕ) → Canonical p f → Canonical p g → shift o k (mul o f g) ≡ mul o (shift o k f) g
+  unfolding numbers
+  shift-mul k f g hf hg = ap list (sizeLaws p prime .shift-mul k (f, hf) (g, hg))
+
+  pub shift-shift : (i j : ℕ) (f : List ℕ) → shift o i (shift o j f) ≡ shift o (i + j) f
+  unfolding shift
+  shift-shift zero j f = ap (λ n. shift o n f) (sym (zero-add j))
+  shift-shift (suc i) j f = ap (cons o (o .zero)) (shift-shift i j f) ∙ ap (λ n. shift o n f) (sym (suc-add i j))
 
   -- one step of a division takes the leading coefficient off f
   pub length-step : (f g : List ℕ) → Canonical p f → Canonical p g → 0 < length g → length g ≤ length f

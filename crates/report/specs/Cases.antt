@@ -1,24 +1,28 @@
--- The reports of document 01's systems to try: in one table each system's report, which is the only one.
+-- The reports of document 01's systems to try: in one table each system's report, which is the only one. Behind it, of a system with
+-- feedback and delay, and of five bytes.
 use Prim.Native.Nat.{ℕ}
 use Prim.Native.String.{String}
 use mathlib.Core.Path.{_≡_, refl, sym, ap, subst}
 use mathlib.Core.List.{List, [], _∷_, map}
 use lib.ListN.{replicate, take}
+use Rattle.modular.specs.Delay.{delay, feedback}
 use Rattle.words.specs.Limits.{office}
 use Rattle.words.specs.LimitsLaws.{office-fits}
 use Rattle.words.specs.Outcome.{Outcome}
 use Rattle.words.specs.Outcome.Outcome.{accepted}
 use Rattle.words.specs.Systems.{systemsWords, single}
+use Rattle.words.specs.System.{System}
 use Rattle.words.specs.Certificate.{certificateWords}
+use Rattle.words.specs.Certificate.Certificate.{solution}
 use Rattle.words.specs.LineLaws.{line-written-of-read}
 use Rattle.words.specs.Bytes.{bytesOf, readLineFile}
 use Rattle.words.specs.LineFileLaws.{line-file-read}
 use Rattle.truth.specs.Verdict.{verdict}
-use Rattle.truth.specs.Cases.{Case, CaseOutcome, cases, caseOutcome, wanted, row-true}
+use Rattle.truth.specs.Cases.{Case, CaseOutcome, cases, caseOutcome, caseRow, over, 𝟙, x²+x, wanted, row-true}
 use Rattle.solve_meaning.specs.Answers.{answerOf, true-answers}
 use Rattle.report_text.specs.Ascii.{ascii}
 use Rattle.report_text.specs.Decimal.{decimal}
-use Rattle.report_text.specs.Text.{denominatorLine, feedbackLine, reportText}
+use Rattle.report_text.specs.Text.{denominatorLine, feedbackLine, solutionText, reportText}
 use Rattle.report.specs.Reporting.{Reports, ReportOf}
 use Rattle.report.specs.ReportingLaws.{report-unique}
 
@@ -44,14 +48,14 @@ withTexts (c ∷ cs) (t ∷ ts) = record { case = c; text = t } ∷ withTexts cs
 -- cases 1 to 8; 9 and 10 have case 1's system
 abbrev pub examples : List Example
 examples = withTexts (take 8 cases)
-    ("answer solution\ndenominator 0 1\nfeedback 1\n"
-    ∷ "answer solution\ndenominator 1\nfeedback 0\n"
+    ("answer solution\ndenominator 0 1\nfeedback 0 delay 1\n"
+    ∷ "answer solution\ndenominator 1\nfeedback 0 delay 0\n"
     ∷ "answer none\n"
-    ∷ "answer solution\ndenominator 1\nfeedback 0\n"
+    ∷ "answer solution\ndenominator 1\nfeedback 0 delay 0\n"
     ∷ "answer none\n"
-    ∷ "answer solution\ndenominator 1\nfeedback 0\n"
-    ∷ "answer solution\ndenominator 0 1\nfeedback 1\n"
-    ∷ "answer solution\ndenominator 0 0 1\nfeedback 2\n"
+    ∷ "answer solution\ndenominator 1\nfeedback 0 delay 0\n"
+    ∷ "answer solution\ndenominator 0 1\nfeedback 0 delay 1\n"
+    ∷ "answer solution\ndenominator 0 0 1\nfeedback 0 delay 2\n"
     ∷ [])
 
 -- the one proposition over all rows
@@ -95,18 +99,33 @@ rows-reported [] h = tt
 rows-reported (e ∷ es) h = (row-reported e cc, rows-reported es cc)
 
 pub examples-reported : AllReported examples
-unfolding cases verdict systemsWords single certificateWords answerOf reportText denominatorLine feedbackLine decimal
+unfolding cases verdict systemsWords single certificateWords answerOf reportText solutionText denominatorLine feedbackLine decimal
+    delay feedback
 examples-reported = rows-reported examples refl
 
--- "Fed case 1 it prints, whole"
+-- "Fed case 1 it prints, whole", and by document 02, item 2, "case 1 ends "feedback 0 delay 1""
 pub case-1-reported : Reported
     (0x02 ∷ 0x00 ∷ 0x11 ∷ 0x10
     ∷ 0x02 ∷ 0x00 ∷ 0x00 ∷ 0x20 ∷ 0x00 ∷ 0x00 ∷ 0x00 ∷ 0x30 ∷ 0x01 ∷ 0x00 ∷ 0x00 ∷ 0x30
     ∷ 0x01 ∷ 0x00 ∷ 0x00 ∷ 0x20 ∷ 0x01 ∷ 0x00 ∷ 0x00 ∷ 0x30
     ∷ 0x07 ∷ 0x00 ∷ 0x00 ∷ 0x40 ∷ [])
-    (ascii "answer solution\ndenominator 0 1\nfeedback 1\n")
+    (ascii "answer solution\ndenominator 0 1\nfeedback 0 delay 1\n")
 unfolding cases systemsWords single bytesOf
 case-1-reported = examples-reported .0
+
+-- feedback and delay both: x² + x is x·(x + 1)
+abbrev pub bothSystem : System
+bothSystem = over 2 1 1 (x²+x ∷ []) (𝟙 ∷ [])
+
+pub both-reported : Reported (bytesOf (systemsWords (single bothSystem)))
+    (ascii "answer solution\ndenominator 0 1 1\nfeedback 1 delay 1\n")
+unfolding verdict systemsWords single certificateWords answerOf reportText solutionText denominatorLine feedbackLine decimal delay
+    feedback
+both-reported =
+    row-reported (record {
+      case = caseRow bothSystem (solution x²+x (𝟙 ∷ []) x²+x (𝟙 ∷ [])) (accepted tt);
+      text = "answer solution\ndenominator 0 1 1\nfeedback 1 delay 1\n";
+    }) refl
 
 -- ---- a refusal
 

@@ -15,8 +15,9 @@ use Rattle.report_text.specs.Text.{reportText}
 use Rattle.report_text.specs.Longest.{reportSpace}
 use Rattle.report_text.specs.Written.{Written}
 
--- what is reported of what was read: "the kind (solution or none), the coefficients of d lowest first, the degree of d", where kind
--- and d are the answer to the system; "for a refusal "refused", number, "at", place"
+-- what is reported of what was read: "the kind (solution or none), the coefficients of d lowest first" and, by document 02, item
+-- 2, ""feedback", that degree, "delay", the number of factors", where kind and d are the answer to the system; "for a refusal
+-- "refused", number, "at", place"
 unfoldable pub Reports : Outcome System → List ℕ → Type 0
 Reports (refused number place) text = text ≡ reportText (refused number place)
 Reports (accepted s) text = (a : Answer) × Answers s a × (text ≡ reportText (accepted a))

@@ -1,11 +1,13 @@
 -- Every file has a report, and one only, which is written in one way and is short.
-use mathlib.Core.Path.{_≡_, refl, sym, ap, _∙_, subst}
+use mathlib.Core.Path.{_≡_, refl, sym, ap, ap₂, _∙_, subst}
 use mathlib.Core.Bool.{Bool, true, false, _||_}
 use mathlib.Core.List.{List, _++_}
 use Prim.Native.Nat.{ℕ, _≤_, _<_}
 use native.Mathlib.Omega.{arith}
-use lib.ListN.{length, drop, length-append}
+use lib.ListN.{length, take, drop, length-append}
+use lib.Seq.{take-append-seam}
 use lib.Dec.{ltb}
+use borrow.Author.Tests.{le-ltb}
 use Rattle.modular.specs.LargestPrime.{largestModulus}
 use Rattle.modular.specs.Bits.{bound8}
 use Rattle.words.specs.Limits.{Limits, office}
@@ -34,7 +36,7 @@ use Rattle.solve_meaning.specs.Existence.{office-certificate-exists, office-ans
 use Rattle.report_text.specs.Text.{reportText}
 use Rattle.report_text.specs.Longest.{ReportWithin, reportSpace, report-fits}
 use Rattle.solver.specs.SolvingLaws.{line-of-written}
-use Rattle.report.specs.Reporting.{Reports, ReportOf, GivenUnless, ReportsFile}
+use Rattle.report.specs.Reporting.{Reports, ReportOf, ReportGiven, GivenUnless, ReportsFile}
 
 module _ (limits : Limits) (fit : LimitsFit limits) (file : List ℕ) where
   -- what is reported is the first line of what is read of the file, or that file's refusal: never 40
@@ -165,3 +167,22 @@ module _ (entry exit : List ℕ) {count : ℕ} where
 
   pub reports-most : (limits : Limits) (file : List ℕ) → ReportsFile limits file entry exit count → count ≤ length exit
   reports-most limits file = by-lent (ltb (length entry) reportSpace) (readLineFile limits 0 file)
+
+-- what was written is the first of the lent bytes
+pub given-text : {o : Outcome System} {entry exit : List ℕ} {count : ℕ} → ReportGiven o entry exit count
+    → Reports o (take count exit)
+given-text {o} {entry} g =
+    let first = ap₂ take (g .written .count) (g .written .bytes) in
+    subst (Reports o) (sym (first ∙ take-append-seam (g .text) (drop (length (g .text)) entry))) (g .reports)
+
+-- so where bytes enough are lent, they are the report
+pub reports-text : (limits : Limits) (file entry exit : List ℕ) (count : ℕ) → reportSpace ≤ length entry
+    → ReportsFile limits file entry exit count
+    → ReportOf limits file (take count exit)
+unfolding GivenUnless
+reports-text limits file entry exit count room h =
+    given-text
+    (subst
+    (λ b. GivenUnless b (readLineFile limits 0 file) entry exit count)
+    (le-ltb (length entry) reportSpace room)
+    h)

@@ -1,4 +1,5 @@
-// The report (document 01, "The report"): from the bytes of a system's file to those of the text. It uses the first right side.
+// The report (document 01, "The report"; document 02, items 1 and 2): from the bytes of a system's file to those of the text. It
+// uses the first right side.
 use answers::Counted;
 use answers::LineRead;
 use answers::Shape;

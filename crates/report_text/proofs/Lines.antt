@@ -1,14 +1,10 @@
 -- Lines by the parts in which the code appends them: a label is appended with the number behind it.
 use Prim.Native.Nat.{ℕ}
-use mathlib.Core.Path.{_≡_, sym, ap, _∙_}
+use mathlib.Core.Path.{_≡_}
 use mathlib.Core.List.{List, [], _∷_, _++_, append-assoc, append-nil}
 use Rattle.report_text.specs.Ascii.{ascii}
 use Rattle.report_text.specs.Text.{spaced, line}
 use Rattle.report_text.proofs.Due.{joined}
-
-pub line-one : (label part : List ℕ) → line label (part ∷ []) ≡ joined ((label ++ spaced part) ∷ ascii "\n" ∷ [])
-line-one label part =
-    ap (λ t. label ++ (t ++ ascii "\n")) (append-nil (spaced part)) ∙ sym (append-assoc label (spaced part) (ascii "\n"))
 
 regroup : (label s t u end : List ℕ) → label ++ ((s ++ (t ++ (u ++ []))) ++ end) ≡ label ++ s ++ (t ++ u ++ end)
 regroup label s t u end = simp (append-assoc, append-nil)

@@ -1,7 +1,7 @@
--- The text of the report (document 01, "The report").
-use Prim.Native.Nat.{ℕ, _-_}
+-- The text of the report (document 01, "The report"; its third line by document 02, item 2).
+use Prim.Native.Nat.{ℕ}
 use mathlib.Core.List.{List, [], _∷_, _++_, map}
-use lib.ListN.{length}
+use Rattle.modular.specs.Delay.{delay, feedback}
 use Rattle.words.specs.Outcome.{Outcome}
 use Rattle.words.specs.Outcome.Outcome.{accepted, refused}
 use Rattle.truth.specs.Solution.{Answer}
@@ -21,21 +21,22 @@ allSpaced (part ∷ parts) = spaced part ++ allSpaced parts
 abbrev pub line : List ℕ → List (List ℕ) → List ℕ
 line label parts = label ++ (allSpaced parts ++ ascii "\n")
 
--- the degree of a polynomial that is not zero; of zero, which is no denominator, 0
-abbrev pub degree : List ℕ → ℕ
-degree d = length d - 1
-
 -- "the coefficients of d lowest first"; for zero, which has none, the label alone
 unfoldable pub denominatorLine : List ℕ → List ℕ
 denominatorLine d = line (ascii "denominator") (map decimal d)
 
--- "the degree of d, which is the feedback length"
-unfoldable pub feedbackLine : List ℕ → List ℕ
-feedbackLine d = line (ascii "feedback") (decimal (degree d) ∷ [])
+-- ""feedback", that degree, "delay", the number of factors" (document 02, item 2)
+unfoldable pub feedbackLine : (n k : ℕ) → List ℕ
+feedbackLine n k = line (ascii "feedback") (decimal n ∷ ascii "delay" ∷ decimal k ∷ [])
 
--- "three lines, labelled answer, denominator and feedback"; "For none it prints the first line only; for a refusal
+-- "three lines, labelled answer, denominator and feedback": of a denominator d, with feedback n and delay k
+unfoldable pub solutionText : (d : List ℕ) (n k : ℕ) → List ℕ
+solutionText d n k = line (ascii "answer") (ascii "solution" ∷ []) ++ denominatorLine d ++ feedbackLine n k
+
+-- "feedback is the degree of d after all" factors x "are taken out"; "For none it prints the first line only; for a refusal
 -- "refused", number, "at", place."
 unfoldable pub reportText : Outcome Answer → List ℕ
+unfolding solutionText
 reportText (accepted none) = line (ascii "answer") (ascii "none" ∷ [])
-reportText (accepted (least d)) = line (ascii "answer") (ascii "solution" ∷ []) ++ denominatorLine d ++ feedbackLine d
+reportText (accepted (least d)) = solutionText d (feedback d) (delay d)
 reportText (refused number place) = line (ascii "refused") (decimal number ∷ ascii "at" ∷ decimal place ∷ [])

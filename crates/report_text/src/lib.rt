@@ -1,5 +1,5 @@
-// The report, written into lent bytes (document 01, "The report"): of a solution, of none, and of a refusal. And the line of a
-// verdict.
+// The report, written into lent bytes (document 01, "The report"; its third line by document 02, item 2): of a solution, of none,
+// and of a refusal. And the line of a verdict.
 use crate::line::append_denominator;
 use crate::line::append_feedback;
 use crate::text::append;

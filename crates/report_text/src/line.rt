@@ -2,8 +2,11 @@
 use crate::text::append;
 use crate::text::append_labelled;
 use crate::text::append_numbers;
+use vector::find_delay;
+ghost use Prim.Native.Nat.{_-_};
 ghost use mathlib.Core.Path.{_≡_};
-ghost use Rattle.report_text.specs.Text.{degree, denominatorLine, feedbackLine};
+ghost use Rattle.modular.specs.Delay.{delay, feedback};
+ghost use Rattle.report_text.specs.Text.{denominatorLine, feedbackLine};
 ghost use Rattle.report_text.specs.Written.{TextRoom, Appended};
 
 // Appends the second line: the coefficients of d, lowest first.
@@ -16,22 +19,23 @@ pub fn append_denominator(out: &mut [u8], at: usize, d: &[u64]) -> usize
     append(out, listed, b"\n")
 }
 
-// Appends the third line: the degree of d.
+// Appends the third line: the degree of d without its factors x, and the number of these.
 pub fn append_feedback(out: &mut [u8], at: usize, d: &[u64]) -> usize
-    requires { ⌜ TextRoom (feedbackLine (now d)) (now out) at ⌝ }
-    ensures { λ r. ⌜ Appended (feedbackLine (now (d .entry))) (now (out .entry)) at (now (out .exit)) r ⌝ }
+    requires { ⌜ TextRoom (feedbackLine (feedback (now d)) (delay (now d))) (now out) at ⌝ }
+    ensures { λ r. ⌜
+        Appended (feedbackLine (feedback (now (d .entry))) (delay (now (d .entry)))) (now (out .entry)) at (now (out .exit)) r
+        ⌝ }
 {
-    let numbered = append_labelled(out, at, b"feedback", degree_of(d));
-    append(out, numbered, b"\n")
+    let delay = find_delay(d);
+    let feedback = degree_of(d.len() - delay);
+    let numbered = append_labelled(out, at, b"feedback", feedback);
+    let delayed = append_labelled(out, numbered, b" delay", delay as u64);
+    append(out, delayed, b"\n")
 }
 
-// Returns the degree of d; 0 where it has no coefficients.
-fn degree_of(d: &[u64]) -> u64
-    ensures { λ r. ⌜ r ≡ degree (now (d .entry)) ⌝ }
+// Returns the degree of a polynomial that has so many coefficients; 0 where it has none.
+fn degree_of(size: usize) -> u64
+    ensures { λ r. ⌜ r ≡ size - 1 ⌝ }
 {
-    if d.len() == 0 {
-        0
-    } else {
-        (d.len() - 1) as u64
-    }
+    if size == 0 { 0 } else { (size - 1) as u64 }
 }

@@ -1,6 +1,6 @@
 -- interface, what contracts, other crates and documents cite: Solution, Listed, Right, Chosen, Verdict, Lines, Lift, Truth,
 --   RefusalLaws, Accepted, Demand, Denominators, Cases, ChosenCases, RowExamples, Prefix, Fractions, Certified, CertifiedLaws,
---   CertifiedWords, TurnedBack, DemandLaws, RefusedWords, CertifiedTruth
+--   CertifiedWords, TurnedBack, DemandLaws, Feedback, FeedbackLaws, RefusedWords, CertifiedTruth
 -- inside: Witness, TurnedBackLaws
 pub mod Witness
 pub mod Solution
@@ -26,5 +26,7 @@ pub mod CertifiedWords
 pub mod TurnedBack
 pub mod TurnedBackLaws
 pub mod DemandLaws
+pub mod Feedback
+pub mod FeedbackLaws
 pub mod RefusedWords
 pub mod CertifiedTruth

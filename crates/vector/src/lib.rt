@@ -1,4 +1,5 @@
 // Loops on ranges of 64-bit words, in rows of eight where ranges are long.
+pub mod delay;
 pub mod leading;
 pub mod multiple;
 pub mod range;
@@ -7,6 +8,7 @@ pub mod range;
 pub mod or;
 pub mod sum;
 
+pub use delay::find_delay;
 pub use leading::Leading;
 pub use leading::find_leading;
 pub use leading::find_leading_near;

@@ -106,12 +106,12 @@ module _ (limits : Limits) (fit : LimitsFit limits) where
 
   -- what the files hold, and that it is true
   module _ (k : ℕ) (f g : List ℕ) (a : CertifiedFiles limits k f g) where
-    system-of-file : readLineFile limits k f ≡ accepted (a .written .system)
+    pub system-of-file : readLineFile limits k f ≡ accepted (a .written .system)
     system-of-file =
         ap (readLineFile limits k) (a .system-file)
         ∙ line-file-read limits k fit (a .written .system) (a .system-words) (a .written .system-words)
 
-    files-true : True (a .written .system) (a .written .certificate)
+    pub files-true : True (a .written .system) (a .written .certificate)
     files-true =
         let w = a .written in
         certified-true limits (w .system) (line-in-within limits fit k (a .system-words) (w .system-words)) (w .certificate)

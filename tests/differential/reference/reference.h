@@ -1,5 +1,5 @@
-// Document 01 once more, with item 1 of document 02: what the product is compared with. A side is the number of a right side. Those that
-// take one as 32 bits are asked for sides that the system has.
+// Document 01 once more, with items 1 and 2 of document 02: what the product is compared with. A side is the number of a right side.
+// Those that take one as 32 bits are asked for sides that the system has.
 #ifndef REFERENCE_H
 #define REFERENCE_H
 #include "words.h"
@@ -37,8 +37,9 @@ void choose_certificate(const struct system *s, uint32_t side, struct certificat
 // answer.c: what is to be said of a right side of a system's file, and the report's text on it
 struct answer {
     struct refusal refusal;
-    enum kind kind;      // if nothing is refused
-    struct polynomial d; // of a solution
+    enum kind kind;           // if nothing is refused
+    struct polynomial d;      // of a solution, the least denominator
+    uint32_t feedback, delay; // of d: the degree without its factors x, and their number
 };
 
 enum { REPORT_ROOM = 1024 };

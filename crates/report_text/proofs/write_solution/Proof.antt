@@ -5,10 +5,11 @@ use mathlib.Core.List.{List, [], _∷_, _++_, append-assoc, append-nil}
 use native.Mathlib.Nat.{zero-add, le-trans}
 use borrow.Author.Needs.{needs}
 use lib.ListN.{length}
+use Rattle.modular.specs.Delay.{delay, feedback}
 use Rattle.words.specs.Outcome.Outcome.{accepted}
 use Rattle.truth.specs.Solution.Answer.{least}
 use Rattle.report_text.specs.Ascii.{ascii}
-use Rattle.report_text.specs.Text.{denominatorLine, feedbackLine, reportText}
+use Rattle.report_text.specs.Text.{denominatorLine, feedbackLine, solutionText, reportText}
 use Rattle.report_text.specs.Longest.{ReportWithin, report-fits}
 use Rattle.report_text.specs.WrittenLaws.{appended-whole}
 use Rattle.report_text.proofs.Due.{joined, Due, due-all, due-room, due-next, due-none}
@@ -20,7 +21,7 @@ Left c parts out next = Due (reportText (accepted (least (c .args .d .now)))) (c
 
 -- what stands behind the first line
 abbrev behind : List ℕ → List (List ℕ)
-behind d = denominatorLine d ∷ feedbackLine d ∷ []
+behind d = denominatorLine d ∷ feedbackLine (feedback d) (delay d) ∷ []
 
 abbrev parts : List ℕ → List (List ℕ)
 parts d = ascii "answer solution\n" ∷ behind d
@@ -29,8 +30,8 @@ three : (a b c : List ℕ) → a ++ b ++ c ≡ joined (a ∷ b ∷ c ∷ [])
 three a b c = simp (append-assoc, append-nil)
 
 parts-joined : (d : List ℕ) → reportText (accepted (least d)) ≡ joined (parts d)
-unfolding reportText
-parts-joined d = three (ascii "answer solution\n") (denominatorLine d) (feedbackLine d)
+unfolding reportText solutionText
+parts-joined d = three (ascii "answer solution\n") (denominatorLine d) (feedbackLine (feedback d) (delay d))
 
 fits : (c : tie.Start) → length (reportText (accepted (least (c .args .d .now)))) ≤ length (c .args .out .now)
 unfolding ReportWithin
@@ -50,7 +51,8 @@ answered : (c : tie.After-append) → Left (entry c) (behind (entry c .args .d .
 answered c = due-next (start (entry c)) (c .append .ensures)
 
 divided : (c : tie.After-append-denominator) → (let e = entry (first c) in
-    Left e (feedbackLine (e .args .d .now) ∷ []) (c .append-denominator .last .0) (c .append-denominator .result))
+    let d = e .args .d .now in
+    Left e (feedbackLine (feedback d) (delay d) ∷ []) (c .append-denominator .last .0) (c .append-denominator .result))
 divided c = due-next (answered (first c)) (c .append-denominator .ensures)
 
 append-requires : tie.Need-append-requires
