@@ -21,6 +21,7 @@ undelayed [] = []
 undelayed (zero ∷ f) = undelayed f
 undelayed (suc a ∷ f) = suc a ∷ f
 
+-- "the degree of d after all such factors are taken out"
 unfoldable pub feedback : List ℕ → ℕ
 unfolding undelayed
 feedback f = degree (undelayed f)

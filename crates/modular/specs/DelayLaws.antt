@@ -93,21 +93,15 @@ module _ (p : ℕ) where
   first-positive (a ∷ f) l = omega arith
 
   -- no other k and no other polynomial are so
-  pub delay-shift : (k : ℕ) (f : List ℕ) → 0 < coefficient o f 0 → delay (shift o k f) ≡ k
-  unfolding delay shift coefficient modulo
-  delay-shift zero [] l = refl
-  delay-shift zero (zero ∷ f) l = absurd (omega arith)
-  delay-shift zero (suc a ∷ f) l = refl
-  delay-shift (suc k) f l =
-      ap delay (cons-zero (shift o k f) (shift-positive k f (first-positive f l))) ∙ ap suc (delay-shift k f l)
-
-  pub undelayed-shift : (k : ℕ) (f : List ℕ) → 0 < coefficient o f 0 → undelayed (shift o k f) ≡ f
-  unfolding undelayed shift coefficient modulo
-  undelayed-shift zero [] l = refl
-  undelayed-shift zero (zero ∷ f) l = absurd (omega arith)
-  undelayed-shift zero (suc a ∷ f) l = refl
-  undelayed-shift (suc k) f l =
-      ap undelayed (cons-zero (shift o k f) (shift-positive k f (first-positive f l))) ∙ undelayed-shift k f l
+  pub shift-apart : (k : ℕ) (f : List ℕ) → 0 < coefficient o f 0 → (delay (shift o k f) ≡ k) × (undelayed (shift o k f) ≡ f)
+  unfolding delay undelayed shift coefficient modulo
+  shift-apart zero [] l = (refl, refl)
+  shift-apart zero (zero ∷ f) l = absurd (omega arith)
+  shift-apart zero (suc a ∷ f) l = (refl, refl)
+  shift-apart (suc k) f l =
+      let whole = cons-zero (shift o k f) (shift-positive k f (first-positive f l)) in
+      let apart = shift-apart k f l in
+      (ap delay whole ∙ ap suc (apart .0), ap undelayed whole ∙ apart .1)
 
   -- the degree of a polynomial is the greatest power whose coefficient is not 0
   pub degree-nonzero : (f : List ℕ) → Canonical p f → 0 < length f → 0 < coefficient o f (degree f)
@@ -185,10 +179,10 @@ module _ (p : ℕ) where
           ∙ shift-shift p prime (delay f) (delay g) (mul o f′ g′)
 
       pub delay-mul : delay (mul o f g) ≡ delay f + delay g
-      delay-mul = ap delay product-is ∙ delay-shift (delay f + delay g) (mul o f′ g′) product-first
+      delay-mul = ap delay product-is ∙ shift-apart (delay f + delay g) (mul o f′ g′) product-first .0
 
       undelayed-mul : undelayed (mul o f g) ≡ mul o f′ g′
-      undelayed-mul = ap undelayed product-is ∙ undelayed-shift (delay f + delay g) (mul o f′ g′) product-first
+      undelayed-mul = ap undelayed product-is ∙ shift-apart (delay f + delay g) (mul o f′ g′) product-first .1
 
       pub feedback-mul : feedback (mul o f g) ≡ feedback f + feedback g
       unfolding feedback

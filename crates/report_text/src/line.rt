@@ -2,9 +2,8 @@
 use crate::text::append;
 use crate::text::append_labelled;
 use crate::text::append_numbers;
+use residue::number::minus;
 use vector::find_delay;
-ghost use Prim.Native.Nat.{_-_};
-ghost use mathlib.Core.Path.{_≡_};
 ghost use Rattle.modular.specs.Delay.{delay, feedback};
 ghost use Rattle.report_text.specs.Text.{denominatorLine, feedbackLine};
 ghost use Rattle.report_text.specs.Written.{TextRoom, Appended};
@@ -27,15 +26,8 @@ pub fn append_feedback(out: &mut [u8], at: usize, d: &[u64]) -> usize
         ⌝ }
 {
     let delay = find_delay(d);
-    let feedback = degree_of(d.len() - delay);
-    let numbered = append_labelled(out, at, b"feedback", feedback);
+    let feedback = minus(d.len() - delay, 1);
+    let numbered = append_labelled(out, at, b"feedback", feedback as u64);
     let delayed = append_labelled(out, numbered, b" delay", delay as u64);
     append(out, delayed, b"\n")
-}
-
-// Returns the degree of a polynomial that has so many coefficients; 0 where it has none.
-fn degree_of(size: usize) -> u64
-    ensures { λ r. ⌜ r ≡ size - 1 ⌝ }
-{
-    if size == 0 { 0 } else { (size - 1) as u64 }
 }

@@ -14,7 +14,7 @@ use Rattle.modular.specs.Canonical.{Canonical}
 use Rattle.modular.specs.Closed.{canonical-one, canonical-shift}
 use Rattle.modular.specs.Lists.{mul-comm, mul-one, shift-mul, shift-shift}
 use Rattle.modular.specs.Delay.{degree, delay, undelayed, feedback}
-use Rattle.modular.specs.DelayLaws.{canonical-undelayed, shift-undelayed, undelayed-first, delay-shift, undelayed-shift}
+use Rattle.modular.specs.DelayLaws.{canonical-undelayed, shift-undelayed, undelayed-first, shift-apart}
 use Rattle.modular.specs.DelayLaws.{first-positive, delay-mul, feedback-mul}
 use Rattle.words.specs.System.{System}
 use Rattle.words.specs.Certificate.{Certificate}
@@ -47,7 +47,7 @@ module _ (p : ℕ) (prime : Prime p) where
   one-first = omega arith
 
   delay-power : (k : ℕ) → delay (powerOfX p k) ≡ k
-  delay-power k = delay-shift p k (one (modulo p)) one-first
+  delay-power k = shift-apart p k (one (modulo p)) one-first .0
 
   -- a product with x^k
   power-mul : (k : ℕ) (f : List ℕ) → Canonical p f → mul (modulo p) (powerOfX p k) f ≡ shift (modulo p) k f
@@ -105,7 +105,7 @@ module _ (p : ℕ) (prime : Prime p) where
 
   first-delay : (f : List ℕ) → 0 < coefficient (modulo p) f 0 → delay f ≡ 0
   unfolding shift
-  first-delay f first = delay-shift p 0 f first
+  first-delay f first = shift-apart p 0 f first .0
 
   -- d = x^k·f, where k is its delay and f what is left
   pub taken-out : (d : List ℕ) → Canonical p d → ¬ (d ≡ []) → TakenOut p d (delay d) (undelayed d)
@@ -150,7 +150,7 @@ module _ (p : ℕ) (prime : Prime p) where
 
     -- there is no other such k, and no other such f
     pub taken-out-only : (delay d ≡ k) × (undelayed d ≡ f)
-    taken-out-only = (ap delay d-is ∙ delay-shift p k f first, ap undelayed d-is ∙ undelayed-shift p k f first)
+    taken-out-only = let apart = shift-apart p k f first in (ap delay d-is ∙ apart .0, ap undelayed d-is ∙ apart .1)
 
     pub feedback-left : feedback d ≡ degree f
     unfolding feedback

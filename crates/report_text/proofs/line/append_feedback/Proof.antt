@@ -38,22 +38,22 @@ unfolding feedback
 left-degree d n k e f = omega (arith, e, f, length-undelayed d)
 
 -- back from the call that gave the feedback to the one that gave the delay, and from that to the function's entry
-abbrev counted : tie.After-degree-of → tie.After-find-delay
+abbrev counted : tie.After-minus → tie.After-find-delay
 counted c = c .before
 
 abbrev entry : tie.After-find-delay → tie.Start
 entry c = c .before .before .before
 
-start : (c : tie.After-degree-of) → (let e = entry (counted c) in
-    Left e (parts (c .degree-of .result) (counted c .find-delay .result)) (e .args .out .now) (e .args .at))
+start : (c : tie.After-minus) → (let e = entry (counted c) in
+    Left e (parts (c .minus .result) (counted c .find-delay .result)) (e .args .out .now) (e .args .at))
 start c =
     let f = counted c in
     let d = entry f .args .d .now in
-    due-all _ (parts-joined d _ _ (left-degree d _ _ (f .find-delay .ensures) (c .degree-of .ensures)) (f .find-delay .ensures))
+    due-all _ (parts-joined d _ _ (left-degree d _ _ (f .find-delay .ensures) (c .minus .ensures)) (f .find-delay .ensures))
     (entry f .pre)
 
 -- back from the call that wrote the feedback to the one that gave it, and from the second such call to the first
-abbrev given : tie.After-append-labelled → tie.After-degree-of
+abbrev given : tie.After-append-labelled → tie.After-minus
 given c = c .before .before .before
 
 abbrev first : tie.After-append-labelled2 → tie.After-append-labelled
@@ -68,8 +68,8 @@ delayed : (c : tie.After-append-labelled2) → (let f = counted (given (first c)
 delayed c = due-next (numbered (first c)) (c .append-labelled2 .ensures)
 
 -- there are no more factors x than coefficients
-sub-degree-of : tie.Need-sub-degree-of
-sub-degree-of c = omega (arith, c .find-delay .ensures, length-undelayed (entry c .args .d .now))
+sub-minus : tie.Need-sub-minus
+sub-minus c = omega (arith, c .find-delay .ensures, length-undelayed (entry c .args .d .now))
 
 append-labelled-requires : tie.Need-append-labelled-requires
 append-labelled-requires c κs = due-room (start (c .before .before))
@@ -90,7 +90,7 @@ append-feedback-spec =
     tie.close
     (tie.spec
     (λ c κs. search needs)
-    sub-degree-of
+    sub-minus
     (λ c κs. search needs)
     (λ c. search needs)
     append-labelled-requires
