@@ -1,5 +1,5 @@
-// How much stack solver, check and report use against their rivals, over all systems of a folder: stack FOLDER. A call runs in a thread
-// whose stack is filled with a pattern; what is no longer the pattern was used. Ours and C's take no other memory.
+// How much stack solver, check and report use against their rivals, over all systems and certificates of a folder: stack FOLDER. A call
+// runs in a thread whose stack is filled with a pattern; what is no longer the pattern was used. Ours and C's take no other memory.
 #include <dirent.h>
 #include <pthread.h>
 #include <stdbool.h>
@@ -30,22 +30,24 @@ struct call {
     uint8_t system[4 * LONGEST_SYSTEM], certificate[4 * LONGEST_CERTIFICATE], text[1024];
 };
 
+static void fail(const char *what)
+{
+    fprintf(stderr, "stack: %s\n", what);
+    exit(1);
+}
+
+// What is checked is right, and a check that accepts has walked over all of it.
 static void *run(void *argument)
 {
     struct call *c = argument;
     if (c->solve != NULL)
         c->certificate_bytes = 4 * (size_t)(c->solve(c->system, c->system_bytes, 0, c->certificate, sizeof c->certificate) / 64);
-    else if (c->check != NULL)
-        c->check(c->system, c->system_bytes, 0, c->certificate, c->certificate_bytes);
-    else if (c->report)
+    else if (c->check != NULL) {
+        if (c->check(c->system, c->system_bytes, 0, c->certificate, c->certificate_bytes) != 0)
+            fail("a right certificate is refused");
+    } else if (c->report)
         yezsdolak_report(c->system, c->system_bytes, c->text, sizeof c->text);
     return NULL;
-}
-
-static void fail(const char *what)
-{
-    fprintf(stderr, "stack: %s\n", what);
-    exit(1);
 }
 
 // the bytes of stack that a thread uses which makes this call
@@ -77,6 +79,15 @@ static void raise_to(size_t *most, size_t used)
     *most = used > *most ? used : *most;
 }
 
+static void measure_checks(struct call *c, uint8_t *space, size_t most[CALLS][CONTESTANTS])
+{
+    c->solve = NULL, c->report = false;
+    for (int k = 0; k < CONTESTANTS; k++) {
+        c->check = checks[k];
+        raise_to(&most[CHECK][k], checks[k] != NULL ? used_by(c, space) : 0);
+    }
+}
+
 static void measure(struct call *c, uint8_t *space, size_t most[CALLS][CONTESTANTS])
 {
     c->report = false;
@@ -84,12 +95,22 @@ static void measure(struct call *c, uint8_t *space, size_t most[CALLS][CONTESTAN
         c->solve = solvers[k], c->check = NULL;
         raise_to(&most[SOLVE][k], solvers[k] != NULL ? used_by(c, space) : 0);
     }
-    for (int k = 0; k < CONTESTANTS; k++) {
-        c->solve = NULL, c->check = checks[k];
-        raise_to(&most[CHECK][k], checks[k] != NULL ? used_by(c, space) : 0);
-    }
+    measure_checks(c, space, most);
     c->check = NULL, c->report = true;
     raise_to(&most[REPORT][OURS], used_by(c, space));
+}
+
+// the number of bytes of the file, 0 where there is none
+static size_t load(uint8_t *bytes, size_t limit, const char *stem, const char *ending)
+{
+    char path[4112];
+    snprintf(path, sizeof path, "%s%s", stem, ending);
+    FILE *file = fopen(path, "rb");
+    if (file == NULL)
+        return 0;
+    size_t count = fread(bytes, 1, limit, file);
+    fclose(file);
+    return count;
 }
 
 static void print_row(const char *name, const size_t most[CONTESTANTS])
@@ -115,16 +136,16 @@ int main(int count, char **words)
     if (folder == NULL || space == MAP_FAILED)
         fail("usage: stack FOLDER");
     for (struct dirent *entry; (entry = readdir(folder)) != NULL;) {
-        char path[4096];
-        if (strstr(entry->d_name, ".system") == NULL)
+        char stem[4096];
+        const char *ending = strstr(entry->d_name, ".system");
+        if (ending == NULL)
             continue;
-        snprintf(path, sizeof path, "%s/%s", words[1], entry->d_name);
-        FILE *file = fopen(path, "rb");
-        if (file == NULL)
-            fail(path);
-        c.system_bytes = fread(c.system, 1, sizeof c.system, file);
-        fclose(file);
+        snprintf(stem, sizeof stem, "%s/%.*s", words[1], (int)(ending - entry->d_name), entry->d_name);
+        c.system_bytes = load(c.system, sizeof c.system, stem, ".system");
         measure(&c, space, most);
+        c.certificate_bytes = load(c.certificate, sizeof c.certificate, stem, ".certificate");
+        if (c.certificate_bytes > 0) // the largest, which is not the chosen one
+            measure_checks(&c, space, most);
     }
     closedir(folder);
     printf("\nThe stack of a call, KiB\n\n%-10s%10s%10s%10s%11s\n", "call", "ours", "C", "shared", "ours/C");

@@ -28,10 +28,10 @@
 extern "C" {
 #endif
 
-#define YEZSDOLAK_VERSION "0.11.0"
+#define YEZSDOLAK_VERSION "0.11.1"
 
 enum {
-    YEZSDOLAK_VERSION_NUMBER = 1100, // 10000 × major + 100 × minor + patch
+    YEZSDOLAK_VERSION_NUMBER = 1101, // 10000 × major + 100 × minor + patch
 
     YEZSDOLAK_SYSTEM_BYTES = 8712,      // no system's file is longer: to be lent to yezsdolak_write_system
     YEZSDOLAK_CERTIFICATE_BYTES = 8792, // no certificate's file is longer: to be lent to yezsdolak_solve

@@ -1,5 +1,6 @@
 // The check of a certificate in plain C: reads system and certificate, then tries refusals 31 to 36 of document 01.
-// Products are added up in 64 bits (at most 9 · 16 products below 2^32 meet in one coefficient) and reduced at the end.
+// Products are added up in 64 bits (at most 9 · 16 products below 2^32 meet in one coefficient) and reduced at the end. 33 is tried by
+// the walk of document 02, item 3, which divides no product: its multiples of Z_i are taken modulo w.
 #include <string.h>
 #include "reading.h"
 #include "residue.h"
@@ -89,13 +90,95 @@ static bool row_holds(struct modulus k, const struct system *s, const struct cer
     return equal(&left, right.coefficient, right.size);
 }
 
-// w divides Z·A in column j
-static bool column_divides(struct modulus k, const struct system *s, const struct certificate *c, uint32_t j)
+// The walk down the columns of Z·A, side by side. After row i, carried[j] is the remainder by w of Z_0·A_0j + .. + Z_i·A_ij, as sums of
+// at most 8 · 16 products. A window of as many words, all below p, has x^e·Z_i modulo w; it slides down by one word for each x.
+struct columns {
+    uint32_t degree;                                   // of w
+    uint64_t w[CERTIFICATE_SIZE - 1];                  // without the last coefficient, which is 1: 31 was tried before
+    uint64_t word[SYSTEM_SIZE - 1 + CERTIFICATE_SIZE]; // zeros that the window slides down to, then Z_i
+    _Alignas(64) uint64_t carried[MOST][CERTIFICATE_SIZE - 1];
+};
+
+// window += c · w, reduced
+static void add_reduced(struct modulus k, uint64_t *restrict window, const uint64_t *restrict w, uint32_t degree, uint32_t c)
 {
-    struct dense f;
-    dot(k, &f, &s->a[0][j], MOST, c->z, s->n);
-    remainder_by(k, &f, c->w.coefficient, c->w.size);
-    return f.size == 0;
+    for (uint32_t t = 0; t < degree; t++)
+        window[t] = reduce(k, window[t] + (uint64_t)c * (uint32_t)w[t]);
+}
+
+// The window, one word further down: x times what it had, plus that word, modulo w. What falls out at its end goes off with w.
+static uint64_t *slide(struct modulus k, struct columns *v, uint64_t *window)
+{
+    window--;
+    uint64_t top = window[v->degree];
+    if (top != 0)
+        add_reduced(k, window, v->w, v->degree, k.p - (uint32_t)top);
+    return window;
+}
+
+// the window with z modulo w: it slides down z where z is longer
+static uint64_t *open_window(struct modulus k, struct columns *v, struct polynomial z)
+{
+    uint64_t *lowest = v->word + SYSTEM_SIZE - 1, *window = lowest;
+    memset(v->word, 0, sizeof v->word);
+    for (uint32_t t = 0; t < z.size; t++)
+        lowest[t] = z.coefficient[t];
+    if (z.size > v->degree)
+        window += z.size - v->degree;
+    while (window > lowest)
+        window = slide(k, v, window);
+    return window;
+}
+
+// f += c · window, g += d · window: two columns at once, so that a word of the window is loaded once for both
+static void add_multiples(uint64_t *restrict f, uint64_t *restrict g, const uint64_t *restrict window, uint32_t degree, uint32_t c,
+                          uint32_t d)
+{
+    for (uint32_t t = 0; t < degree; t++) {
+        f[t] += (uint64_t)c * (uint32_t)window[t];
+        g[t] += (uint64_t)d * (uint32_t)window[t];
+    }
+}
+
+static uint32_t coefficient_of(struct polynomial f, uint32_t e)
+{
+    return e < f.size ? f.coefficient[e] : 0;
+}
+
+// carried[j] += z · a[j] modulo w, j below m
+static void add_row(struct modulus k, struct columns *v, const struct polynomial *a, uint32_t m, struct polynomial z)
+{
+    uint32_t longest = 0;
+    for (uint32_t j = 0; j < m; j++)
+        longest = a[j].size > longest ? a[j].size : longest;
+    uint64_t *window = open_window(k, v, z);
+    for (uint32_t e = 0; e < longest; e++) {
+        if (e > 0)
+            window = slide(k, v, window);
+        for (uint32_t j = 0; j < m; j += 2) {
+            uint32_t c = coefficient_of(a[j], e), d = j + 1 < m ? coefficient_of(a[j + 1], e) : 0;
+            if (c != 0 || d != 0)
+                add_multiples(v->carried[j], v->carried[j + 1], window, v->degree, c, d);
+        }
+    }
+}
+
+// the first column of Z·A that w does not divide, or m
+static uint32_t undivided_column(struct modulus k, const struct system *s, const struct certificate *c)
+{
+    struct columns v = {.degree = c->w.size - 1};
+    for (uint32_t t = 0; t < v.degree; t++)
+        v.w[t] = c->w.coefficient[t];
+    for (uint32_t i = 0; i < s->n; i++)
+        add_row(k, &v, s->a[i], s->m, c->z[i]);
+    for (uint32_t j = 0; j < s->m; j++) {
+        uint64_t left = 0;
+        for (uint32_t t = 0; t < v.degree; t++)
+            left |= reduce(k, v.carried[j][t]);
+        if (left != 0)
+            return j;
+    }
+    return s->m;
 }
 
 // w divided by the monic greatest common divisor g of w and Z·b is d: as all are monic, d·g = w
@@ -123,9 +206,9 @@ static uint64_t check_solution(const struct system *s, const struct certificate 
     for (uint32_t i = 0; i < s->n; i++)
         if (!row_holds(k, s, c, i))
             return refusal_of(32, i);
-    for (uint32_t j = 0; j < s->m; j++)
-        if (!column_divides(k, s, c, j))
-            return refusal_of(33, j);
+    uint32_t column = undivided_column(k, s, c);
+    if (column < s->m)
+        return refusal_of(33, column);
     return denominator_is_d(k, s, c) ? 0 : refusal_of(34, 0);
 }
 

@@ -1,6 +1,7 @@
 // Compares the product with the reference: differential SYSTEMS DAMAGED SEED.
 #include <stdio.h>
 #include <stdlib.h>
+#include "columns.h"
 #include "compare.h"
 #include "damage.h"
 #include "extension.h"
@@ -14,6 +15,7 @@ enum { NUMBERS = 64, NO_SUCH_SIDE = 40 };
 enum { LONGEST_EVERY = 500 }; // one of so many cases has the longest system
 enum { ENOUGH = 10000 };      // in so many damaged cases each number must come that may come, in so many systems each kind of report
 enum { RARE = 50 };           // one of so many reports at least
+enum { COLUMNS_EVERY = 5 };   // one case of the columns to so many damaged
 
 struct tally {
     uint64_t several, longest;               // systems with several right sides, with as many words as any has
@@ -284,6 +286,8 @@ int main(int count, char **argument)
     uint64_t seed = strtoull(argument[3], NULL, 10);
     open_comparison();
     try_systems(strtoull(argument[1], NULL, 10), seed);
-    try_all_damaged(strtoull(argument[2], NULL, 10), seed);
+    uint64_t damaged = strtoull(argument[2], NULL, 10);
+    try_all_damaged(damaged, seed);
+    try_all_columns(damaged / COLUMNS_EVERY, seed);
     return 0;
 }

@@ -8,7 +8,7 @@ struct matrix {
     struct polynomial entry[MOST][MOST];
 };
 
-static uint32_t draw_prime(struct draws *g)
+uint32_t draw_prime(struct draws *g)
 {
     static const uint32_t special[] = {2, 2, 3, 3, 5, 7, 257, 65521};
     if (chance(g, 75))

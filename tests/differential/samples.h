@@ -6,6 +6,7 @@
 
 enum form { DENSE, SPARSE, POWER, FACTORS, HIGHEST, FORMS };
 
+uint32_t draw_prime(struct draws *g);
 void draw_polynomial(struct draws *g, uint32_t p, struct polynomial *f, uint32_t degree, enum form form); // or of less degree
 void draw_system(struct draws *g, struct system *s);
 void draw_longest(struct draws *g, struct system *s); // its file has as many words as any

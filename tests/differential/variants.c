@@ -129,6 +129,24 @@ static void rows_shifted(struct draws *g, const struct system *s, struct certifi
     }
 }
 
+void lengthen_rows(struct draws *g, const struct system *s, struct certificate *c)
+{
+    static struct polynomial factor;
+    for (uint32_t i = 0; i < s->n; i++) {
+        draw_polynomial(g, s->p, &factor, CERTIFICATE_SIZE - c->w.size, DENSE);
+        add_product(s->p, &c->row[i], &factor, &c->w);
+    }
+}
+
+// one row of Z alone, the first or the last more often, with the others as they were or longer
+static void row_off(struct draws *g, const struct system *s, struct certificate *c)
+{
+    uint32_t i = below(g, s->n), end = below(g, 4);
+    if (chance(g, 50))
+        lengthen_rows(g, s, c);
+    disturb(g, s->p, &c->row[end == 0 ? 0 : end == 1 ? s->n - 1 : i], CERTIFICATE_SIZE - 1);
+}
+
 static void rows_exchanged(struct draws *g, const struct system *s, struct certificate *c)
 {
     uint32_t i = below(g, s->n), k = below(g, s->n);
@@ -166,7 +184,8 @@ static void other_kind(struct draws *g, const struct system *s, struct certifica
 static variant *const variants[] = {
     coefficient_off, coefficient_off, part_multiplied,     part_zero,          part_scaled,        rows_multiplied,
     rows_scaled,     rows_exchanged,  rows_zero,           other_kind,         both_multiplied,    both_multiplied,
-    rows_shifted,    rows_shifted,    solution_multiplied, numerators_shifted, numerators_shifted, numerators_exchanged};
+    rows_shifted,    rows_shifted,    solution_multiplied, numerators_shifted, numerators_shifted, numerators_exchanged,
+    lengthen_rows,   lengthen_rows,   row_off,             row_off};
 
 enum { OF_ABSENCE = 10, VARIANTS = sizeof variants / sizeof variants[0] };
 

@@ -60,6 +60,13 @@ class CaseSet:
             if kinds[f"refused {number}"] < least:
                 raise SystemExit(f"{self.name}: refusal {number} only {kinds[f'refused {number}']} times")
 
+    def require_places(self, number, places, least):
+        """Stop unless this refusal is expected at each of these places at least so many times."""
+        for place in places:
+            count = self.lines.count(f"refused {number} at {place}")
+            if count < least:
+                raise SystemExit(f"{self.name}: refusal {number} at {place} only {count} times")
+
 
 def store(sets):
     """Write the sets into one pair of files, the cases of each behind its name as a heading, and say what is in them."""

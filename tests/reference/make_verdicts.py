@@ -8,6 +8,7 @@ import examples
 import polynomial as poly
 import words as form
 from cases import CHECK, CaseSet
+from column_verdicts import add_columns
 from damage import damaged
 from draws import Draws
 from samples import chain, common_factor, exact, generic, outside, prime, shapes, up_to
@@ -144,6 +145,8 @@ def make():
     large(cases, draws)
     damaged_words(cases, draws)
     add_sides(cases)
+    add_columns(cases)
     cases.require(range(31, 37), 40)
+    cases.require_places(33, range(8), 5)
     cases.require([40], 100)
     return cases

@@ -1,4 +1,5 @@
--- Division with remainder: what `divide` gives for a divisor that is not zero, and that nothing else has its properties.
+-- Division with remainder: what `divide` gives for a divisor that is not zero, that nothing else has its properties, and the
+-- remainders of sums and products.
 use Prim.Native.Nat.{ℕ, zero, suc, _<_, _≤_, _-_}
 use mathlib.Core.Path.{_≡_, refl, sym, _∙_, ap, ap₂}
 use mathlib.Core.List.{List, [], _∷_}
@@ -195,3 +196,57 @@ module _ {A : Type 0} (F : Field A) where
 
     pub remainder-unique : remainder x d ≡ r
     remainder-unique = division-remainder d (quotient x d) (remainder x d) q r same (size-remainder x d (omega arith)) l
+
+  -- what is shorter than d is its own remainder
+  pub remainder-short : (x d : Polynomial F) → size F x < size F d → remainder x d ≡ x
+  remainder-short x d l = remainder-unique x d 𝟘 x
+      (identity (polynomials F) (x ∷ d ∷ []) (λ ρ qx qd. search quotes depth 16) refl) l
+
+  -- remainders add up: the remainder of a sum is the sum of the remainders
+  pub remainder-add : (x y d : Polynomial F) → 0 < size F d → remainder (x + y) d ≡ remainder x d + remainder y d
+  remainder-add x y d h =
+      remainder-unique (x + y) d (q + q′) (r + r′) parts
+      (omega (
+        arith,
+        sized F .size-add (size F d - 1) r r′
+            (omega (arith, size-remainder x d h)) (omega (arith, size-remainder y d h)),
+      ))
+    where
+      q : Polynomial F
+      q = quotient x d
+
+      q′ : Polynomial F
+      q′ = quotient y d
+
+      r : Polynomial F
+      r = remainder x d
+
+      r′ : Polynomial F
+      r′ = remainder y d
+
+      parts : x + y ≡ (q + q′) * d + (r + r′)
+      parts = ap₂ _+_ (division x d h) (division y d h)
+          ∙ identity (polynomials F) (d ∷ q ∷ q′ ∷ r ∷ r′ ∷ []) (λ ρ qd qq qq′ qr qr′. search quotes depth 16) refl
+
+  -- a factor may be replaced by its remainder
+  pub remainder-factor : (x y d : Polynomial F) → 0 < size F d → remainder (x * y) d ≡ remainder (x * remainder y d) d
+  remainder-factor x y d h =
+      remainder-unique (x * y) d (x * q + q′) r′ parts (size-remainder (x * r) d h)
+    where
+      q : Polynomial F
+      q = quotient y d
+
+      r : Polynomial F
+      r = remainder y d
+
+      q′ : Polynomial F
+      q′ = quotient (x * r) d
+
+      r′ : Polynomial F
+      r′ = remainder (x * r) d
+
+      parts : x * y ≡ (x * q + q′) * d + r′
+      parts = combination (polynomials F) (x * y) ((x * q + q′) * d + r′)
+          (given x (division y d h) ∷ given 𝟙 (division (x * r) d h) ∷ [])
+          (identity (polynomials F) (x ∷ y ∷ d ∷ q ∷ r ∷ q′ ∷ r′ ∷ [])
+          (λ ρ qx qy qd qq qr qq′ qr′. search quotes depth 16) refl)

@@ -6,7 +6,7 @@ const MAJOR: u64 = 0;
 
 const MINOR: u64 = 11;
 
-const PATCH: u64 = 0;
+const PATCH: u64 = 1;
 
 // Returns the version as one number.
 pub fn library_version() -> u64

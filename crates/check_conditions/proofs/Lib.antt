@@ -6,3 +6,6 @@ pub mod Tests
 pub mod Monic
 pub mod Values
 pub mod Order
+pub mod Starting
+pub mod Adding
+pub mod Walking

@@ -16,6 +16,7 @@ use Rattle.truth.specs.Listed.{listed-at, total-ext}
 use Rattle.loader.specs.Slot.{slot, SlotFilled}
 use Rattle.loader.specs.Widths.{systemWidth, certificateWidth}
 use Rattle.check_conditions.specs.Products.{product, longestSum}
+use Rattle.check_conditions.specs.Walk.{RowFilled}
 use Rattle.check_conditions.specs.Areas.{systemInSlots, vectorIn, ValidDimensions, Loaded}
 use Rattle.check_conditions.specs.declared.dimensions.Dimensions.{Dimensions}
 
@@ -23,11 +24,16 @@ use Rattle.check_conditions.specs.declared.dimensions.Dimensions.{Dimens
 pub place-inside : {i j rows columns : ℕ} → i < rows → j < columns → i * columns + j < rows * columns
 place-inside {i} {j} {rows} {columns} hi hj = omega (arith, mul-le-mul-right columns hi, suc-mul i columns)
 
+-- the places of a row's entries are few
+pub row-places : {l : Dimensions} {i : ℕ} → ValidDimensions l → i < office .rows → i * l .columns ≤ office .rows * office .columns
+row-places {l} {i} valid hi =
+    mul-le-mul {n₁ = i} {m₁ = l .columns} {n₂ = office .rows} {m₂ = office .columns} (omega arith) (valid .columns)
+
 module _ (l : Dimensions) (S C : List ℕ) where
   abbrev p : ℕ
   p = l .modulus .p
 
-  entry-in : (i j : ℕ) → i < l .rows → j < l .columns → entry (systemInSlots l S) i j ≡ slot systemWidth S (i * l .columns + j)
+  pub entry-in : (i j : ℕ) → i < l .rows → j < l .columns → entry (systemInSlots l S) i j ≡ slot systemWidth S (i * l .columns + j)
   unfolding systemInSlots
   entry-in i j hi hj = listed-at (l .rows * l .columns) (slot systemWidth S) [] (i * l .columns + j) (place-inside hi hj)
 
@@ -35,7 +41,7 @@ module _ (l : Dimensions) (S C : List ℕ) where
   unfolding systemInSlots
   side-in i hi = listed-at (l .rows) (λ k. slot systemWidth S (l .rows * l .columns + k)) [] i hi
 
-  vector-in : (count start k : ℕ) → k < count → getD (vectorIn count start C) k [] ≡ slot certificateWidth C (start + k)
+  pub vector-in : (count start k : ℕ) → k < count → getD (vectorIn count start C) k [] ≡ slot certificateWidth C (start + k)
   unfolding vectorIn
   vector-in count start k lt = listed-at count (λ i. slot certificateWidth C (start + i)) [] k lt
 
@@ -73,6 +79,9 @@ module _ (l : Dimensions) (S C : List ℕ) where
         ∙ mul-comm p (valid .modulus .prime) _ _ (loaded .system k hk .canonical) (loaded .certificate .filled i hi .canonical)
 
     module _ (i : ℕ) (hi : i < l .rows) where
+      pub row-filled : RowFilled l S i
+      row-filled j hj = loaded .system (i * l .columns + j) (omega (arith, place-inside hi hj))
+
       pub row-few : i * l .columns ≤ office .rows * office .columns
       row-few = omega (arith, places-few, mul-le-mul-right {m = i} {n = l .rows} (l .columns) (omega arith))
 

@@ -1,15 +1,12 @@
 -- The tests on values answer as those of the verdict do.
-use mathlib.Core.Path.{_≡_, sym, ap, _∙_, subst, subst₂}
+use mathlib.Core.Path.{_≡_, sym, _∙_, subst, subst₂}
 use mathlib.Core.Bool.{Bool, true≢false}
 use mathlib.Core.List.{List, []}
 use Prim.Native.Nat.{ℕ}
-use lib.Dec.{eqb}
-use Rattle.algebra.specs.Coefficients.{leading}
-use Rattle.modular.specs.Modulo.{modulo}
 use Rattle.polynomial.specs.declared.value.Polynomial.{Polynomial}
 use Rattle.polynomial.specs.Value.{coefficientsOf, Represents}
 use Rattle.polynomial_words.specs.Decides.{Decides, decides-same}
-use Rattle.truth.specs.Verdict.{zero?, same?, monic?}
+use Rattle.truth.specs.Verdict.{zero?, same?}
 use Rattle.truth.specs.RefusalLaws.{zero?-true, zero?-false, same?-true, true-same?}
 
 zero-decides : (f : List ℕ) → Decides (zero? f) (f ≡ [])
@@ -21,9 +18,6 @@ same-decides f g = record { holds = same?-true f g; fails = λ e is. true≢fals
 module _ {p : ℕ} {x : Polynomial} {f : List ℕ} (r : Represents p x f) {t : Bool} where
   pub zero-test : Decides t (coefficientsOf x ≡ []) → t ≡ zero? f
   zero-test d = decides-same t (zero? f) (subst (λ (l : List ℕ). Decides t (l ≡ [])) (r .same) d) (zero-decides f)
-
-  pub monic-test : t ≡ eqb (leading (modulo p) (coefficientsOf x)) 1 → t ≡ monic? p f
-  monic-test e = e ∙ ap (monic? p) (r .same)
 
   pub equal-test : {y : Polynomial} {g : List ℕ} → Represents p y g → Decides t (coefficientsOf x ≡ coefficientsOf y)
       → t ≡ same? f g

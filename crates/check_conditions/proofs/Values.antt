@@ -4,7 +4,7 @@ use mathlib.Core.List.{List}
 use Prim.Native.Nat.{ℕ, _<_}
 use native.Mathlib.Omega.{arith}
 use lib.ListN.{length}
-use Rattle.algebra.specs.Coefficients.{monic, quotient, remainder, gcd}
+use Rattle.algebra.specs.Coefficients.{monic, quotient, gcd}
 use Rattle.modular.specs.Prime.{Prime}
 use Rattle.modular.specs.Modulo.{modulo}
 use Rattle.modular.specs.Lists.{leading-gcd}
@@ -16,10 +16,6 @@ pub value-size : {p : ℕ} {x : Polynomial} {f : List ℕ} → Represents p x f 
 value-size {p} {x} r some = omega (arith, size-length p x (r .valid), ap length (r .same))
 
 module _ {p : ℕ} {x y : Polynomial} {f g : List ℕ} (hx : Represents p x f) (hy : Represents p y g) where
-  pub remainder-value : {r : Polynomial} → Represents p r (remainder (modulo p) (coefficientsOf x) (coefficientsOf y))
-      → Represents p r (remainder (modulo p) f g)
-  remainder-value h = represents-is h (ap₂ (remainder (modulo p)) (hx .same) (hy .same))
-
   module _ {d : Polynomial} (hd : Represents p d (gcd (modulo p) (coefficientsOf x) (coefficientsOf y))) where
     -- the divisor of x, which is not zero, and y is not zero
     pub gcd-some : Prime p → 0 < length f → 0 < d .size

@@ -18,7 +18,7 @@ fn product_wrong(system: &[u64], certificate: &[u64], dimensions: Dimensions, j:
         productWrong (systemInSlots dimensions (now (system .entry))) (vectorIn (dimensions .rows) 0 (now (certificate .entry))) j
         ⌝ }
 {
-    let sum = column(system, certificate, 0, dimensions, j);
+    let sum = column(system, certificate, dimensions, j);
     !sum.is_zero()
 }
 

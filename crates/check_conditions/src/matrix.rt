@@ -38,23 +38,16 @@ pub fn target(system: &[u64], certificate: &[u64], dimensions: Dimensions, i: us
     sum_of_products(system, rows * columns + i, 1, certificate, 0, 1, modulus)
 }
 
-// Returns column j of Z·A, where Z stands in `certificate` from slot `start` on.
-pub fn column(
-    system: &[u64],
-    certificate: &[u64],
-    start: usize,
-    dimensions: Dimensions,
-    j: usize,
-) -> Polynomial
-    requires { ⌜ Loaded dimensions (start + dimensions .rows) (now system) (now certificate) × (j < dimensions .columns) ⌝ }
+// Returns column j of q·A.
+pub fn column(system: &[u64], certificate: &[u64], dimensions: Dimensions, j: usize) -> Polynomial
+    requires { ⌜ Loaded dimensions (dimensions .rows) (now system) (now certificate) × (j < dimensions .columns) ⌝ }
     ensures { λ r. ⌜ Represents (dimensions .modulus .p) r
-        (columnOf (systemInSlots dimensions (now (system .entry))) (vectorIn (dimensions .rows) start (now (certificate .entry)))
-        j) ⌝ }
+        (columnOf (systemInSlots dimensions (now (system .entry))) (vectorIn (dimensions .rows) 0 (now (certificate .entry))) j) ⌝ }
 {
     let rows = dimensions.rows;
     let columns = dimensions.columns;
     let modulus = dimensions.modulus;
-    sum_of_products(system, j, columns, certificate, start, rows, modulus)
+    sum_of_products(system, j, columns, certificate, 0, rows, modulus)
 }
 
 // Returns Z·b, where Z stands in `certificate` from slot `start` on.

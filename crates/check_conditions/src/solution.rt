@@ -1,36 +1,42 @@
 // 31 to 34: a certificate that holds d, N, w and Z.
 use crate::dimensions::Dimensions;
-use crate::matrix::column;
 use crate::matrix::row;
 use crate::matrix::side;
 use crate::matrix::target;
+use crate::walk::REMAINDERS;
+use crate::walk::leaves_remainder;
+use crate::walk::walk_columns;
 use answers::Refusal;
 use answers::Verdict;
 use division::gcd;
 use division::quotient;
-use division::remainder;
+use loader::coefficients_in;
 use loader::polynomial_in;
 use loader::width::CERTIFICATE_WIDTH;
 ghost use mathlib.Core.Path.{_≡_};
-ghost use Prim.Native.Nat.{_+_, _<_};
-ghost use lib.ListN.{length};
+ghost use Prim.Native.Nat.{ℕ, _+_, _*_, _≤_, _<_};
+ghost use lib.ListN.{length, getD};
 ghost use Rattle.truth.specs.Verdict.{monic?, solutionVerdict};
 ghost use Rattle.answers.specs.Answer.{verdictOutcome};
-ghost use Rattle.loader.specs.Slot.{slot, SlotFilled};
+ghost use Rattle.loader.specs.Slot.{slot};
 ghost use Rattle.loader.specs.Widths.{certificateWidth};
-ghost use Rattle.check_conditions.specs.Areas.{ValidDimensions, Loaded, CertificateLoaded};
+ghost use Rattle.check_conditions.specs.Areas.{Loaded, CertificateLoaded};
 ghost use Rattle.check_conditions.specs.Areas.{systemInSlots, denominatorIn};
 ghost use Rattle.check_conditions.specs.Areas.{numeratorsIn, certifyingDenominatorIn, certifyingNumeratorsIn};
-ghost use Rattle.check_conditions.specs.Table.{tryMonic, rowWrong, tryRows, columnWrong, tryColumns, tryDenominators};
+ghost use Rattle.check_conditions.specs.Table.{tryMonic, rowWrong, tryRows, tryColumns, tryDenominators};
 
 // Tells whether polynomial k of the certificate is monic.
-fn is_monic_at(certificate: &[u64], k: usize, dimensions: Dimensions) -> bool
-    requires { ⌜ ValidDimensions dimensions × SlotFilled (dimensions .modulus .p) certificateWidth (now certificate) k ⌝ }
-    ensures { λ r. ⌜ r ≡ monic? (dimensions .modulus .p) (slot certificateWidth (now (certificate .entry)) k) ⌝ }
+fn is_monic_at(certificate: &[u64], k: usize) -> bool
+    requires { ⌜ (k * certificateWidth + certificateWidth ≤ length (now certificate))
+        × (getD (now certificate) (k * certificateWidth) 0 < certificateWidth) ⌝ }
+    ensures { λ r. ⌜ ((p : ℕ) → r ≡ monic? p (slot certificateWidth (now (certificate .entry)) k)) ⌝ }
 {
-    let modulus = dimensions.modulus;
-    let f = polynomial_in(certificate, CERTIFICATE_WIDTH, k, modulus);
-    f.is_monic()
+    let f = coefficients_in(certificate, CERTIFICATE_WIDTH, k);
+    let n = f.len();
+    if n == 0 {
+        return false;
+    }
+    f[n - 1] == 1
 }
 
 // Tries 31: d (place 0, tried first) or w (place 1) not monic.
@@ -41,13 +47,13 @@ fn try_monic(certificate: &[u64], dimensions: Dimensions) -> Verdict
         (certifyingDenominatorIn dimensions (now (certificate .entry))) ⌝ }
 {
     let w = dimensions.columns + 1;
-    if !is_monic_at(certificate, 0, dimensions) {
+    if !is_monic_at(certificate, 0) {
         return Verdict::Refused(Refusal {
             number: 31,
             place: 0,
         });
     }
-    if !is_monic_at(certificate, w, dimensions) {
+    if !is_monic_at(certificate, w) {
         return Verdict::Refused(Refusal {
             number: 31,
             place: 1,
@@ -89,27 +95,7 @@ fn try_rows(system: &[u64], certificate: &[u64], dimensions: Dimensions) -> Verd
     Verdict::Accepted
 }
 
-// Tells whether w, which is not zero, does not divide column j of Z·A.
-fn column_wrong(system: &[u64], certificate: &[u64], dimensions: Dimensions, j: usize) -> bool
-    requires { ⌜ Loaded dimensions (dimensions .columns + 2 + dimensions .rows) (now system) (now certificate)
-        × (j < dimensions .columns) ⌝ }
-    requires divisor { ⌜ 0 < length (certifyingDenominatorIn dimensions (now certificate)) ⌝ }
-    ensures { λ r. ⌜ r ≡
-        columnWrong (systemInSlots dimensions (now (system .entry))) (certifyingDenominatorIn dimensions (now (certificate .entry)))
-        (certifyingNumeratorsIn dimensions (now (certificate .entry))) j ⌝ }
-{
-    let modulus = dimensions.modulus;
-    let w = polynomial_in(
-        certificate,
-        CERTIFICATE_WIDTH,
-        dimensions.columns + 1,
-        modulus,
-    );
-    let sum = column(system, certificate, dimensions.columns + 2, dimensions, j);
-    !remainder(sum, w, modulus).is_zero()
-}
-
-// Tries 33: w does not divide Z·A; first such column.
+// Tries 33: w does not divide Z·A; first such column. One walk down the columns leaves the remainders.
 fn try_columns(system: &[u64], certificate: &[u64], dimensions: Dimensions) -> Verdict
     requires { ⌜ Loaded dimensions (dimensions .columns + 2 + dimensions .rows) (now system) (now certificate) ⌝ }
     requires divisor { ⌜ 0 < length (certifyingDenominatorIn dimensions (now certificate)) ⌝ }
@@ -117,9 +103,14 @@ fn try_columns(system: &[u64], certificate: &[u64], dimensions: Dimensions) -> V
         tryColumns (systemInSlots dimensions (now (system .entry))) (certifyingDenominatorIn dimensions (now (certificate .entry)))
         (certifyingNumeratorsIn dimensions (now (certificate .entry))) ⌝ }
 {
+    let modulus = dimensions.modulus;
+    let w = coefficients_in(certificate, CERTIFICATE_WIDTH, dimensions.columns + 1);
+    let e = w.len() - 1;
+    let mut carried = [0; REMAINDERS];
+    walk_columns(&mut carried, system, certificate, dimensions);
     let mut j = 0;
     while j < dimensions.columns {
-        if column_wrong(system, certificate, dimensions, j) {
+        if leaves_remainder(&carried, e, j, modulus) {
             return Verdict::Refused(Refusal {
                 number: 33,
                 place: j,
@@ -140,7 +131,6 @@ fn try_denominators(system: &[u64], certificate: &[u64], dimensions: Dimensions)
         (certifyingNumeratorsIn dimensions (now (certificate .entry))) ⌝ }
 {
     let modulus = dimensions.modulus;
-    let d = polynomial_in(certificate, CERTIFICATE_WIDTH, 0, modulus);
     let w = polynomial_in(
         certificate,
         CERTIFICATE_WIDTH,
@@ -150,6 +140,7 @@ fn try_denominators(system: &[u64], certificate: &[u64], dimensions: Dimensions)
     let sum = side(system, certificate, dimensions.columns + 2, dimensions);
     let common = gcd(w, sum, modulus);
     let certified = quotient(w, common, modulus).monic(modulus);
+    let d = polynomial_in(certificate, CERTIFICATE_WIDTH, 0, modulus);
     if certified.equal(d) {
         return Verdict::Accepted;
     }

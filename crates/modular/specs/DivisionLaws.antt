@@ -37,6 +37,10 @@ module _ {K A : Type 0} (S : Arithmetic K A) where
     pub quotient-exact : (x d : A) → Divides ring d x → x ≡ quotient x d * d
     pub quotient-mul : (q d : A) → 0 < size d → quotient (q * d) d ≡ q
     pub remainder-mul : (q d : A) → 0 < size d → remainder (q * d) d ≡ 𝟘
+    -- what is short is its own remainder; remainders add up; a factor may be replaced by its remainder
+    pub remainder-short : (x d : A) → size x < size d → remainder x d ≡ x
+    pub remainder-add : (x y d : A) → 0 < size d → remainder (x + y) d ≡ remainder x d + remainder y d
+    pub remainder-factor : (x y d : A) → 0 < size d → remainder (x * y) d ≡ remainder (x * remainder y d) d
 
 -- the size of a quotient in any ring with a size
 module _ {A : Type 0} {R : Ring A} (S : Sized R) (x d q r : A) (e : x ≡ R .add (R .mul q d) r) where
@@ -73,4 +77,7 @@ module _ (p : ℕ) (prime : Prime p) where
     quotient-exact = Exact.quotient-exact F;
     quotient-mul = Exact.quotient-mul F;
     remainder-mul = Exact.remainder-mul F;
+    remainder-short = Division.remainder-short F;
+    remainder-add = Division.remainder-add F;
+    remainder-factor = Division.remainder-factor F;
   }

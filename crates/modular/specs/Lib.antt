@@ -1,7 +1,7 @@
 -- interface, what contracts, other crates and documents cite: Bits, Prime, Primality, LargestPrime, Remainder, Modulo, Inverse,
---   Residue, Canonical, Closed, Coefficientwise, Product, Values, Arithmetic, Numbers, Carried, SizeLaws, DivisionLaws, MonicLaws,
---   GcdLaws, Lists, Delay, DelayLaws
--- inside: Total, Entries, Length, Step, LcmLaws, Examples
+--   Residue, Canonical, Closed, Coefficientwise, Product, Length, Values, Arithmetic, Numbers, Carried, SizeLaws, DivisionLaws,
+--   MonicLaws, GcdLaws, Lists, Delay, DelayLaws
+-- inside: Total, Entries, Step, LcmLaws, Examples
 pub mod Bits
 pub mod Prime
 pub mod Primality

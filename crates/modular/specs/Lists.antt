@@ -137,6 +137,19 @@ module _ (p : ℕ) (prime : Prime p) where
     unfolding numbers
     quotient-exact e = ap list (divisionLaws p prime .quotient-exact (f, hf) (d, hd) (remainder-divides e))
 
+    pub remainder-short : length f < length d → remainder o f d ≡ f
+    unfolding numbers
+    remainder-short l = ap list (divisionLaws p prime .remainder-short (f, hf) (d, hd) l)
+
+  module _ (f g d : List ℕ) (hf : Canonical p f) (hg : Canonical p g) (hd : Canonical p d) (some : 0 < length d) where
+    pub remainder-add : remainder o (add o f g) d ≡ add o (remainder o f d) (remainder o g d)
+    unfolding numbers
+    remainder-add = ap list (divisionLaws p prime .remainder-add (f, hf) (g, hg) (d, hd) some)
+
+    pub remainder-factor : remainder o (mul o f g) d ≡ remainder o (mul o f (remainder o g d)) d
+    unfolding numbers
+    remainder-factor = ap list (divisionLaws p prime .remainder-factor (f, hf) (g, hg) (d, hd) some)
+
   -- monic associate and greatest common divisor
   pub leading-monic : (f : List ℕ) → Canonical p f → 0 < length f → leading o (monic o f) ≡ 1
   leading-monic f hf = monicLaws p prime .monic-monic (f, hf)

@@ -15,8 +15,6 @@ impl Polynomial {
         if self.size != g.size {
             return false;
         }
-        let left = self.coefficients;
-        let right = g.coefficients;
-        same_words(&left, &right, self.size)
+        same_words(&self.coefficients, &g.coefficients, self.size)
     }
 }

@@ -4,7 +4,6 @@ use residue::modulus::Modulus;
 ghost use mathlib.Core.Path.{_≡_};
 ghost use mathlib.Core.List.{[]};
 ghost use Prim.Native.Nat.{ℕ, _+_, _<_, _≤_};
-ghost use lib.Dec.{eqb};
 ghost use lib.ListN.{length, getD};
 ghost use Rattle.algebra.specs.Coefficients.{one, leading};
 ghost use Rattle.modular.specs.Modulo.{modulo};
@@ -86,13 +85,5 @@ impl Polynomial {
         }
         let words = self.coefficients;
         words[n - 1]
-    }
-
-    // Tells whether the leading coefficient is 1.
-    pub fn is_monic(self) -> bool
-        requires { ⌜ self .size ≤ polynomialRoom ⌝ }
-        ensures { λ r. ⌜ ((p : ℕ) → r ≡ eqb (leading (modulo p) (coefficientsOf self)) 1) ⌝ }
-    {
-        self.leading() == 1
     }
 }

@@ -4,3 +4,4 @@ pub mod Adding
 pub mod Rest
 pub mod Step
 pub mod Dividing
+pub mod Sliding

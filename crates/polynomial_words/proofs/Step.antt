@@ -8,7 +8,7 @@ use native.Mathlib.Nat.{zero-mod, zero-mul, mod-lt, add-mod-mod, add-mul, mul-co
 use native.Mathlib.Omega.{arith}
 use lib.ListN.{length}
 use borrow.Author.Tests.{ne-eqb}
-use Rattle.algebra.specs.Coefficients.{Division, single, cons, coefficient, leading, add, negate, subtract, scale}
+use Rattle.algebra.specs.Coefficients.{Division, single, cons, coefficient, leading, add, negate, subtract, scale, shift}
 use Rattle.algebra.specs.Coefficients.{factor, extendDivision, divide}
 use Rattle.modular.specs.Modulo.{modulo}
 use Rattle.modular.specs.Canonical.{Canonical}
@@ -50,6 +50,21 @@ divide-short p (a ∷ f) d h short =
     ap (extendDivision (modulo p) d a) (divide-short p f d (canonical-tail p a f h) (omega arith))
     ∙ extend-is p d a (record { quotient = []; remainder = f }) (a ∷ f) 0 (cons-canonical p a f h) factor-zero
     ∙ ap (λ (g : List ℕ). record { quotient = []; remainder = g }) (subtract-nothing p (a ∷ f) d)
+
+-- x·f, where f is short: one step
+pub remainder-shift : (p : ℕ) (f d : List ℕ) → Canonical p f → length f < length d →
+    divide (modulo p) (shift (modulo p) 1 f) d .remainder
+    ≡ subtract (modulo p) (shift (modulo p) 1 f) (scale (modulo p) (factor (modulo p) d (shift (modulo p) 1 f)) d)
+unfolding modulo divide shift cons single
+remainder-shift p [] d h short =
+    let none : factor (modulo p) d [] ≡ 0 =
+    ap (λ (x : ℕ). x * modulo p .inverse (leading (modulo p) d) % p) (coefficient-beyond p [] (length d - 1) (omega arith))
+    ∙ ap (λ (x : ℕ). x % p) (zero-mul _) ∙ zero-mod p in
+    sym (ap (λ (c : ℕ). subtract (modulo p) [] (scale (modulo p) c d)) none ∙ subtract-nothing p [] d)
+remainder-shift p (a ∷ f) d h short =
+    let rest : Division ℕ = record { quotient = []; remainder = a ∷ f } in
+    ap (λ (w : Division ℕ). extendDivision (modulo p) d 0 w .remainder) (divide-short p (a ∷ f) d h short)
+    ∙ ap (λ (w : Division ℕ). w .remainder) (extend-is p d 0 rest (0 ∷ a ∷ f) _ refl refl)
 
 module _ (p : ℕ) (positive : 0 < p) where
   -- (p - c)·x is -(c·x)

@@ -6,13 +6,14 @@ use mathlib.Core.List.{List, [], _∷_}
 use Prim.Native.Nat.{ℕ, zero, suc, _+_, _-_, _*_, _%_, _≤_, _<_}
 use native.Mathlib.Nat.{zero-mod, mod-lt, add-mod, add-zero}
 use native.Mathlib.Omega.{arith}
-use lib.ListN.{getD, take, drop, length-take, List·getD-eq-default}
+use lib.ListN.{length, getD, take, drop, length-take, List·getD-eq-default}
 use lib.Seq.{getD-take, getD-drop}
 use Rattle.algebra.specs.Coefficients.{cons, coefficient, add, scale, shift}
 use Rattle.modular.specs.Modulo.{modulo}
 use Rattle.modular.specs.Canonical.{Canonical}
 use Rattle.modular.specs.Remainder.{mul-mod-mod}
-use Rattle.modular.specs.Coefficientwise.{coefficient-nil, coefficient-cons-zero, coefficient-cons-suc, coefficient-add}
+use Rattle.modular.specs.Coefficientwise.{coefficient-nil, coefficient-beyond, coefficient-cons-zero, coefficient-cons-suc}
+use Rattle.modular.specs.Coefficientwise.{coefficient-add}
 use Rattle.modular.specs.Coefficientwise.{coefficient-scale, coefficient-shift-below, coefficient-shift-from, canonical-same}
 use Rattle.modular.specs.Closed.{canonical-nil, canonical-cons, canonical-add, canonical-multiple}
 use Rattle.vector.specs.Stored.{below-or-not}
@@ -66,6 +67,20 @@ module _ (p : ℕ) (positive : 0 < p) where
       (λ lt. residue-same p (word-inside l a n j lt) ∙ e j lt ∙ sym (residue-same p (word-inside m b n j lt)))
       (λ ge. residue-same p (word-behind l a n j ge ∙ sym (word-behind m b n j ge)))
       (below-or-not j n))
+
+  -- fewer words are enough for a polynomial that has no more coefficients
+  pub polynomial-fewer : (l : List ℕ) (a n e : ℕ) → length (polynomial p l a n) ≤ e → e ≤ n
+      → polynomial p l a e ≡ polynomial p l a n
+  polynomial-fewer l a n e short le =
+      reduced-is (take e (drop a l)) (polynomial p l a n) (canonical-reduced (take n (drop a l)))
+      (λ i.
+      ⊎-elim
+      (λ lt.
+      let lt-n : i < n = omega arith in
+      residue-same p (word-inside l a e i lt ∙ sym (word-inside l a n i lt-n)) ∙ sym (coefficient-reduced (take n (drop a l)) i))
+      (λ ge.
+      residue-same p (word-behind l a e i ge) ∙ zero-mod p ∙ sym (coefficient-beyond p (polynomial p l a n) i (omega arith)))
+      (below-or-not i e))
 
   -- c times the words q, added from the place k on
   module _

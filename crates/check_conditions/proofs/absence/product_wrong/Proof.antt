@@ -1,7 +1,6 @@
 -- The sum is zero or not.
 use mathlib.Core.Path.{ap}
 use mathlib.Core.Bool.{not}
-use native.Mathlib.Nat.{zero-add}
 use Rattle.check_conditions.specs.Table.{productWrong}
 use Rattle.check_conditions.proofs.Tests.{zero-test}
 use borrow.Author.Needs.{needs}
@@ -9,7 +8,7 @@ use Rattle.check_conditions.proofs.absence.product_wrong.Statement.{sta
 use Rattle.check_conditions.proofs.absence.product_wrong.Tie as tie
 
 column-requires : tie.Need-column-requires
-column-requires c κs = let S = c .before .before in (rw zero-add (S .pre .0), S .pre .1)
+column-requires c κs = c .before .before .pre
 
 returns : tie.Need-returns
 unfolding productWrong

@@ -11,64 +11,58 @@ use Rattle.check_conditions.proofs.solution.try_denominators.Tie as tie
 
 polynomial-in-requires : tie.Need-polynomial-in-requires
 polynomial-in-requires c κs =
-    let loaded = c .before .before .before .pre .0 .certificate in
-    (loaded .dimensions .modulus, loaded .filled 0 (omega arith), omega arith)
-
-polynomial-in-requires-2 : tie.Need-polynomial-in-requires-2
-polynomial-in-requires-2 c κs =
-    let loaded = c .before .before .before .before .before .pre .0 .certificate in
+    let loaded = c .before .before .before .before .pre .0 .certificate in
     (loaded .dimensions .modulus, loaded .filled _ (omega arith), omega arith)
 
 quotient-requires : tie.Need-quotient-requires
 quotient-requires c κs =
-    let S = c .before .before .before .before .before .before .before .before .before in
+    let S = c .before .before .before .before .before .before .before .before in
     let m = S .pre .0 .certificate .dimensions .modulus in
-    let w = c .before .before .before .polynomial-in2 .ensures in
+    let w = c .before .before .before .polynomial-in .ensures in
     (m, w .valid, c .gcd .ensures .valid, gcd-some w (c .before .side .ensures) (c .gcd .ensures) (m .prime) (S .pre .1))
 
 monic-requires : tie.Need-monic-requires
 monic-requires c κs =
-    let S = c .before .before .before .before .before .before .before .before .before .before in
+    let S = c .before .before .before .before .before .before .before .before .before in
     (S .pre .0 .certificate .dimensions .modulus, c .quotient .ensures .valid)
 
-equal-requires : tie.Need-equal-requires
-equal-requires c κs = (
-  c .monic .ensures .valid .within,
-  c .before .before .before .before .before .before .before .polynomial-in .ensures .valid .within,
-)
+polynomial-in-requires-2 : tie.Need-polynomial-in-requires-2
+polynomial-in-requires-2 c κs =
+    let loaded = c .before .before .before .before .before .before .before .before .before .before .pre .0 .certificate in
+    (loaded .dimensions .modulus, loaded .filled 0 (omega arith), omega arith)
 
 returns : tie.Need-returns
 unfolding certified systemInSlots
 returns c =
-    let k = c .before .before in
+    let k = c .before .before .before in
     let g = k .before .before in
-    let d = g .before .before .before .before .before .polynomial-in .ensures in
-    let w = g .before .before .before .polynomial-in2 .ensures in
+    let w = g .before .before .before .polynomial-in .ensures in
     let value = certified-value w (g .before .side .ensures) (g .gcd .ensures) (k .before .quotient .ensures) (k .monic .ensures) in
+    let d = c .before .before .polynomial-in2 .ensures in
     denominators-same _ _ _ _ (equal-test value d (c .before .equal .ensures)) (c .if1 .taken)
 
 returns-2 : tie.Need-returns-2
 unfolding certified systemInSlots
 returns-2 c =
-    let k = c .before .before in
+    let k = c .before .before .before in
     let g = k .before .before in
-    let d = g .before .before .before .before .before .polynomial-in .ensures in
-    let w = g .before .before .before .polynomial-in2 .ensures in
+    let w = g .before .before .before .polynomial-in .ensures in
     let value = certified-value w (g .before .side .ensures) (g .gcd .ensures) (k .before .quotient .ensures) (k .monic .ensures) in
+    let d = c .before .before .polynomial-in2 .ensures in
     denominators-differ _ _ _ _ (equal-test value d (c .before .equal .ensures)) (c .if1 .left)
 
 pub try-denominators-spec : {M : Type 1} → statement M
 try-denominators-spec =
     tie.close
     (tie.spec
-    polynomial-in-requires
     (λ c. search needs)
-    polynomial-in-requires-2
+    polynomial-in-requires
     (λ c. search needs)
     (λ c κs. search needs)
     (λ c κs. search needs)
     quotient-requires
     monic-requires
-    equal-requires
+    polynomial-in-requires-2
+    (λ c κs. search needs)
     returns
     returns-2)

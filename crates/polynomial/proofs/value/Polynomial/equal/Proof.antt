@@ -13,31 +13,24 @@ use Rattle.polynomial.proofs.value.Polynomial.equal.Tie as tie
 returns : tie.Need-returns
 unfolding coefficientsOf
 returns c =
-    let S = c .before .before .before in
-    let f = S .args .self in
-    let g = S .args .g in
+    let S = c .before in
+    let f = S .args .t1 in
+    let g = S .args .t2 in
     let room-f : length (f .coefficients) ≡ polynomialRoom = search needs in
     let room-g : length (g .coefficients) ≡ polynomialRoom = search needs in
     compared-sizes (f .coefficients) (g .coefficients) (f .size) (g .size) (omega arith) (omega arith) (c .if1 .taken)
-
-same-words-requires : tie.Need-same-words-requires
-same-words-requires c κs =
-    let S = c .before .before .before .before .before .before .before in
-    let room-f : length (S .args .self .coefficients) ≡ polynomialRoom = search needs in
-    let room-g : length (S .args .g .coefficients) ≡ polynomialRoom = search needs in
-    (omega (arith, S .pre .0), omega (arith, S .pre .0))
 
 returns-2 : tie.Need-returns-2
 unfolding coefficientsOf
 returns-2 c =
     let S = c .before .before .before .before .before .before .before .before in
-    let same : S .args .self .size ≡ S .args .g .size = omega arith in
-    let f = S .args .self in
+    let same : S .args .t1 .size ≡ S .args .t2 .size = omega arith in
+    let f = S .args .t1 in
     subst
-    (λ (n : ℕ). Decides (c .same-words .result) (take (f .size) (f .coefficients) ≡ take n (S .args .g .coefficients)))
+    (λ (n : ℕ). Decides (c .same-words .result) (take (f .size) (f .coefficients) ≡ take n (S .args .t2 .coefficients)))
     same
     (c .same-words .ensures)
 
 pub equal-spec : {M : Type 1} → statement M
 equal-spec =
-    tie.close (tie.spec returns (λ c. search needs) (λ c. search needs) same-words-requires returns-2)
+    tie.close (tie.spec returns (λ c κs. search needs) returns-2)
