@@ -122,21 +122,21 @@ module _ {p : ℕ} (prime : Prime p) (z w : List ℕ) (hz : Canonical p z) (hw :
           (below-or-not i e)
 
   module _ {exit : List ℕ} (reduces : exit ≡ stored (λ j. getD moved j 0 % p) moved 0 (a + e)) where
-    pub started-room : length exit ≡ length window
+    started-room : length exit ≡ length window
     started-room = ap length reduces ∙ length-stored _ moved 0 (a + e) ∙ long
 
     reduced-word : (i : ℕ) → i < a + e → getD exit i 0 ≡ getD moved i 0 % p
     reduced-word i lt = ap (λ l. getD l i 0) reduces
         ∙ stored-first (λ j. getD moved j 0 % p) moved (a + e) i (omega (arith, room, long)) lt
 
-    pub started-value : polynomial p exit a e ≡ f
+    started-value : polynomial p exit a e ≡ f
     started-value =
         polynomial-same p positive exit moved a a e
         (λ j lt. residue-same p (reduced-word (a + j) (omega arith)) ∙ mod-mod (getD moved (a + j) 0) p)
         ∙ reduced-is p positive (take e (drop a moved)) f
         (subst (Canonical p) left (canonical-reduced p positive (take (length z) (drop 0 rest)))) word
 
-    pub started-window : ReducedFrom p exit a
+    started-window : ReducedFrom p exit a
     started-window = record {
       below = stored-all-first (λ i x. x < p) _ moved exit (a + e) reduces (omega (arith, room, long)) (λ j lt. mod-lt _ positive)
           (λ i ge. subst (λ x. x < p) (sym (kept i (inr (omega (arith, lesser))))) positive);
@@ -145,3 +145,7 @@ module _ {p : ℕ} (prime : Prime p) (z w : List ℕ) (hz : Canonical p z) (hw :
       where
         kept : (i : ℕ) → (i < a) ⊎ (a + m ≤ i) → getD moved i 0 ≡ 0
         kept i out = ap (λ l. getD l i 0) moves ∙ stored-outside _ window a m i out ∙ omega (arith, none i)
+
+    -- the remainder stands in the window, as long as it was
+    pub started : {n : ℕ} → length window ≡ n → (polynomial p exit a e ≡ f) × (ReducedFrom p exit a × (length exit ≡ n))
+    started same = (started-value, (started-window, started-room ∙ same))

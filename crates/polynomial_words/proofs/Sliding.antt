@@ -17,7 +17,7 @@ use Rattle.vector.specs.Bound.{AtMost, Reducible, at-most-stored}
 use Rattle.vector.specs.Reduced.{polynomial, canonical-reduced, coefficient-reduced, residue-same, word-inside}
 use Rattle.vector.specs.Reduced.{polynomial-same, polynomial-fewer}
 use Rattle.vector.specs.Multiple.{sumAt, GainsMultiple}
-use Rattle.vector.specs.Size.{length-polynomial}
+use Rattle.vector.specs.Size.{length-polynomial, word-past}
 use Rattle.polynomial_words.specs.Long.{Divisor}
 use Rattle.polynomial_words.specs.Window.{ReducedFrom}
 use Rattle.polynomial_words.proofs.Rest.{polynomial-first, reduced-canonical}
@@ -110,16 +110,24 @@ module _ {p : ℕ} (prime : Prime p) {h : List ℕ} (a : ℕ) {d : List ℕ} {e 
         word i lt = ap (λ l. getD l i 0) reduces
             ∙ stored-first (λ j. getD h′ j 0 % p) h′ (a + e + 1) i (omega (arith, same-room)) lt
 
-        pub slide-value : polynomial p h″ a e ≡ remainder (modulo p) xf W
-        slide-value =
-            let all : polynomial p h″ a (e + 1) ≡ remainder (modulo p) xf W =
-            polynomial-same p positive h″ h′ a a (e + 1) (λ j lt. residue-same p (word (a + j) (omega arith)) ∙ mod-mod
-            (getD h′ (a + j) 0) p)
-            ∙ taken-off in
+        one-more : polynomial p h″ a (e + 1) ≡ remainder (modulo p) xf W
+        one-more =
+            polynomial-same p positive h″ h′ a a (e + 1)
+            (λ j lt. residue-same p (word (a + j) (omega arith)) ∙ mod-mod (getD h′ (a + j) 0) p)
+            ∙ taken-off
+
+        small : length (polynomial p h″ a (e + 1)) ≤ e
+        small =
             let less = length-remainder p prime xf W
             (canonical-shift p positive 1 f (canonical-reduced p positive (take e (drop (a + 1) h)))) (divisor .canonical)
             (omega (arith, size-W)) in
-            polynomial-fewer p positive h″ a (e + 1) e (omega (arith, ap length all, less, size-W)) (omega arith) ∙ all
+            omega (arith, ap length one-more, less, size-W)
+
+        pub slide-value : polynomial p h″ a e ≡ remainder (modulo p) xf W
+        slide-value = polynomial-fewer p positive h″ a (e + 1) e small (omega arith) ∙ one-more
+
+        kept : (i : ℕ) → a + e + 1 ≤ i → getD h′ i 0 ≡ getD h i 0
+        kept i ge = ap (λ l. getD l i 0) words ∙ stored-outside _ h a (e + 1) i (inr (omega arith))
 
         pub slide-window : ReducedFrom p h″ a
         slide-window = record {
@@ -131,6 +139,15 @@ module _ {p : ℕ} (prime : Prime p) {h : List ℕ} (a : ℕ) {d : List ℕ} {e 
               (omega arith))
               ∙ zero-mod p;
         }
-          where
-            kept : (i : ℕ) → a + e + 1 ≤ i → getD h′ i 0 ≡ getD h i 0
-            kept i ge = ap (λ l. getD l i 0) words ∙ stored-outside _ h a (e + 1) i (inr (omega arith))
+
+        pub slide-rest : (getD h″ (a + e) 0 ≡ 0) × ((i : ℕ) → a + e < i → getD h″ i 0 ≡ getD h i 0)
+        slide-rest =
+            let inside : e < e + 1 = omega arith in (
+              sym (mod-eq-of-lt (slide-window .below (a + e)))
+                  ∙ residue-same p (sym (word-inside h″ a (e + 1) e inside))
+                  ∙ word-past p positive (take (e + 1) (drop a h″)) e small,
+              λ i gt.
+                  ap (λ l. getD l i 0) reduces
+                  ∙ stored-outside _ h′ 0 (a + e + 1) i (inr (omega arith))
+                  ∙ kept i (omega arith),
+            )

@@ -1,5 +1,5 @@
 -- The dividend is Z_i in words that were zeros; what is left of it goes to the window.
-use mathlib.Core.Path.{_≡_, ap, _∙_}
+use mathlib.Core.Path.{_≡_, ap}
 use mathlib.Core.List.{List}
 use Prim.Native.Nat.{ℕ, _+_, _-_, _≤_, _<_}
 use native.Mathlib.Omega.{arith}
@@ -10,7 +10,7 @@ use Rattle.residue.specs.Modulus.{ValidModulus}
 use Rattle.vector.specs.Bound.{zeros-none}
 use Rattle.check_conditions.specs.Walk.{windowWords}
 use Rattle.check_conditions.proofs.Starting.{divisor-of, copied-is, copied-small, cleared-none}
-use Rattle.check_conditions.proofs.Starting.{moved-reducible, started-room, started-value, started-window}
+use Rattle.check_conditions.proofs.Starting.{moved-reducible, started}
 use Rattle.check_conditions.proofs.walk.store_remainder.Statement.{statement}
 use Rattle.check_conditions.proofs.walk.store_remainder.Tie as tie
 
@@ -72,17 +72,9 @@ returns c =
     let none = cleared-none windowWords _ long (cleared .ensures) in
     let room : office .systemCoefficients + (length (S .args .w .now) - 1) ≤ length (cleared .last .0) = omega (arith, all, w .2) in
     let lesser = c .before .before .before .lesser .ensures in
-    let moved = c .before .before .copy2 .ensures in (
-      started-value (m .prime) (S .args .z .now) (S .args .w .now) (z .0) (w .0) (w .1) (office .systemCoefficients) _ is
-          (D .divide-words .ensures) (cleared .last .0) none room _ lesser moved (c .reduce-range .ensures),
-      (
-        started-window (m .prime) (S .args .z .now) (S .args .w .now) (z .0) (w .0) (w .1) (office .systemCoefficients) _ is
-            (D .divide-words .ensures) (cleared .last .0) none room _ lesser moved (c .reduce-range .ensures),
-        started-room (m .prime) (S .args .z .now) (S .args .w .now) (z .0) (w .0) (w .1) (office .systemCoefficients) _ is
-            (D .divide-words .ensures) (cleared .last .0) none room _ lesser moved (c .reduce-range .ensures)
-            ∙ all,
-      ),
-    )
+    started (m .prime) (S .args .z .now) (S .args .w .now) (z .0) (w .0) (w .1) (office .systemCoefficients) _ is
+    (D .divide-words .ensures) (cleared .last .0) none room _ lesser (c .before .before .copy2 .ensures)
+    (c .reduce-range .ensures) all
 
 pub store-remainder-spec : {M : Type 1} → statement M
 store-remainder-spec =

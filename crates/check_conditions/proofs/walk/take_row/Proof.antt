@@ -143,7 +143,7 @@ loop-again c =
     let D = S .args .dimensions in
     let entries : (j : ℕ) → j < D .columns → Canonical p (slot systemWidth (S .args .system .now) (S .args .i * D .columns + j)) =
     λ j lt. row-filled _ _ _ (S .pre .0 .0) _ (S .pre .0 .1) j lt .canonical in
-    walking-turn p prime _ hw some _ _ _ entries _ _ _ _ _ (L .inv) taken _ _ (added .0) (added .1) (search needs) (moved .1)
+    walking-turn p prime _ hw some _ _ _ entries _ _ _ _ _ (L .inv) taken _ _ (added .0) (added .1) (search needs) (moved .1 .0)
     (slid p prime _ hw some _ _ _ entries _ _ _ _ _ (L .inv) (omega (arith, most, taken)) _ (moved .0))
 
 returns : tie.Need-returns Inv-loop μ-loop

@@ -8,7 +8,7 @@ use borrow.Author.Needs.{needs}
 use Rattle.modular.specs.LargestPrime.{largestModulus}
 use Rattle.residue.specs.Modulus.{ValidModulus}
 use Rattle.residue.specs.Below.{mul-below, inverse-below}
-use Rattle.polynomial_words.proofs.Sliding.{slide-small, slide-reducible, slide-value, slide-window}
+use Rattle.polynomial_words.proofs.Sliding.{slide-small, slide-reducible, slide-value, slide-window, slide-rest}
 use Rattle.polynomial_words.proofs.shift.multiply_by_x.Statement.{statement}
 use Rattle.polynomial_words.proofs.shift.multiply_by_x.Tie as tie
 
@@ -63,10 +63,14 @@ returns c =
     let called = c .before .before .before .before .before .before .before .before .before .mul in
     let added = c .before .before .before .before .before .before .add-scaled in
     let reduced = c .before .before .reduce-range .ensures in (
-      slide-value (S .pre .0 .0 .prime) (S .args .a) (S .pre .1) (S .pre .0 .2) (S .pre .0 .1) (called .result)
-          (added .ensures .0) (called .ensures) (added .ensures .1) reduced,
-      slide-window (S .pre .0 .0 .prime) (S .args .a) (S .pre .1) (S .pre .0 .2) (S .pre .0 .1) (called .result)
-          (added .ensures .0) (called .ensures) (added .ensures .1) reduced,
+      slide-value (S .pre .0 .0 .prime) (S .args .a) (S .pre .1) (S .pre .0 .2) (S .pre .0 .1) (called .result) (added .ensures .0)
+          (called .ensures) (added .ensures .1) reduced,
+      (
+        slide-window (S .pre .0 .0 .prime) (S .args .a) (S .pre .1) (S .pre .0 .2) (S .pre .0 .1) (called .result)
+            (added .ensures .0) (called .ensures) (added .ensures .1) reduced,
+        slide-rest (S .pre .0 .0 .prime) (S .args .a) (S .pre .1) (S .pre .0 .2) (S .pre .0 .1) (called .result) (added .ensures .0)
+            (called .ensures) (added .ensures .1) reduced,
+      ),
     )
 
 pub multiply-by-x-spec : {M : Type 1} → statement M
