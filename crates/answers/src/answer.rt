@@ -2,14 +2,14 @@
 // case.
 
 // A refusal of document 01's table: its number, and its place.
-#[derive(Drop)]
+#[derive(Clone, Copy)]
 pub struct Refusal {
     pub number: u8,
     pub place: usize,
 }
 
 // What a call answers that counts words or bytes.
-#[derive(Drop)]
+#[derive(Clone, Copy)]
 pub enum Counted {
     // The number of words or bytes, from the first on.
     Count(usize),
@@ -18,7 +18,7 @@ pub enum Counted {
 }
 
 // What a call answers that judges.
-#[derive(Drop)]
+#[derive(Clone, Copy)]
 pub enum Verdict {
     // Nothing is turned back.
     Accepted,

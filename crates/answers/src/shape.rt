@@ -2,7 +2,7 @@
 use crate::answer::Refusal;
 
 // What a certificate must know of its system: p, and the numbers of rows and columns.
-#[derive(Drop)]
+#[derive(Clone, Copy)]
 pub struct Shape {
     pub modulus: u16,
     pub rows: u8,
@@ -10,14 +10,14 @@ pub struct Shape {
 }
 
 // What the head of a system says: its shape, and the number of its right sides.
-#[derive(Drop)]
+#[derive(Clone, Copy)]
 pub struct Head {
     pub shape: Shape,
     pub sides: u8,
 }
 
 // The two forms of certificates.
-#[derive(Drop)]
+#[derive(Clone, Copy)]
 pub enum Form {
     // d, N, w and Z.
     Solution,
@@ -26,7 +26,7 @@ pub enum Form {
 }
 
 // What reading a system finds.
-#[derive(Drop)]
+#[derive(Clone, Copy)]
 pub enum SystemRead {
     // The words are a written form within the limits, with this head.
     Accepted(Head),
@@ -34,7 +34,7 @@ pub enum SystemRead {
 }
 
 // What reading one line finds.
-#[derive(Drop)]
+#[derive(Clone, Copy)]
 pub enum LineRead {
     // The words are a written form within the limits that has this right side; the line's system has this shape.
     Accepted(Shape),
@@ -42,7 +42,7 @@ pub enum LineRead {
 }
 
 // What reading a certificate finds.
-#[derive(Drop)]
+#[derive(Clone, Copy)]
 pub enum CertificateRead {
     // The words are the written form of a certificate of this form within the limits.
     Accepted(Form),

@@ -8,7 +8,7 @@ use libc::{SEEK_END, STDERR_FILENO};
 use streams::{StreamRead, read_start};
 
 // What is known of a file.
-#[derive(Drop)]
+#[derive(Clone, Copy)]
 pub enum File {
     // Its length. As many of its bytes as there is room for stand at the start of the space lent.
     Length(usize),
@@ -17,7 +17,7 @@ pub enum File {
 }
 
 // What reading to the end finds.
-#[derive(Drop)]
+#[derive(Clone, Copy)]
 enum End {
     // The length of what was read.
     At(usize),

@@ -1,6 +1,7 @@
 // cardcheck SHEET CARD [SIDE]: prints on standard output whether the card (a certificate) in the one file is accepted for right
 // side SIDE, 0 where it is not given, of the sheet (a system) in the other, or the number and the place of the refusal, and nothing
 // else. Where there is no verdict, says why on standard error.
+#![tactic(auto)]
 mod file;
 mod line;
 mod name;

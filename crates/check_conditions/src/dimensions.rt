@@ -1,7 +1,7 @@
 // What every step is told of the areas.
 use residue::modulus::Modulus;
 
-#[derive(Drop)]
+#[derive(Clone, Copy)]
 pub struct Dimensions {
     pub modulus: Modulus,
     pub rows: usize,

@@ -1,4 +1,5 @@
 // Division of polynomials modulo a prime, and what is made of it: remainder, quotient and greatest common divisor.
+#![tactic(auto)]
 ghost use Rattle.std.specs.Prelude.{◌<◌};
 ghost use Rattle.algebra.specs.Coefficients.{quotient, remainder};
 ghost use Rattle.modular.specs.Modulo.{modulo};
@@ -15,7 +16,7 @@ pub mod euclid;
 pub use euclid::gcd;
 
 // What a division gives.
-#[derive(Drop)]
+#[derive(Clone, Copy)]
 pub struct Division {
     pub quotient: Polynomial,
     pub remainder: Polynomial,

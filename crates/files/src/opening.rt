@@ -38,7 +38,7 @@ pub const SYSTEM_SPACE: usize = Office::SYSTEM_WORDS + 1;
 pub const CERTIFICATE_SPACE: usize = Office::CERTIFICATE_WORDS + 1;
 
 // What opening two files finds.
-#[derive(Drop)]
+#[derive(Clone, Copy)]
 pub enum FilesOpened {
     // How many words there are of the system, and of the certificate.
     Words(usize, usize),

@@ -1,4 +1,5 @@
 // The limits of document 01, "Bounds", and of the panel: constants of two types, and a value to hand to functions.
+#![tactic(auto)]
 ghost use Rattle.std.specs.Prelude.{◌≡◌};
 ghost use Rattle.words.specs.Limits.{office, panel, longest_system, longest_certificate, words_for};
 ghost use Rattle.limits.specs.Value.{limits_of};
@@ -6,7 +7,7 @@ ghost use Rattle.limits.specs.Value.{limits_of};
 use answers::word::WORD_BYTES;
 
 // Limits that are handed to a function.
-#[derive(Drop)]
+#[derive(Clone, Copy)]
 pub struct Limits {
     // The most rows, and the most columns.
     pub rows: u8,
@@ -47,7 +48,7 @@ impl Limits {
 }
 
 // The office's limits.
-#[derive(Drop)]
+#[derive(Clone, Copy)]
 pub struct Office;
 
 impl Office {
@@ -104,7 +105,7 @@ impl Office {
 }
 
 // The panel's limits.
-#[derive(Drop)]
+#[derive(Clone, Copy)]
 pub struct Panel;
 
 impl Panel {

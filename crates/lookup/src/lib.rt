@@ -1,5 +1,6 @@
 // The lookup of one polynomial of a system or of a certificate (document 01, end of "Turned back"). `lookup_part` says where it
 // stands, `lookup` returns that part of the lent words, and its companion `lookup_refusal` says why there is none.
+#![tactic(auto)]
 pub mod part;
 
 ghost use Rattle.std.specs.Prelude.{◌≡◌};
@@ -15,7 +16,7 @@ use reader::certificate::read_certificate;
 use reader::system::read_system;
 
 // Of which of the two a polynomial is asked for.
-#[derive(Drop)]
+#[derive(Clone, Copy)]
 pub enum Of {
     // Among A's, row by row, and those of the right sides, one after another.
     System,

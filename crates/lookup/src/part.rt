@@ -9,7 +9,7 @@ use answers::Refusal;
 use read_frame::word::{kind_of, payload_of};
 
 // Where a polynomial stands in the words of its system or certificate.
-#[derive(Drop)]
+#[derive(Clone, Copy)]
 pub enum Part {
     // From the first place up to before the second.
     Words(usize, usize),

@@ -46,14 +46,14 @@ module _ (p : ℕ) (large : 1 < p) where
     add_assoc = λ x y z. residue_ext _ _ (
         mod-add-mod (x.value + y.value) p z.value ∙ ap (λ a. a % p) (add_assoc x.value y.value z.value)
         ∙ sym (add-mod-mod x.value (y.value + z.value) p));
-    add-zero = λ x. residue_ext _ _ (ap (λ a. a % p) (add-zero x.value) ∙ mod-eq_of_lt x.below);
+    add_zero = λ x. residue_ext _ _ (ap (λ a. a % p) (add-zero x.value) ∙ mod-eq_of_lt x.below);
     add_neg = λ x. residue_ext _ _ (add-mod-mod x.value (p - x.value) p ∙ ap (λ a. a % p) (whole x) ∙ mod_self p);
     mul_comm = λ x y. ap reduce (mul_comm x.value y.value);
     mul_assoc = λ x y z. residue_ext _ _ (
         mod_mul_mod (x.value * y.value) z.value p ∙ ap (λ a. a % p) (mul_assoc x.value y.value z.value)
         ∙ sym (mul_mod_mod x.value (y.value * z.value) p));
-    mul-one = λ x. residue_ext _ _ (ap (λ a. a % p) (mul-one x.value) ∙ mod-eq_of_lt x.below);
-    mul-add = λ x y z. residue_ext _ _ (
+    mul_one = λ x. residue_ext _ _ (ap (λ a. a % p) (mul-one x.value) ∙ mod-eq_of_lt x.below);
+    mul_add = λ x y z. residue_ext _ _ (
         mul_mod_mod x.value (y.value + z.value) p
         ∙ ap (λ a. a % p) (mul-add x.value y.value z.value)
         ∙ add-mod (x.value * y.value) (x.value * z.value) p);

@@ -15,7 +15,7 @@ use residue::modulus::Modulus;
 pub const POLYNOMIAL_ROOM: usize = 256;
 
 // `size` coefficients, lowest power first, the last not 0, and zeros behind them.
-#[derive(Drop)]
+#[derive(Clone, Copy)]
 pub struct Polynomial {
     pub size: usize,
     pub coefficients: [u64; POLYNOMIAL_ROOM],

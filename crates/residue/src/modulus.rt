@@ -12,7 +12,7 @@ pub const BOUND_32: u64 = 4294967296;
 
 // A prime p of 16 bits, the shift by which 2 * 2^shift <= p < 4 * 2^shift, and 2^32 * 2^shift / p rounded down, with which a
 // remainder by p takes multiplications and shifts only.
-#[derive(Drop)]
+#[derive(Clone, Copy)]
 pub struct Modulus {
     pub p: u64,
     pub shift: u32,

@@ -6,7 +6,7 @@ use Rattle.std.proofs.Common.{◌∙◌, arith}
 use mathlib.Core.List.{List, [], ◌∷◌}
 use Rattle.std.proofs.Math.Nat.{add-suc, mul-suc, add-zero as addₙ-zero, mul-zero as mulₙ-zero}
 use Rattle.ring.specs.Ring.{Ring, zero_add, neg_add, add_mul, add_left_comm, mul_left_comm, add_add_add_comm, add_cancel}
-use Rattle.ring.specs.Ring.{mul-zero, zero_mul, neg_neg, neg_zero, neg_add_distrib, mul_neg, neg_mul}
+use Rattle.ring.specs.Ring.{mul_zero, zero_mul, neg_neg, neg_zero, neg_add_distrib, mul_neg, neg_mul}
 
 infixl 65 ◌:+◌
 infixl 65 ◌:-◌
@@ -96,7 +96,7 @@ module _ {A : Type 0} (R : Ring A) where
     one as 𝟙,
     add_comm,
     add_assoc,
-    add-zero,
+    add_zero,
     add_neg,
     mul_comm,
     mul_assoc,
@@ -142,12 +142,12 @@ module _ {A : Type 0} (R : Ring A) where
 
   nat_add : (m n : ℕ) → nat (m +ₙ n) ≡ nat m + nat n
   unfolding nat
-  nat_add m zero = rw addₙ-zero (sym (add-zero (nat m)))
+  nat_add m zero = rw addₙ-zero (sym (add_zero (nat m)))
   nat_add m (suc n) = rw add-suc (ap (λ x. x + 𝟙) (nat_add m n) ∙ add_assoc (nat m) (nat n) 𝟙)
 
   nat_mul : (m n : ℕ) → nat (m *ₙ n) ≡ nat m * nat n
   unfolding nat
-  nat_mul m zero = rw mulₙ-zero (sym (mul-zero R (nat m)))
+  nat_mul m zero = rw mulₙ-zero (sym (mul_zero R (nat m)))
   nat_mul m (suc n) = rw mul-suc (nat_add (m *ₙ n) m ∙ ap₂ ◌+◌ (nat_mul m n) (sym (mul_one (nat m)))
       ∙ sym (mul_add (nat m) (nat n) 𝟙))
 
@@ -174,7 +174,7 @@ module _ {A : Type 0} (R : Ring A) where
 
   int_one : int 1 0 ≡ 𝟙
   unfolding int nat
-  int_one = ap₂ ◌+◌ (zero_add R 𝟙) (neg_zero R) ∙ add-zero 𝟙
+  int_one = ap₂ ◌+◌ (zero_add R 𝟙) (neg_zero R) ∙ add_zero 𝟙
 
   int_add : (a b c d : ℕ) → int (a +ₙ c) (b +ₙ d) ≡ int a b + int c d
   unfolding int
@@ -196,7 +196,7 @@ module _ {A : Type 0} (R : Ring A) where
       two x y z w = nat_add (x *ₙ y) (z *ₙ w) ∙ ap₂ ◌+◌ (nat_mul x y) (nat_mul z w)
 
   add_mul_zero : (a x z : A) → z ≡ 𝟘 → a + x * z ≡ a
-  add_mul_zero a x z e = ap (λ y. a + x * y) e ∙ ap (λ y. a + y) (mul-zero R x) ∙ add-zero a
+  add_mul_zero a x z e = ap (λ y. a + x * y) e ∙ ap (λ y. a + y) (mul_zero R x) ∙ add_zero a
 
   hh_ok : (p q : H) (ρ : List A) → ev_H (hh p q) ρ ≡ ev_H p (tl ρ) + hd ρ * ev_H q ρ
   unfolding ev_H
@@ -265,7 +265,7 @@ module _ {A : Type 0} (R : Ring A) where
 
   var_H_ok : (i : ℕ) (ρ : List A) → ev_H (var_H i) ρ ≡ at ρ i
   unfolding ev_H
-  var_H_ok zero [] = simp (int_zero, zero_mul R, add-zero)
+  var_H_ok zero [] = simp (int_zero, zero_mul R, add_zero)
   var_H_ok zero (x ∷ ρ) = simp (int_zero, int_one, zero_add R, mul_one)
   var_H_ok (suc i) [] = add_mul_zero (ev_H (var_H i) []) 𝟘 (int 0 0) int_zero ∙ var_H_ok i []
   var_H_ok (suc i) (x ∷ ρ) = add_mul_zero (ev_H (var_H i) ρ) x (int 0 0) int_zero ∙ var_H_ok i ρ

@@ -1,1 +1,2 @@
 // Commutative rings: definitions and laws, in specs/. No code.
+#![tactic(auto)]

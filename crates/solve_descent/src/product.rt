@@ -9,7 +9,7 @@ use residue::modulus::Modulus;
 use vector::add_scaled;
 
 // Where the coefficients of a polynomial stand in an array: `count` of them, at `at`, `at + step`, `at + 2·step`, ..
-#[derive(Drop)]
+#[derive(Clone, Copy)]
 pub struct Terms {
     pub at: usize,
     pub step: usize,

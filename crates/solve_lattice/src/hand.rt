@@ -2,7 +2,7 @@
 
 // The number of words of the block up to the last that is not 0 modulo p, that word modulo p, and a number of words of the
 // tail behind which all are 0 modulo p.
-#[derive(Drop)]
+#[derive(Clone, Copy)]
 pub struct Hand {
     pub size: usize,
     pub leading: u64,

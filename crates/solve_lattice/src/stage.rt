@@ -2,7 +2,7 @@
 use residue::modulus::Modulus;
 
 // The stage of an ascent: a system of `rows` rows and `columns` columns modulo p, the first `column` of which are in the level.
-#[derive(Drop)]
+#[derive(Clone, Copy)]
 pub struct Stage {
     pub rows: usize,
     pub columns: usize,

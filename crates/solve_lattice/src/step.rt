@@ -12,7 +12,7 @@ use vector::{Leading, add_scaled, find_leading_near};
 
 // What a step leaves of the block: a number of words behind which all are 0 modulo p, the last of them modulo p, or 0 where that
 // is not known, the number of words that are left to look at where it is 0, and the factor of the multiple.
-#[derive(Drop)]
+#[derive(Clone, Copy)]
 pub struct Remains {
     pub size: usize,
     pub leading: u64,

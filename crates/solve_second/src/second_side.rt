@@ -13,7 +13,7 @@ use crate::lane::{copy_lane, transpose_lane};
 use solve_lattice::{BLOCK, LANES, LAST_LANE, Level, Product, SIZES, SLOT, TAIL_SIZES};
 
 // The right side of a second system.
-#[derive(Drop)]
+#[derive(Clone, Copy)]
 pub enum Side {
     // The tails of the level's slots.
     Tails,

@@ -1,5 +1,6 @@
 // Standard input and standard output of the programs, and how much of a file they look at. What fails is said on standard error,
 // with the system's reason. `side` reads the number of a right side.
+#![tactic(auto)]
 pub mod side;
 
 ghost use Rattle.std.specs.Prelude.{◌≡◌, length};
@@ -17,7 +18,7 @@ pub const SYSTEM_SPACE: usize = Office::SYSTEM_BYTES + 1;
 pub const FILE_SPACE: usize = WORD_BYTES * (Office::CERTIFICATE_WORDS + 2);
 
 // What reading gives.
-#[derive(Drop)]
+#[derive(Clone, Copy)]
 pub enum StreamRead {
     // The number of bytes read, which stand at the start of the space lent.
     Bytes(usize),

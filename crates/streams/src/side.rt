@@ -6,7 +6,7 @@ ghost use Rattle.streams.specs.Side.{zero_digit, number_written, most_side, at_m
 const MOST_SIDE: usize = 65535;
 
 // What an argument says.
-#[derive(Drop)]
+#[derive(Clone, Copy)]
 pub enum SideAsked {
     // A number.
     Number(usize),

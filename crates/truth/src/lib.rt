@@ -1,1 +1,2 @@
 // Why an accepted certificate tells the truth: definitions and laws, in specs/. No code.
+#![tactic(auto)]

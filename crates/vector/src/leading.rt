@@ -11,7 +11,7 @@ use crate::sum::ROW_WORDS;
 use residue::modulus::Modulus;
 
 // The number of a polynomial's coefficients, and the last of them; both 0 for the zero polynomial.
-#[derive(Drop)]
+#[derive(Clone, Copy)]
 pub struct Leading {
     pub size: usize,
     pub value: u64,

@@ -9,7 +9,7 @@ use residue::modulus::BOUND_32;
 pub const ROW_WORDS: usize = 8;
 
 // Four words.
-#[derive(Drop)]
+#[derive(Clone, Copy)]
 pub struct Four {
     pub first: u64,
     pub second: u64,

@@ -1,6 +1,7 @@
 // The check (document 01, "Turned back") of a certificate for one right side: reads the system and tries whether it has that right
 // side, then reads the certificate, then tries 41 where limits are kept beside the office's, then 31 to 36, which are in
 // `check_conditions`. On files: `file::check_files`; on the panel: `panel::check_panel`.
+#![tactic(auto)]
 pub mod file;
 mod loading;
 pub mod panel;

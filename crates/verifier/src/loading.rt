@@ -26,7 +26,7 @@ use reader::line::read_sided;
 use residue::modulus::Modulus;
 
 // What reading both finds.
-#[derive(Drop)]
+#[derive(Clone, Copy)]
 pub enum BothFound {
     // The head of the system, and the form of the certificate.
     Read(Head, Form),
@@ -34,7 +34,7 @@ pub enum BothFound {
 }
 
 // What loading both finds.
-#[derive(Drop)]
+#[derive(Clone, Copy)]
 pub enum Loading {
     // Both stand in their areas.
     Loaded(Dimensions, Form),

@@ -1,7 +1,7 @@
 // What differs between a system and a certificate as words.
 
 // The head, the number of polynomials, how they lie in arrays, and the limits that they keep.
-#[derive(Drop)]
+#[derive(Clone, Copy)]
 pub struct Format {
     // The head word.
     pub head: u32,

@@ -13,7 +13,7 @@ use limits::Office;
 use write_frame::format::Format;
 
 // What is written: a matrix with so many right sides, or a certificate of that form.
-#[derive(Drop)]
+#[derive(Clone, Copy)]
 pub enum Kind {
     System(u32),
     Certificate(Form),
