@@ -7,6 +7,7 @@ NAMES is the names.json that `rt check --generated FOLDER --old-names` writes. E
 each answer to Answers.antt, under today's names of goals and steps; what the last line passed inline and is no more than a tactic is
 dropped, since the check tries tactics itself. It prints what it could not place.
 """
+import glob
 import json
 import os
 import re
@@ -16,10 +17,62 @@ TOKEN = r"[^\s(){}\[\],;.\"`|\\:=]+"
 TRIVIAL = re.compile(r"^\(?λ c( κs)?\. (omega arith|search rules|search \(rules, arith\)|refl|cc)\)?$")
 # fields of the library's records that a step may be named like
 ALIKE = {"mul", "add", "neg", "sub", "inverse", "zero", "one"}
+PLAIN = re.compile(r"^(u8|u16|u32|u64|usize|bool|i32|i64)$")
+HELD = {"args", "new", "auto", "ranges", "type_inv", "initial", "fn"}
 
 
 def key(name):
     return name.replace("-", "_")
+
+
+def functions():
+    """The parameters of each function that hold more than a number, by the function's name."""
+    found = {}
+    for path in glob.glob("crates/*/src/*.rt"):
+        with open(path, encoding="utf-8") as f:
+            text = re.sub(r"//.*", "", f.read())
+        for m in re.finditer(r"\bfn (\w+)(?:<[^>]*>)?\(", text):
+            depth, i = 1, m.end()
+            while depth:
+                depth += {"(": 1, "[": 1, ")": -1, "]": -1}.get(text[i], 0)
+                i += 1
+            params, depth, now = [], 0, ""
+            for ch in text[m.end():i - 1] + ",":
+                depth += {"(": 1, "[": 1, "<": 1, ")": -1, "]": -1, ">": -1}.get(ch, 0)
+                if ch == "," and depth == 0:
+                    if now.strip():
+                        params.append(now.strip())
+                    now = ""
+                else:
+                    now += ch
+            held = []
+            for p in params:
+                name, _, kind = p.partition(":")
+                name = name.replace("&", "").replace("mut ", "").strip()
+                if not PLAIN.match(kind.strip()):
+                    held.append(name)
+            clauses = text[i:text.find("{\n", i) if text.find("\n{\n", i) < 0 else text.find("\n{\n", i)]
+            end = re.search(r"^\s*\{\s*$", text[i:], re.M)
+            clauses = text[i:i + end.start()] if end else clauses
+            names = {k: re.findall(r"\b" + k + r"(?: (\w+))? \{", clauses) for k in ("requires", "ensures")}
+            found.setdefault(m.group(1), (held, names))
+    return found
+
+
+def clause_of(fields, path):
+    """The field of a clause for a right-nested path, and what is left of the path."""
+    n, i = 0, 0
+    while i < len(path) and path[i] == "1" and n < len(fields) - 1:
+        n += 1
+        i += 1
+    if n < len(fields) - 1:
+        if i >= len(path) or path[i] != "0":
+            return None
+        i += 1
+    return fields[n], path[i:]
+
+
+FUNCTIONS = functions()
 
 
 def blocks_of(text):
@@ -34,7 +87,6 @@ def blocks_of(text):
             now.append(line)
     if now:
         blocks.append(now)
-    # a continued block: all lines indented
     out = []
     for block in blocks:
         if out and block[0].startswith(" "):
@@ -44,40 +96,74 @@ def blocks_of(text):
     return out
 
 
-def args_of(text):
-    """The arguments of an application, as texts."""
+def split_top(text, at):
+    """Splits at a character outside brackets."""
     out, depth, now = [], 0, ""
     for ch in text:
         if ch in "([{":
             depth += 1
         if ch in ")]}":
             depth -= 1
-        if ch.isspace() and depth == 0:
-            if now:
-                out.append(now)
+        if (ch == at or (at == " " and ch.isspace())) and depth == 0:
+            out.append(now)
             now = ""
         else:
-            now += " " if ch.isspace() and now.endswith(" ") is False and ch == "\n" else ch
-    if now:
-        out.append(now)
-    return [re.sub(r"\s+", " ", a) for a in out]
+            now += ch
+    out.append(now)
+    return [p for p in (re.sub(r"\s+", " ", p).strip() if at == " " else p.strip() for p in out) if p]
+
+
+def parts_of(term, n):
+    """The n parts of a right-nested tuple, or None."""
+    term = term.strip()
+    if n == 1:
+        return [term]
+    if not (term.startswith("(") and term.endswith(")")):
+        return None
+    depth = 0
+    for i, ch in enumerate(term):
+        depth += {"(": 1, ")": -1}.get(ch, 0)
+        if depth == 0 and i < len(term) - 1:
+            return None
+    parts = split_top(term[1:-1], ",")
+    if len(parts) < 2:
+        return None
+    if len(parts) > 2:
+        head, rest = parts[0], "(" + ", ".join(parts[1:]) + ")"
+        if len(parts) == n:
+            return parts
+    else:
+        head, rest = parts
+    tail = parts_of(rest, n - 1)
+    return None if tail is None else [head] + tail
 
 
 class Names:
     def __init__(self, entry):
-        self.labels, self.places, self.needs = {}, {}, {}
+        self.labels, self.places, self.needs, self.callee, self.arms = {}, {}, {}, {}, []
         for place, by_name in zip(entry["places"], entry["places_by_name"]):
             self.places[key(place[0])] = by_name
             old, new = place[2]
             if old:
                 self.labels.setdefault(key(old), new)
+            if place[3]:
+                self.callee[new] = place[3].split("::")[-1]
+        for arm in entry["arms"]:
+            if arm:
+                for field, label, path in arm[2]:
+                    if path:
+                        self.arms.append(([key(label)] + path, [arm[0], field]))
+        self.cited = set()
+        self.arms.sort(key=lambda a: -len(a[0]))
         for old, new in entry["needs"]:
             self.needs.setdefault(key(old), new)
         self.order = [new for _, new in entry["needs"]]
-        self.settled = entry["settled"]
+        self.asked = entry["asked"]
+        self.pre = entry["pre"]["fields"] if entry["pre"] else None
         self.loops = {}
         for (pair, names), changed in zip(entry["loops"], entry["changed"]):
             self.loops[key(pair[0])] = (pair[1], names, changed)
+        self.loop_labels = {pair[1] for pair, _ in entry["loops"]}
 
 
 def need_of(names, label):
@@ -92,24 +178,121 @@ def need_of(names, label):
     return None
 
 
-def turn(text, names):
-    prior = None
-    while prior != text:
-        prior = text
-        text = re.sub(r"\.before(?![\w'-])", "", text)
+def turn_chain(chain, names, said):
+    parts = chain.split(".")[1:]
+    parts = [p for p in parts if p != "before"]
+    out, i = [], 0
+    while i < len(parts):
+        name = parts[i]
+        last = out[-1] if out else None
+        if last in HELD or last in names.loop_labels:
+            if last == "requires":
+                pass
+            if last in names.loop_labels and name == "inv":
+                name = "invariant"
+            if last in ("new", "auto") and re.match(r"^[01]$", name) and len(out) > 1 and out[-2] in names.callee:
+                n = 0
+                while i < len(parts) and parts[i] == "1":
+                    n += 1
+                    i += 1
+                if i < len(parts) and parts[i] == "0":
+                    i += 1
+                held = FUNCTIONS.get(names.callee[out[-2]], ([], {}))[0]
+                if n < len(held):
+                    out.append(held[n])
+                else:
+                    out.append(f"LOST-{n}")
+                continue
+            out.append(key(name) if not re.match(r"^[01]$", name) else name)
+            i += 1
+            continue
+        for old, new in names.arms:
+            if [key(p) for p in parts[i:i + len(old)]] == old:
+                out += new
+                i += len(old)
+                break
+        else:
+            k = key(name)
+            if last == "requires" and len(out) == 1 and names.pre and re.match(r"^\d$", name):
+                found = clause_of(names.pre, parts[i:])
+                if found:
+                    out.append(found[0])
+                    i = len(parts) - len(found[1])
+                    continue
+                out.append(name)
+            elif last == "ensures" and len(out) > 1 and out[-2] in names.callee and re.match(r"^\d$", name):
+                fields = FUNCTIONS.get(names.callee[out[-2]], ([], {}))[1].get("ensures", [])
+                found = clause_of(fields, parts[i:]) if len(fields) > 1 else None
+                if found:
+                    out.append(found[0])
+                    i = len(parts) - len(found[1])
+                    continue
+                out.append(name)
+            elif k in names.labels and not names.labels[k].endswith("-1") and (i + 1 < len(parts) or name not in ALIKE):
+                out.append(names.labels[k])
+            elif k in names.labels and names.labels[k].endswith("-1") and i + 1 < len(parts) and parts[i + 1] in ("given", "is"):
+                out.append(names.labels[k])
+            elif "-" in name and not re.match(r"(not|in|if|for|loop)-", name):
+                out.append(k)
+            else:
+                out.append(name)
+            i += 1
+    return "".join("." + p for p in out)
 
-    def label(m):
-        name = m.group(1)
-        after = text_now[m.end():m.end() + 1]
-        k = key(name)
-        if k in names.labels and (after == "." or name not in ALIKE):
-            return "." + names.labels[k]
-        if "-" in name and not re.match(r"(not|in|if|for)-", name):
-            return "." + k
-        return m.group(0)
 
-    text_now = text
-    return re.sub(r"(?<!goal)\.(" + TOKEN + r")", label, text)
+def turn(text, names, said):
+    text = _turn(text, names, said)
+    if names.pre:
+        for alias in set(re.findall(r"let (\S+) = \S+?\.requires in", text)):
+            text = re.sub(r"(?<![\w'-])" + re.escape(alias) + r"((?:\.[01])+)(?![\w])",
+                          lambda m: named(alias, names.pre, m.group(1).split(".")[1:]), text)
+    return text
+
+
+def named(alias, fields, path):
+    found = clause_of(fields, path)
+    return alias + "".join("." + p for p in (path if found is None else [found[0]] + found[1]))
+
+
+def _turn(text, names, said):
+    return re.sub(r"(?<!goal)(?:\.(?:" + TOKEN + r"))+", lambda m: turn_chain(m.group(0), names, said), text)
+
+
+def types(text, names):
+    """Contexts by their new names, with no arguments."""
+    atom = r"(?:\s+(?:\([^()]*\)|reads\.\w+|[\w-]+reads\.\w+|(?:invariant|decreases)-[\w-]+))*"
+    return re.sub(r"\b(?:tie|lts)\.((?:After|In|At|Then|Else|Start|Join|Past|Loop)[\w'-]*)" + atom,
+                  lambda t: place(names.places.get(key(t.group(1)), "LOST-" + t.group(1)), names), text)
+
+
+def place(name, names):
+    names.cited.add(name)
+    return "The-" + name
+
+
+def final_of(text):
+    """Where the last term begins: behind the last 'in' of its lets."""
+    at = 0
+    depth = 0
+    for m in re.finditer(r"[(\[{]|[)\]}]|(?<![\w'-])in(?![\w'-])", text):
+        if m.group(0) in "([{":
+            depth += 1
+        elif m.group(0) in ")]}":
+            depth -= 1
+        elif depth == 0:
+            at = m.end()
+    return at
+
+
+def as_record(value, fields):
+    at = final_of(value)
+    head, term = value[:at], value[at:]
+    lead = re.match(r"\s*", term).group(0)
+    parts = parts_of(term, len(fields))
+    if parts is None:
+        return f"{head}{lead}let r = {term.strip()} in record {{ " + "; ".join(
+            f"{f} = r.{'1.' * i}{'0' if i < len(fields) - 1 else ''}".rstrip(".") for i, f in enumerate(fields)) + " }"
+    return f"{head}{lead}record {{\n      " + ";\n      ".join(f"{f} = {p}" for f, p in zip(fields, parts)) + ";\n    }"
 
 
 def convert(crate, folder, module, entry, said):
@@ -117,28 +300,24 @@ def convert(crate, folder, module, entry, said):
     with open(path, encoding="utf-8") as f:
         text = f.read()
     names = Names(entry)
-    head, invariants, answers = [], [], []
-    uses = []
-    renamed = {}
-    blocks = blocks_of(text)
+    head, invariants, answers, uses, rest = [], [], [], [], []
     spec = None
-    rest = []
-    for block in blocks:
+    text = re.sub(r"^(use [^\n]*) as\n\s+", r"\1 as ", text, flags=re.M)
+    for block in blocks_of(text):
         body = [line for line in block]
-        while body and (body[0].startswith("--") or body[0].startswith("use ")):
-            (uses if body[0].startswith("use ") else head).append(body.pop(0))
-        if not body:
-            continue
-        # comments that led this block
         lead = []
-        if block[0].startswith("--"):
-            taken = [line for line in block if line.startswith("--")]
-            if not any(line.startswith("use ") for line in block):
-                lead = taken
-                for line in taken:
-                    head.remove(line)
+        while body and (body[0].startswith("--") or body[0].startswith("use ")):
+            line = body.pop(0)
+            if line.startswith("use "):
+                head += lead
+                lead = []
+                uses.append(line)
+            else:
+                lead.append(line)
+        if not body:
+            head += lead
+            continue
         rest.append((lead, body))
-    measures = {}
     for lead, body in rest:
         first = body[0]
         joined = "\n".join(body)
@@ -149,67 +328,65 @@ def convert(crate, folder, module, entry, said):
                 said.append(f"{folder}: no loop {m.group(2)}")
                 continue
             new, fields, changed = loop
-            equation = "\n".join(line for line in body[1:])
-            d = re.match(r"\S+((?:\s+[^\s=]+)*)\s*=\s*(.*)$", equation, re.S)
-            params = d.group(1).split()
-            value = d.group(2)
+            d = re.match(r"\S+((?:\s+[^\s=]+)*)\s*=(\s*.*)$", "\n".join(body[1:]), re.S)
+            params, value = d.group(1).split(), d.group(2)
             want = [(f, "initial" if c else "now") for f, c in zip(fields, changed)] + [(f, "now") for f, c in zip(fields, changed) if c]
             if len(params) != len(want):
                 said.append(f"{folder}: {m.group(0)} has {len(params)} parameters, not {len(want)}: {params} {want}")
+            tokens = set(re.findall(TOKEN, value)) - set(params)
+            at = next(v for v in ("l", "turn", "now") if v not in tokens)
             subst = {}
             for name, (field, when) in zip(params, want):
                 if name != "_":
-                    subst[name] = f"l.initial.{field}" if when == "initial" else f"l.{field}"
-            value = re.sub(r"(?<![\w'.₀₁₂-])(" + TOKEN + r")", lambda t: subst.get(t.group(1), t.group(1)), value)
-            value = turn(value, names)
+                    subst[name] = f"{at}.initial.{field}" if when == "initial" else f"{at}.{field}"
+            value = _turn(value, names, said)
+            value = re.sub(r"(?<![\w'.₀-₉-])(" + TOKEN + r")", lambda t: subst.get(t.group(1), t.group(1)), value)
             flag = m.group(1)
-            invariants.append(lead + [f"abbrev pub {flag}-{new} : goal.{flag}-{new}", f"{flag}-{new} l ={' ' if chr(10) not in value else ' '}{value}"])
+            invariants.append(lead + [f"abbrev pub {flag}-{new} : goal.{flag}-{new}", f"{flag}-{new} {at} ={value}"])
             continue
-        m = re.match(r"(?:pub )?(\S+) : tie\.(Need)-(\S+)", first)
+        m = re.match(r"(?:pub )?(\S+) : tie\.Need-(\S+)", first)
         if m:
-            new = need_of(names, m.group(3))
+            new = need_of(names, m.group(2))
             if new is None:
-                said.append(f"{folder}: no goal for {m.group(3)}; goals: {' '.join(names.order)}")
-                new = m.group(3)
+                said.append(f"{folder}: no goal for {m.group(2)}; goals: {' '.join(names.order)}")
+                new = m.group(2)
             old = m.group(1)
-            renamed[old] = new
-            lines = [f"pub {new} : goal.{new}"]
+            lines, value = [f"pub {new} : goal.{new}"], []
             for line in body[1:]:
                 line = re.sub(r"^" + re.escape(old) + r" (\S+) κs(?= )", lambda t: f"{new} {t.group(1)}", line)
                 line = re.sub(r"^" + re.escape(old) + r"(?= )", new, line)
-                lines.append(line)
-            answers.append(lead + [turn("\n".join(lines), names)])
+                value.append(line)
+            value = turn("\n".join(value), names, said)
+            asked = names.asked.get(new) or (names.asked.get("returns") if new.startswith("returns") else None)
+            if new.startswith("returns") and asked is None:
+                own = FUNCTIONS.get(os.path.basename(folder), ([], {}))[1].get("ensures", [])
+                asked = own if len(own) > 1 else None
+            if asked and len(asked) > 1:
+                d = re.search(r"^(" + re.escape(new) + r"[^\n=]*=)(.*)$", value, re.S | re.M)
+                if d:
+                    value = value[:d.start()] + d.group(1) + as_record(d.group(2), asked)
+            answers.append(lead + lines + [value])
             continue
         if re.match(r"(pub )?\S+[-_]spec\b", first):
             spec = joined
             continue
-        joined = re.sub(r"tie\.(After|In|At|Then|Else|Start|Join|Loop)([\w'-]*)((?: (?:invariant|decreases)-[\w-]+)*)",
-                        lambda t: "goal." + names.places.get(key(t.group(1) + t.group(2)), "LOST-" + t.group(1) + t.group(2)), joined)
-        answers.append(lead + [turn(joined, names)])
-    # what the last line passes inline
+        joined = types(joined, names)
+        answers.append(lead + [turn(joined, names, said)])
     if spec:
         m = re.search(r"tie\.spec\s*(.*)\)\s*$", spec, re.S)
         if m:
-            passed = args_of(m.group(1))
-            inline = [a for a in passed if a.startswith("(λ")]
-            lost = [a for a in inline if not TRIVIAL.match(a)]
+            lost = [a for a in split_top(m.group(1), " ") if a.startswith("(λ") and not TRIVIAL.match(a)]
             if lost:
                 said.append(f"{folder}: inline answers dropped: {lost} of {' '.join(names.order)}")
-    for group in (invariants, answers):
-        for block in group:
-            for i, line in enumerate(block):
-                for old, new in renamed.items():
-                    pass
-    keep = [u for u in uses if not re.search(r"\.Statement\.|\.Tie as tie", u)]
+    keep = [u for u in uses if not re.search(r"\.Statement\.|\.Tie as tie|\.Reads as |\.Lts as ", u)]
 
     def write(name, what, blocks, used):
-        lines = [h for h in used]
-        lines += keep
-        lines.append(f"use {module}.{what} as goal")
+        lines = used + keep + [f"use {module}.{what} as goal"]
+        if what == "Goals" and names.cited:
+            lines.append(f"use {module}.Goals.{{{', '.join(f'{c} as The-{c}' for c in sorted(names.cited))}}}")
         lines.append("")
         for block in blocks:
-            lines += block
-            lines.append("")
+            lines += block + [""]
         with open(os.path.join(folder, name), "w", encoding="utf-8") as f:
             f.write("\n".join(lines))
 
