@@ -178,8 +178,10 @@ def need_of(names, label):
     return None
 
 
-def turn_chain(chain, names, said):
+def turn_chain(chain, names, said, keep=False):
     parts = chain.split(".")[1:]
+    if keep and set(parts) == {"before"}:
+        return chain
     parts = [p for p in parts if p != "before"]
     out, i = [], 0
     while i < len(parts):
@@ -242,11 +244,36 @@ def turn_chain(chain, names, said):
 
 def turn(text, names, said):
     text = _turn(text, names, said)
-    if names.pre:
+    text = plain_tests(text)
+    for label, callee in names.callee.items():
+        fields = FUNCTIONS.get(callee, ([], {}))[1].get("ensures", [])
+        if len(fields) < 2:
+            continue
+        for alias in set(re.findall(r"let (\S+) = \S+?\." + re.escape(label) + r"\.ensures in", text)):
+            text = re.sub(r"(?<![\w'-])" + re.escape(alias) + r"((?:\.[01])+)(?![\w])",
+                          lambda m: named(alias, fields, m.group(1).split(".")[1:]), text)
+        text = re.sub(r"(?<=[\s(\[,])([^\s(){}\[\],;]*\." + re.escape(label) + r"\.ensures)(?=[\s)\],]|$)(?!\s+in\b)", lambda m: whole(m.group(1), fields), text)
+    if names.pre and len(names.pre) > 1:
+        text = re.sub(r"(?<=[\s(\[,])([^\s(){}\[\],;]+\.requires)(?=[\s)\],])(?! in\b)(?!\s+in\b)", lambda m: whole(m.group(1), names.pre), text)
         for alias in set(re.findall(r"let (\S+) = \S+?\.requires in", text)):
             text = re.sub(r"(?<![\w'-])" + re.escape(alias) + r"((?:\.[01])+)(?![\w])",
                           lambda m: named(alias, names.pre, m.group(1).split(".")[1:]), text)
     return text
+
+
+ATOM = r"(?:\((?:[^()]|\([^()]*\))*\)|[^\s(){}\[\],;]+)"
+
+
+def plain_tests(text):
+    """A test's fact is an equation or an order itself."""
+    return re.sub(r"\b(?:eqb|ltb|leb|nat_eq|nat_lt|nat_le)-(?:true|false) (?:" + ATOM + r" ){2}((?:[^\s(){}\[\],;]+)\.(?:true|false))(?![\w'-])", r"\1", text)
+
+
+def whole(alias, fields):
+    out = f"{alias}.{fields[-1]}"
+    for f in reversed(fields[:-1]):
+        out = f"({alias}.{f}, {out})"
+    return out
 
 
 def named(alias, fields, path):
@@ -255,7 +282,12 @@ def named(alias, fields, path):
 
 
 def _turn(text, names, said):
-    return re.sub(r"(?<!goal)(?:\.(?:" + TOKEN + r"))+", lambda m: turn_chain(m.group(0), names, said), text)
+    def one(m):
+        # a context that goes to a lemma whole stays the one of its place
+        bound = re.search(r"let (\S+) = \S+$", text[:m.start()])
+        bare = bound is None or re.search(r"(?<![\w'.-])" + re.escape(bound.group(1)) + r"(?=[\s)\],;])(?! =)", text[m.end():]) is not None
+        return turn_chain(m.group(0), names, said, bare)
+    return re.sub(r"(?<!goal)(?:\.(?:" + TOKEN + r"))+", one, text)
 
 
 def types(text, names):

@@ -5,8 +5,7 @@ use Prim.Native.Nat.{ℕ, ◌+◌}
 use native.Mathlib.Omega.{arith}
 use Rattle.vector.specs.Sum.{sum_at, sum_later, first_fit, later_fit}
 use Rattle.vector.specs.RowStored.{four_stored, row_stored, row_words}
-use Rattle.vector.proofs.sum.add_row.Statement.{statement}
-use Rattle.vector.proofs.sum.add_row.Tie as tie
+use Rattle.vector.proofs.sum.add_row.Goals as goal
 
 -- eight values of f are stored where four of them are, and then four of g, which goes on from there
 row_of : (f g : ℕ → ℕ) (l : List ℕ) (d : ℕ) {l' l'' : List ℕ} {t u v w t' u' v' w' : ℕ}
@@ -23,54 +22,40 @@ row_of f g l d on e low e' high =
     let e7 : _ ≡ f 7 = high.1.1.1 ∙ on 3 in
     rw (e', e, low.0, low.1.0, low.1.1.0, low.1.1.1, e4, e5, e6, e7)
 
-sums-at-requires : tie.Need-sums-at-requires
-sums-at-requires c κs =
-    let start = c.before.before.before in
+pub sums_at-low-requires : goal.sums_at-low-requires
+sums_at-low-requires c =
+    let start = c in
     let A = start.args in
     first_fit A.h.now A.d A.s.now A.a row_words A.c start.requires 4 (omega arith)
 
-sums-at-requires-2 : tie.Need-sums-at-requires-2
-sums-at-requires-2 c κs =
-    let start = c.before.before.before.before.before in
+pub sums_at-high-requires : goal.sums_at-high-requires
+sums_at-high-requires c =
+    let start = c in
     let A = start.args in
     later_fit A.h.now A.d A.s.now A.a row_words A.c start.requires 4 4 (omega arith)
 
-store-four-requires-2 : tie.Need-store-four-requires-2
-store-four-requires-2 c κs = omega (arith, c.before.before.before.store-four.auto.0)
+pub store_four-requires-2 : goal.store_four-requires-2
+store_four-requires-2 c = omega (arith, c.store_four.auto.h)
 
-same_length : tie.Need-same-length
-same_length c =
-    let second = c.before.before in
-    second.store-four2.auto.0 ∙ second.before.before.before.before.store-four.auto.0
+pub shape_of-h : goal.shape_of-h
+shape_of-h c =
+    let second = c in
+    second.store_four-2.auto.h ∙ second.store_four.auto.h
 
-returns : tie.Need-returns
+pub returns : goal.returns
 returns c =
-    let second = c.before.before in
-    let first = second.before.before.before.before in
-    let high = first.before.before in
-    let low = high.before.before in
-    let A = low.before.before.before.before.args in
+    let second = c in
+    let first = second in
+    let high = first in
+    let low = high in
+    let A = low.args in
     row_of
     (sum_at A.h.now A.d A.s.now A.a A.c)
     (sum_at A.h.now (A.d + 4) A.s.now (A.a + 4) A.c)
     A.h.now
     A.d
     (sum_later A.h.now A.d A.s.now A.a A.c 4)
-    first.store-four.ensures
-    low.sums_at.ensures
-    second.store-four2.ensures
-    high.sums-at2.ensures
-
-pub add-row-spec : {M : Type 1} → statement M
-add-row-spec =
-    tie.close
-    (tie.spec
-    sums-at-requires
-    (λ c. omega arith)
-    (λ c. omega arith)
-    sums-at-requires-2
-    (λ c κs. omega arith)
-    (λ c. omega arith)
-    store-four-requires-2
-    same_length
-    returns)
+    first.store_four.ensures
+    (low.sums_at-low.ensures.first, (low.sums_at-low.ensures.second, (low.sums_at-low.ensures.third, low.sums_at-low.ensures.fourth)))
+    second.store_four-2.ensures
+    (high.sums_at-high.ensures.first, (high.sums_at-high.ensures.second, (high.sums_at-high.ensures.third, high.sums_at-high.ensures.fourth)))

@@ -1,0 +1,16 @@
+-- `vector::range::exchange` meets its contract: before turn j the first j words have changed places. Assumes nothing.
+use mathlib.Core.Path.{sym, ap, ◌∙◌}
+use Prim.Native.Nat.{ℕ, ◌+◌, ◌-◌, ◌%◌}
+use native.Mathlib.Nat.{zero-add}
+use native.Mathlib.Omega.{arith}
+use lib.ListN.{get_or}
+use Rattle.vector.proofs.Storing.{Storing, storing_start, storing_end}
+use Rattle.vector.proofs.Storing.{storing_reads, storing_reads_at, storing_turn, storing_turn_at}
+use Rattle.vector.proofs.range.exchange.Given as goal
+
+abbrev pub invariant-loop-j : goal.invariant-loop-j
+invariant-loop-j l =
+    Storing (λ i. get_or l.initial.s (l.a + i) 0) l.initial.h 0 l.n l.h l.j × Storing (λ i. get_or l.initial.h i 0 % l.modulus.p) l.initial.s l.a l.n l.s l.j
+
+abbrev pub decreases-loop-j : goal.decreases-loop-j
+decreases-loop-j l = l.n - l.j
