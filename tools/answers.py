@@ -169,9 +169,11 @@ class Names:
 def need_of(names, label):
     k = key(label)
     tries = [k]
-    for prefix in ("overflow_", "nonzero_", "bounds_"):
+    for prefix in ("overflow_", "nonzero_", "bounds_", "slice_bounds_", "slice_"):
         if k.startswith(prefix):
             tries.append(k[len(prefix):])
+    tries += [t.replace("slice_bounds_", "bounds_") for t in tries]
+    tries += [t for old, t in ((names.needs[n], n) for n in names.needs) if key(old) == k]
     for t in tries:
         if t in names.needs:
             return names.needs[t]
@@ -327,6 +329,48 @@ def as_record(value, fields):
     return f"{head}{lead}record {{\n      " + ";\n      ".join(f"{f} = {p}" for f, p in zip(fields, parts)) + ";\n    }"
 
 
+def place_inline(passed, answered, names, answers, said):
+    """Answers passed inline go to the goals at their places, counted between the named ones."""
+    lost, gaps, at = [], [], 0
+    gap = []
+    for arg in passed + [None]:
+        if arg is None or arg in answered:
+            goal = len(names.order) if arg is None else (names.order.index(answered[arg]) if answered[arg] in names.order else None)
+            if goal is None:
+                continue
+            gaps.append((gap, names.order[at:goal]))
+            gap, at = [], goal + 1
+        else:
+            gap.append(arg)
+    for given, goals in gaps:
+        real = [a for a in given if not TRIVIAL.match(a)]
+        if not real:
+            continue
+        if len(given) == len(goals):
+            pairs = [(a, g) for a, g in zip(given, goals) if not TRIVIAL.match(a)]
+        elif len(real) == len(goals):
+            pairs = list(zip(real, goals))
+        else:
+            lost += real
+            continue
+        for arg, goal in pairs:
+            m = re.match(r"\(λ (\S+?)( κs)?\. (.*)\)$", arg, re.S)
+            if not m:
+                lost.append(arg)
+                continue
+            value = turn(f"{goal} {m.group(1)} = {m.group(3)}", names, said)
+            asked = asked_of(names, goal)
+            if asked and len(asked) > 1:
+                cut = value.index("=") + 1
+                value = value[:cut] + as_record(value[cut:], asked)
+            answers.append([f"pub {goal} : goal.{goal}", value])
+    return lost
+
+
+def asked_of(names, goal):
+    return names.asked.get(goal) or (names.asked.get("returns") if goal.startswith("returns") else None)
+
+
 def convert(crate, folder, module, entry, said):
     path = os.path.join(folder, "Proof.antt")
     with open(path, encoding="utf-8") as f:
@@ -350,6 +394,7 @@ def convert(crate, folder, module, entry, said):
             head += lead
             continue
         rest.append((lead, body))
+    answered = {}
     for lead, body in rest:
         first = body[0]
         joined = "\n".join(body)
@@ -383,6 +428,7 @@ def convert(crate, folder, module, entry, said):
                 said.append(f"{folder}: no goal for {m.group(2)}; goals: {' '.join(names.order)}")
                 new = m.group(2)
             old = m.group(1)
+            answered[old] = new
             lines, value = [f"pub {new} : goal.{new}"], []
             for line in body[1:]:
                 line = re.sub(r"^" + re.escape(old) + r" (\S+) κs(?= )", lambda t: f"{new} {t.group(1)}", line)
@@ -407,7 +453,8 @@ def convert(crate, folder, module, entry, said):
     if spec:
         m = re.search(r"tie\.spec\s*(.*)\)\s*$", spec, re.S)
         if m:
-            lost = [a for a in split_top(m.group(1), " ") if a.startswith("(λ") and not TRIVIAL.match(a)]
+            passed = [a for a in split_top(m.group(1), " ") if not re.match(r"(invariant|decreases)-", a)]
+            lost = place_inline(passed, answered, names, answers, said)
             if lost:
                 said.append(f"{folder}: inline answers dropped: {lost} of {' '.join(names.order)}")
     keep = [u for u in uses if not re.search(r"\.Statement\.|\.Tie as tie|\.Reads as |\.Lts as ", u)]

@@ -1,0 +1,14 @@
+-- The sum is zero or not.
+use mathlib.Core.Path.{ap}
+use mathlib.Core.Bool.{not}
+use Rattle.check_conditions.specs.Table.{product_wrong}
+use Rattle.check_conditions.proofs.Tests.{zero_test}
+use borrow.Author.Rules.{rules}
+use Rattle.check_conditions.proofs.absence.product_wrong.Goals as goal
+
+pub column-sum-requires : goal.column-sum-requires
+column-sum-requires c = c.requires
+
+pub returns : goal.returns
+unfolding product_wrong
+returns c = ap not (zero_test c.column-sum.ensures c.is_zero.ensures)

@@ -1,0 +1,28 @@
+use mathlib.Core.Path.{sym, ◌∙◌}
+use Prim.Native.Nat.{◌-◌}
+use borrow.Author.Rules.{rules}
+use Rattle.check_conditions.specs.Areas.{system_in_slots, vector_in}
+use Rattle.check_conditions.specs.Table.{product_wrong, try_products}
+use Rattle.check_conditions.proofs.FirstPlace.{Passing, passing_start, passing_turn, passing_found, passing_end}
+use Rattle.check_conditions.proofs.absence.try_products.Goals as goal
+
+pub loop-j-init : goal.loop-j-init
+loop-j-init c = passing_start _ _
+
+pub product_wrong-requires : goal.product_wrong-requires
+product_wrong-requires c = (c.requires, c.loop-j-test.true)
+
+pub returns-then-product_wrong : goal.returns-then-product_wrong
+unfolding system_in_slots try_products
+returns-then-product_wrong c =
+    let called = c.product_wrong.ensures in
+    passing_found c.loop-j.invariant _ c.loop-j-test.true (sym called ∙ c.if-product_wrong.true)
+
+pub loop-j-preserved : goal.loop-j-preserved
+loop-j-preserved c =
+    let called = c.product_wrong.ensures in
+    passing_turn c.loop-j.invariant c.loop-j-test.true (sym called ∙ c.if-product_wrong.false)
+
+pub returns : goal.returns
+unfolding system_in_slots try_products
+returns c = passing_end c.loop-j.invariant _ c.loop-j-test.false

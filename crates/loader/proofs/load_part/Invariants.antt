@@ -1,0 +1,12 @@
+-- The loop keeps a `Loads`.
+use Prim.Native.Nat.{◌-◌}
+use native.Mathlib.Omega.{arith}
+use borrow.Author.Rules.{rules}
+use Rattle.loader.proofs.Loading.{Loads, loads_start, reached_room, turn_number, turn_fits, loads_turn, loads_end}
+use Rattle.loader.proofs.load_part.Given as goal
+
+abbrev pub invariant-loop-k : goal.invariant-loop-k
+invariant-loop-k l = Loads l.width l.words l.first l.from l.to l.initial.area l.area l.place l.j l.k
+
+abbrev pub decreases-loop-k : goal.decreases-loop-k
+decreases-loop-k l = l.to - l.k

@@ -1,0 +1,28 @@
+-- A product added to zero.
+use mathlib.Core.Path.{ap}
+use mathlib.Core.List.{List}
+use Prim.Native.Nat.{ℕ}
+use borrow.Author.Rules.{rules}
+use Rattle.algebra.specs.Coefficients.{add, mul}
+use Rattle.modular.specs.Modulo.{modulo}
+use Rattle.polynomial.specs.Value.{coefficients_of, represents_is}
+use Rattle.polynomial.proofs.value.Polynomial.multiply.Goals as goal
+
+pub add_product-requires : goal.add_product-requires
+add_product-requires c =
+    let S = c in
+    record {
+      valid_modulus = (S.requires.0, (c.zero.ensures S.args.modulus.p).valid, S.requires.1, S.requires.2);
+      room = S.requires.3;
+    }
+
+pub returns : goal.returns
+unfolding add
+returns c =
+    let S = c in
+    let p : ℕ = S.args.modulus.p in
+    represents_is
+    c.add_product.ensures
+    (ap
+    (λ (f : List ℕ). add (modulo p) f (mul (modulo p) (coefficients_of S.args.self) (coefficients_of S.args.g)))
+    (c.zero.ensures p).same)

@@ -1,0 +1,7 @@
+-- The coefficient 1, zeros behind it.
+use borrow.Author.Rules.{rules}
+use Rattle.polynomial.proofs.Made.{represents_one}
+use Rattle.polynomial.proofs.value.Polynomial.one.Goals as goal
+
+pub returns : goal.returns
+returns c = λ p large. represents_one p c.zeros-words.result c.zeros-words.ensures.0 c.zeros-words.ensures.1 large

@@ -1,0 +1,26 @@
+-- A multiple added to zero.
+use mathlib.Core.Path.{ap}
+use mathlib.Core.List.{List}
+use Prim.Native.Nat.{ℕ}
+use native.Mathlib.Omega.{arith}
+use borrow.Author.Rules.{rules}
+use Rattle.algebra.specs.Coefficients.{add, scale}
+use Rattle.modular.specs.Modulo.{modulo}
+use Rattle.polynomial.specs.Value.{coefficients_of, represents_is}
+use Rattle.polynomial.proofs.value.Polynomial.scale.Goals as goal
+
+pub add_multiple-requires : goal.add_multiple-requires
+add_multiple-requires c =
+    let S = c in
+    (S.requires.0, (c.zero.ensures S.args.modulus.p).valid, omega arith, S.requires.1)
+
+pub returns : goal.returns
+unfolding add
+returns c =
+    let S = c in
+    let p : ℕ = S.args.modulus.p in
+    represents_is
+    c.add_multiple.ensures
+    (ap
+    (λ (f : List ℕ). add (modulo p) f (scale (modulo p) S.args.c (coefficients_of S.args.self)))
+    (c.zero.ensures p).same)

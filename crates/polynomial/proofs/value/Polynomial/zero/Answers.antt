@@ -1,0 +1,7 @@
+-- No coefficients, zeros behind them.
+use borrow.Author.Rules.{rules}
+use Rattle.polynomial.proofs.Made.{represents_zero}
+use Rattle.polynomial.proofs.value.Polynomial.zero.Goals as goal
+
+pub returns : goal.returns
+returns c = λ p. represents_zero p c.zeros-words.result c.zeros-words.ensures.0 c.zeros-words.ensures.1

@@ -1,0 +1,50 @@
+-- `vector::residues::copy_polynomial` meets its contract: residues stand for what the words stand for. Assumes nothing.
+use mathlib.Core.Path.{◌≡◌, ap, ◌∙◌}
+use mathlib.Core.List.{List}
+use Prim.Native.Nat.{ℕ, ◌+◌, ◌%◌, ◌≤◌, ◌<◌}
+use native.Mathlib.Nat.{mod-lt, mod-mod}
+use native.Mathlib.Omega.{arith}
+use lib.ListN.{length, get_or}
+use borrow.Author.Rules.{rules}
+use Rattle.residue.specs.Sum.{residue_small}
+use Rattle.vector.specs.Bound.{Reducible}
+use Rattle.vector.specs.Moved.{polynomial_stored}
+use Rattle.vector.specs.Reduced.{polynomial}
+use Rattle.vector.specs.Stored.{stored, stored_first, length_stored}
+use Rattle.polynomial_words.proofs.residues.copy_polynomial.Goals as goal
+
+-- n words from the place a on, each modulo p
+module _ (p : ℕ) (positive : 0 < p) (h s : List ℕ) (a n : ℕ) (room : n ≤ length h) {h' : List ℕ}
+    (words : h' ≡ stored (λ j. get_or s (a + j) 0 % p) h 0 n) where
+  still-room : n ≤ length h'
+  still-room = omega (arith, ap length words, length_stored (λ j. get_or s (a + j) 0 % p) h 0 n)
+
+  reducible : Reducible p h' n
+  reducible j lt =
+      let is = ap (λ (l : List ℕ). get_or l j 0) words ∙ stored_first (λ j. get_or s (a + j) 0 % p) h n j room lt in
+      residue_small p (get_or h' j 0) positive (omega (arith, is, mod-lt (get_or s (a + j) 0) positive))
+
+  same : polynomial p h' 0 n ≡ polynomial p s a n
+  same =
+      ap (λ (l : List ℕ). polynomial p l 0 n) words
+      ∙ polynomial_stored p positive (λ j. get_or s (a + j) 0 % p) h 0 n (omega arith) s a (λ j lt. mod-mod (get_or s (a + j) 0) p)
+
+pub find_leading-leading-requires : goal.find_leading-leading-requires
+find_leading-leading-requires c =
+    let S = c in
+    let positive : 0 < S.args.modulus.p = omega (arith, S.requires.valid_modulus.0.prime.large) in
+    let words = c.copy_reduced.ensures in
+    let p = S.args.modulus.p in (
+      (S.requires.valid_modulus.0, still-room p positive _ S.args.s.now S.args.a S.args.n (omega arith) words),
+      reducible p positive _ S.args.s.now S.args.a S.args.n (omega arith) words,
+    )
+
+pub returns : goal.returns
+returns c =
+    let S = c in
+    let positive : 0 < S.args.modulus.p = omega (arith, S.requires.valid_modulus.0.prime.large) in
+    let words = c.copy_reduced.ensures in record {
+      words = words;
+      size = c.find_leading-leading.ensures.size
+          ∙ ap length (same S.args.modulus.p positive _ S.args.s.now S.args.a S.args.n (omega arith) words);
+    }

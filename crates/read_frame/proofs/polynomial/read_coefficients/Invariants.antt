@@ -1,0 +1,16 @@
+-- `read_frame::polynomial::read_coefficients` meets its contract. The loop's invariant: what is told of all coefficients is what is
+-- told of those from the loop's word on. The measure is the number of these.
+use mathlib.Core.Path.{sym, ◌∙◌}
+use mathlib.Core.Logic.{⊎_elim}
+use Prim.Native.Nat.{◌+◌, ◌-◌}
+use native.Mathlib.Omega.{arith}
+use borrow.Author.Rules.{rules}
+use Rattle.read_frame.proofs.CoefficientTurns.{Reached, reached_start, reached_next, reached_end, due_missing, due_kind}
+use Rattle.read_frame.proofs.CoefficientTurns.{due_large, due_last}
+use Rattle.read_frame.proofs.polynomial.read_coefficients.Given as goal
+
+abbrev pub invariant-loop-place : goal.invariant-loop-place
+invariant-loop-place l = Reached l.words l.p l.count l.place
+
+abbrev pub decreases-loop-place : goal.decreases-loop-place
+decreases-loop-place l = l.count + 1 - l.place

@@ -1,0 +1,13 @@
+-- The loop keeps the greatest height of the slots so far.
+use mathlib.Core.Path.{◌≡◌, sym, ◌∙◌, ap}
+use mathlib.Core.Logic.{⊎_elim}
+use Prim.Native.Nat.{◌-◌, ◌≤◌}
+use native.Mathlib.Omega.{arith}
+use Rattle.solve_second.specs.Greatest.{greatest, greatest_none, greatest_turn}
+use Rattle.solve_second.proofs.height.greatest_height.Given as goal
+
+abbrev pub invariant-loop-q : goal.invariant-loop-q
+invariant-loop-q l = (l.q ≤ l.n) × (l.top ≡ greatest l.level l.q)
+
+abbrev pub decreases-loop-q : goal.decreases-loop-q
+decreases-loop-q l = l.n - l.q

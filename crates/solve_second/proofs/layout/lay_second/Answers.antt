@@ -1,0 +1,14 @@
+-- The slots are those of the level with the side's tails; the right side is laid out as such.
+use borrow.Author.Rules.{rules}
+use Rattle.solve_second.specs.Same.{same_laid}
+use Rattle.solve_second.specs.Side.{side_blocks}
+use Rattle.solve_second.proofs.layout.lay_second.Goals as goal
+
+pub returns : goal.returns
+returns c =
+    let S = c in
+    let slots = c.lay_slots-top.ensures.1 in record {
+      slots = same_laid (side_blocks S.args.side S.args.level.now) S.requires.low_blocks.0 S.requires.low_blocks.3 slots;
+      room = c.lay_side.ensures.0;
+      side = c.lay_side.ensures.1;
+    }

@@ -1,0 +1,16 @@
+-- The loop keeps a `Storing`: one word a turn.
+use Prim.Native.Nat.{◌-◌, ◌%◌, ◌<◌}
+use mathlib.Core.Path.{sym, ◌∙◌, ap, subst}
+use native.Mathlib.Nat.{mod-lt, zero-add}
+use native.Mathlib.Omega.{arith}
+use lib.ListN.{get_or}
+use Rattle.modular.specs.Modulo.{modulo}
+use Rattle.residue.specs.Modulus.{ValidModulus}
+use Rattle.vector.proofs.Storing.{Storing, storing_start, storing_turn_at, storing_end}
+use Rattle.solve_second.proofs.monic.store_scaled.Given as goal
+
+abbrev pub invariant-loop-j : goal.invariant-loop-j
+invariant-loop-j l = Storing (λ i. (modulo l.modulus.p).mul (get_or l.y i 0 % l.modulus.p) l.factor) l.initial.h 0 l.n l.h l.j
+
+abbrev pub decreases-loop-j : goal.decreases-loop-j
+decreases-loop-j l = l.n - l.j

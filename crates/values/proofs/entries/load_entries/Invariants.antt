@@ -1,0 +1,12 @@
+-- The loop keeps a `Loads`.
+use Prim.Native.Nat.{◌-◌}
+use native.Mathlib.Omega.{arith}
+use borrow.Author.Rules.{rules}
+use Rattle.values.proofs.Turns.{Loads, loads_start, same_sizes, same_values, Turn, turn, loads_turn, loads_end}
+use Rattle.values.proofs.entries.load_entries.Given as goal
+
+abbrev pub invariant-loop-k : goal.invariant-loop-k
+invariant-loop-k l = Loads l.words l.initial.sizes l.initial.values l.stride l.count l.sizes l.values l.at l.k
+
+abbrev pub decreases-loop-k : goal.decreases-loop-k
+decreases-loop-k l = l.count - l.k
