@@ -2,7 +2,7 @@ pub mod Products
 pub mod Lanes
 pub mod Negating
 pub mod Combinations
-pub mod Terms
+pub mod TermLaws
 pub mod Kernels
 pub mod Columns
 pub mod Coordinates
