@@ -1,0 +1,18 @@
+-- The answer, packed; its count and its place are small.
+use mathlib.Core.Path.{sym, subst}
+use Rattle.writer.specs.Values.{head_with}
+use Rattle.answers.specs.Packed.{packed_most, AnswerMost}
+use Rattle.link_values.specs.GivingLaws.{gives_packed}
+use Rattle.link_values.proofs.Small.{write_small}
+use borrow.Author.Rules.{rules}
+use Rattle.link_values.proofs.writing.write_system_file.Goals as goal
+
+pub pack_counted-requires : goal.pack_counted-requires
+pack_counted-requires c =
+    let call = c in
+    let a = call.args in
+    subst (AnswerMost packed_most packed_most) (sym call.write_to_bytes.ensures.told)
+    (write_small _ (head_with a.modulus a.rows a.columns a.sides) a.sizes.now a.coefficients.now)
+
+pub returns : goal.returns
+returns c = gives_packed c.write_to_bytes.ensures c.pack_counted.ensures

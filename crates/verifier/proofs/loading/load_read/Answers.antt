@@ -1,0 +1,58 @@
+-- Both are loaded into their areas, and the verdict on the areas is that on the words (`Read`).
+use mathlib.Core.Path.{◌≡◌, refl, subst}
+use native.Mathlib.Omega.{arith}
+use lib.ListN.{length}
+use Rattle.answers.specs.Answer.{shape_of, form_of}
+use Rattle.words.specs.Starts.{first_entries}
+use Rattle.loader.specs.Slot.{InSlots}
+use Rattle.loader.specs.SlotLaws.{read_stands}
+use Rattle.loader.specs.Widths.{certificate_width}
+use Rattle.verifier.specs.Loading.{AreaRoom}
+use Rattle.verifier.proofs.Read.{read_shape, read_certificate_lem, read_few, line_has, line_loaded, read_loads}
+use borrow.Author.Rules.{rules}
+use Rattle.verifier.proofs.loading.load_read.Goals as goal
+
+pub new-modulus-requires : goal.new-modulus-requires
+new-modulus-requires c =
+    let S = c in
+    ((read_shape _ _ S.requires.both_line).prime, (read_shape _ _ S.requires.both_line).modulus)
+
+pub load_line-requires : goal.load_line-requires
+load_line-requires c =
+    let S = c in
+    (line_has _ _ S.requires.both_line, S.requires.room.system)
+
+pub load-requires : goal.load-requires
+load-requires c =
+    let counted = c in
+    let S = counted in
+    let b = S.requires.both_line in
+    let count = counted.entry_count-count.ensures in (
+      rw count (read_certificate_lem _ _ b).has,
+      omega arith,
+      omega (arith, count, read_few _ _ b, S.requires.room.certificate),
+    )
+
+pub returns : goal.returns
+returns c =
+    let loaded = c in
+    let counted = loaded in
+    let line = counted in
+    let new = line in
+    let S = new in
+    let b = S.requires.both_line in
+    let A = line.Load_Line.new-modulus.0 in
+    let C = loaded.load.new-modulus.0 in
+    let room-A : length A ≡ length S.args.system_area.now = search rules in
+    let room-C : length C ≡ length S.args.certificate_area.now = search rules in
+    let room : AreaRoom (shape_of S.args.shape) A C = record {
+      system = omega (arith, S.requires.room.system);
+      certificate = omega (arith, S.requires.room.certificate);
+    } in
+    let found = read_loads _ _ b _ new.new-modulus.ensures.0 new.new-modulus.ensures.1 A C room
+    (line_loaded _ _ b line.Load_Line.ensures)
+    (read_stands (read_certificate_lem _ _ b)
+    (subst (λ n. InSlots certificate_width C (first_entries S.args.certificate.now n)) counted.entry_count-count.ensures
+    loaded.load.ensures))
+    (form_of S.args.form) refl in
+    record { ready = found.0; verdict = found.1 }
