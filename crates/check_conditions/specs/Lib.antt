@@ -6,5 +6,5 @@ pub mod AreaLaws
 pub mod Products
 -- the rows 31 to 36 one by one, and that the verdict is these in their order
 pub mod Table
--- what is carried down the columns of Z-as-A, which is the remainder of the sum so far
+-- what is carried down the columns of Z·A, which is the remainder of the sum so far
 pub mod Walk

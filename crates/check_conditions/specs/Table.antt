@@ -16,14 +16,14 @@ use Rattle.truth.specs.Verdict.{zero?, same?, monic?, refuse_first, solution_ver
 unfoldable pub try_monic : ℕ → List ℕ → List ℕ → Outcome (Unit {0})
 try_monic p d w = refuse (not (monic? p d)) 31 0 (refuse (not (monic? p w)) 31 1 (accepted tt))
 
--- 32: A-as-N not d·b; first such row
+-- 32: A·N not d·b; first such row
 unfoldable pub row_wrong : System → List ℕ → List (List ℕ) → ℕ → Bool
 row_wrong s d N i = not (same? (row_of s N i) (mul (modulo s.modulus) d (side_entry s i)))
 
 unfoldable pub try_rows : System → List ℕ → List (List ℕ) → Outcome (Unit {0})
 try_rows s d N = refuse_first s.rows (row_wrong s d N) 32 (accepted tt)
 
--- 33: w does not divide Z-as-A; first such column
+-- 33: w does not divide Z·A; first such column
 unfoldable pub column_wrong : System → List ℕ → List (List ℕ) → ℕ → Bool
 column_wrong s w Z j = not (zero? (remainder (modulo s.modulus) (column_of s Z j) w))
 

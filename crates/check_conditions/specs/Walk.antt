@@ -1,5 +1,5 @@
 -- One walk over a product (document 02, item 3): "one pass down each column, taking the remainder along as the sum grows". What is
--- carried of a column of Z-as-A, that it is the remainder by w of the sum of products so far, and the words that it stands in.
+-- carried of a column of Z·A, that it is the remainder by w of the sum of products so far, and the words that it stands in.
 use Rattle.std.specs.Prelude.{◌≡◌, List, [], length, get_or}
 use Rattle.std.proofs.Math.Path.{refl, sym, ap}
 use Rattle.std.proofs.Common.{◌∙◌, add-one, arith}
@@ -22,11 +22,11 @@ use Rattle.check_conditions.specs.declared.dimensions.Dimensions.{Dimensions}
 
 -- ---- the walk
 
--- what row i adds to column j of Z-as-A
+-- what row i adds to column j of Z·A
 abbrev pub column_term : System → List (List ℕ) → ℕ → ℕ → List ℕ
 column_term s Z j i = mul (modulo s.modulus) (get_or Z i []) (entry s i j)
 
--- "the sum of products so far": column j of Z-as-A, of its first n rows
+-- "the sum of products so far": column j of Z·A, of its first n rows
 unfoldable pub column_so_far : System → List (List ℕ) → ℕ → ℕ → List ℕ
 unfolding total_modulo mul modulo
 column_so_far s Z j n = total_modulo s.modulus n (column_term s Z j)
@@ -82,7 +82,7 @@ module _ (s : System) (prime : Prime s.modulus) (w : List ℕ) (canonical : Cano
   carried_remainder zero = refl
   carried_remainder (suc n) = carried_on n (carried_after s w Z j n) (carried_remainder n)
 
--- all rows: the column of Z-as-A
+-- all rows: the column of Z·A
 pub column_so_far_lem : (s : System) (Z : List (List ℕ)) (j : ℕ) → column_so_far s Z j s.rows ≡ column_of s Z j
 unfolding column_so_far column_of
 column_so_far_lem s Z j = refl

@@ -9,7 +9,7 @@ use crate::dimensions::Dimensions;
 use crate::matrix::{column, side};
 use answers::{Refusal, Verdict};
 
-// Tells whether column j of typeof.q.A is not zero.
+// Tells whether column j of q·A is not zero.
 fn product_wrong(system: &[u64], certificate: &[u64], dimensions: Dimensions, j: usize) -> bool
     requires { Loaded dimensions dimensions.rows system.now certificate.now × (j < dimensions.columns) }
     ensures { result ≡
@@ -19,7 +19,7 @@ fn product_wrong(system: &[u64], certificate: &[u64], dimensions: Dimensions, j:
     !sum.is_zero()
 }
 
-// Tries 35: typeof.q.A not zero; first such column.
+// Tries 35: q·A not zero; first such column.
 fn try_products(system: &[u64], certificate: &[u64], dimensions: Dimensions) -> Verdict
     requires { Loaded dimensions dimensions.rows system.now certificate.now }
     ensures { verdict_outcome result ≡

@@ -13,7 +13,7 @@ use crate::dimensions::Dimensions;
 use crate::sum::sum_of_products;
 use polynomial::Polynomial;
 
-// Returns row i of A.N.
+// Returns row i of A·N.
 pub fn row(system: &[u64], certificate: &[u64], dimensions: Dimensions, i: usize) -> Polynomial
     requires { Loaded dimensions (dimensions.columns + 2 + dimensions.rows) system.now certificate.now
         × (i < dimensions.rows) }
@@ -39,7 +39,7 @@ pub fn target(system: &[u64], certificate: &[u64], dimensions: Dimensions, i: us
     sum_of_products(system, rows * columns + i, 1, certificate, 0, 1, modulus)
 }
 
-// Returns column j of typeof.q.A.
+// Returns column j of q·A.
 pub fn column(system: &[u64], certificate: &[u64], dimensions: Dimensions, j: usize) -> Polynomial
     requires { Loaded dimensions dimensions.rows system.now certificate.now × (j < dimensions.columns) }
     ensures { Represents dimensions.modulus.p result

@@ -54,7 +54,7 @@ fn try_monic(certificate: &[u64], dimensions: Dimensions) -> Verdict
     Verdict::Accepted
 }
 
-// Tells whether A.N is not d·b in row i.
+// Tells whether A·N is not d·b in row i.
 fn row_wrong(system: &[u64], certificate: &[u64], dimensions: Dimensions, i: usize) -> bool
     requires { Loaded dimensions (dimensions.columns + 2 + dimensions.rows) system.now certificate.now
         × (i < dimensions.rows) }
@@ -67,7 +67,7 @@ fn row_wrong(system: &[u64], certificate: &[u64], dimensions: Dimensions, i: usi
     !found.equal(due)
 }
 
-// Tries 32: A.N not d·b; first such row.
+// Tries 32: A·N not d·b; first such row.
 fn try_rows(system: &[u64], certificate: &[u64], dimensions: Dimensions) -> Verdict
     requires { Loaded dimensions (dimensions.columns + 2 + dimensions.rows) system.now certificate.now }
     ensures { verdict_outcome result ≡
@@ -87,7 +87,7 @@ fn try_rows(system: &[u64], certificate: &[u64], dimensions: Dimensions) -> Verd
     Verdict::Accepted
 }
 
-// Tries 33: w does not divide Z.A; first such column. One walk down the columns leaves the remainders.
+// Tries 33: w does not divide Z·A; first such column. One walk down the columns leaves the remainders.
 fn try_columns(system: &[u64], certificate: &[u64], dimensions: Dimensions) -> Verdict
     requires loaded { Loaded dimensions (dimensions.columns + 2 + dimensions.rows) system.now certificate.now }
     requires divisor { 0 < length (certifying_denominator_in dimensions certificate.now) }

@@ -1,5 +1,5 @@
-// One walk down the columns of Z.A, all of them side by side (document 02, item 3). Of each column the remainder by w of its sum so
-// far is carried from row to row. Row i adds Z_i.A_ij coefficient by coefficient of A_ij: x^k·Z_i modulo w, which is the same for
+// One walk down the columns of Z·A, all of them side by side (document 02, item 3). Of each column the remainder by w of its sum so
+// far is carried from row to row. Row i adds Z_i·A_ij coefficient by coefficient of A_ij: x^k·Z_i modulo w, which is the same for
 // all columns, times coefficient k. So no product is formed, and none is divided. Throughout, e is the degree of w. 31 was tried
 // before, so w is monic and the inverse of its leading coefficient is 1; no promise here builds on that.
 ghost use Rattle.std.specs.Prelude.{◌≡◌, not, ℕ, ◌+◌, ◌-◌, ◌*◌, ◌≤◌, ◌<◌, length, get_or};
@@ -136,8 +136,8 @@ fn longest_entry(system: &[u64], dimensions: Dimensions, i: usize) -> usize
     longest
 }
 
-// Takes row i along in every column: what is carried on is the remainder by w of what was carried and of Z_i.A_ij, added. So it is
-// the remainder of the sum with the row, where it was that of the sum before it (`carries-on`).
+// Takes row i along in every column: what is carried on is the remainder by w of what was carried and of Z_i·A_ij, added. So it is
+// the remainder of the sum with the row, where it was that of the sum before it (`carries_on`).
 fn take_row(
     carried: &mut Remainders,
     system: &[u64],
@@ -171,8 +171,8 @@ fn take_row(
     }
 }
 
-// Walks down the columns of Z.A from the first row to the last, with `carried` all 0 before the first. Behind the last it reduces
-// what is carried: of each column the remainder by w of the column of Z.A.
+// Walks down the columns of Z·A from the first row to the last, with `carried` all 0 before the first. Behind the last it reduces
+// what is carried: of each column the remainder by w of the column of Z·A.
 pub fn walk_columns(
     carried: &mut Remainders,
     system: &[u64],

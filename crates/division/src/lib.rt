@@ -1,5 +1,6 @@
 // Division of polynomials modulo a prime, and what is made of it: remainder, quotient and greatest common divisor.
 #![tactic(auto)]
+
 ghost use Rattle.std.specs.Prelude.{◌<◌};
 ghost use Rattle.algebra.specs.Coefficients.{quotient, remainder};
 ghost use Rattle.modular.specs.Modulo.{modulo};

@@ -1,6 +1,7 @@
 // Polynomials in ranges of words: compared, copied with their coefficients reduced, multiplied, divided, multiplied by x
 // modulo another.
 #![tactic(auto)]
+
 pub mod compare;
 pub mod division;
 pub mod product;

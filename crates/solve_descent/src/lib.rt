@@ -1,6 +1,7 @@
 // The way down from d·b to the numerators, a column a turn: descend_column for a column that was inserted, lower_quotients for one
 // that filled an empty slot. Below both: products, lanes and negatives of words.
 #![tactic(auto)]
+
 pub mod blocks;
 pub mod column;
 pub mod coordinate;

@@ -21,7 +21,7 @@ use Rattle.reduction.specs.Holds.{monomial, monomial_size}
 use Rattle.reduction.specs.Held.{held_step}
 use Rattle.solve_lattice.specs.Room.{block_words, slot_words, tail_words, lanes, most_places}
 use Rattle.solve_lattice.specs.declared.step.Remains.{Remains}
-use Rattle.solve_lattice.specs.Word.{residue, words}
+use Rattle.solve_lattice.specs.Word.{residue}
 use Rattle.solve_lattice.specs.Memory.{row, height, ZeroFrom, Level, slot_size, tail_size, ValidSlot}
 use Rattle.solve_lattice.specs.Memory.{Memory, memory, places, Valid}
 use Rattle.solve_lattice.specs.Holding.{HoldsState, Reached}

@@ -1,5 +1,6 @@
 // The bottom of the solver: how levels, input and output lie in memory (room), and the loops on them: insert, divide, reduce_words.
 #![tactic(auto)]
+
 pub mod division;
 pub mod hand;
 pub mod insertion;

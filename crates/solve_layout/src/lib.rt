@@ -1,6 +1,7 @@
 // One line of a system laid out as the solver takes it: the polynomials of A and of its right side, column by column, each in its
 // lane.
 #![tactic(auto)]
+
 pub mod column;
 pub mod lane;
 

@@ -1,6 +1,7 @@
 // The next level: a column divided by a level's slots (divide_column), then put into an empty slot (fill_slot, empty_slot) or
 // inserted into a copy of the level (next_level).
 #![tactic(auto)]
+
 pub mod beginning;
 pub mod column;
 pub mod copying;

@@ -1,6 +1,7 @@
 // The second system of a level (section 2, step 4, of docs/mathematics.md): laid out by lay_second, solved by solve_second; and the
 // products that both systems use.
 #![tactic(auto)]
+
 pub mod denominator;
 pub mod height;
 pub mod lane;

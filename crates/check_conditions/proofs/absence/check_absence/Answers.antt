@@ -2,7 +2,6 @@
 use mathlib.Core.Path.{ap}
 use Rattle.answers.specs.Answer.{verdict_outcome}
 use Rattle.check_conditions.proofs.Order.{absence_product, absence_last}
-use borrow.Author.Rules.{rules}
 use Rattle.check_conditions.proofs.absence.check_absence.Goals as goal
 
 pub returns-in_default : goal.returns-in_default

@@ -3,7 +3,6 @@ use mathlib.Core.Path.{ap}
 use mathlib.Core.Bool.{not}
 use Rattle.check_conditions.specs.Table.{product_wrong}
 use Rattle.check_conditions.proofs.Tests.{zero_test}
-use borrow.Author.Rules.{rules}
 use Rattle.check_conditions.proofs.absence.product_wrong.Goals as goal
 
 pub column-sum-requires : goal.column-sum-requires

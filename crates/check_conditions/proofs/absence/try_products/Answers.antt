@@ -1,9 +1,7 @@
 use mathlib.Core.Path.{sym, ◌∙◌}
-use Prim.Native.Nat.{◌-◌}
-use borrow.Author.Rules.{rules}
-use Rattle.check_conditions.specs.Areas.{system_in_slots, vector_in}
-use Rattle.check_conditions.specs.Table.{product_wrong, try_products}
-use Rattle.check_conditions.proofs.FirstPlace.{Passing, passing_start, passing_turn, passing_found, passing_end}
+use Rattle.check_conditions.specs.Areas.{system_in_slots}
+use Rattle.check_conditions.specs.Table.{try_products}
+use Rattle.check_conditions.proofs.FirstPlace.{passing_start, passing_turn, passing_found, passing_end}
 use Rattle.check_conditions.proofs.absence.try_products.Goals as goal
 
 pub loop-j-init : goal.loop-j-init

@@ -1,10 +1,8 @@
 -- The loop keeps a `Passing`: no column before is wrong.
-use mathlib.Core.Path.{sym, ◌∙◌}
 use Prim.Native.Nat.{◌-◌}
-use borrow.Author.Rules.{rules}
 use Rattle.check_conditions.specs.Areas.{system_in_slots, vector_in}
-use Rattle.check_conditions.specs.Table.{product_wrong, try_products}
-use Rattle.check_conditions.proofs.FirstPlace.{Passing, passing_start, passing_turn, passing_found, passing_end}
+use Rattle.check_conditions.specs.Table.{product_wrong}
+use Rattle.check_conditions.proofs.FirstPlace.{Passing}
 use Rattle.check_conditions.proofs.absence.try_products.Given as goal
 
 abbrev pub invariant-loop-j : goal.invariant-loop-j

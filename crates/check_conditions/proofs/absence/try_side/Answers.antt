@@ -2,7 +2,6 @@
 use native.Mathlib.Nat.{zero-add}
 use Rattle.check_conditions.proofs.Refusals.{side_zero, side_some}
 use Rattle.check_conditions.proofs.Tests.{zero_test}
-use borrow.Author.Rules.{rules}
 use Rattle.check_conditions.proofs.absence.try_side.Goals as goal
 
 pub side-sum-requires : goal.side-sum-requires

@@ -5,7 +5,6 @@ use Rattle.check_conditions.specs.Areas.{system_in_slots}
 use Rattle.answers.specs.Answer.{verdict_outcome}
 use Rattle.check_conditions.proofs.Monic.{passed_some}
 use Rattle.check_conditions.proofs.Order.{solution_monic, solution_row, solution_column, solution_last}
-use borrow.Author.Rules.{rules}
 use Rattle.check_conditions.proofs.solution.check_solution.Goals as goal
 
 pub try_monic-monic-requires : goal.try_monic-monic-requires
@@ -27,11 +26,11 @@ returns-in_default-rows c =
 pub try_columns-columns-requires : goal.try_columns-columns-requires
 try_columns-columns-requires c =
     let monic = c in
-    let told = monic in (
-      told.requires,
-      passed_some _ _ _ (sym told.try_monic-monic.ensures
-          ∙ ap verdict_outcome monic.in-Accepted.is),
-    )
+    let told = monic in record {
+      loaded = told.requires;
+      divisor = passed_some _ _ _ (sym told.try_monic-monic.ensures
+          ∙ ap verdict_outcome monic.in-Accepted.is);
+    }
 
 pub returns-in_default-columns : goal.returns-in_default-columns
 unfolding system_in_slots

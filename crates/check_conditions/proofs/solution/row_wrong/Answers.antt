@@ -4,7 +4,6 @@ use mathlib.Core.Bool.{not}
 use Rattle.check_conditions.specs.Areas.{system_in_slots}
 use Rattle.check_conditions.specs.Table.{row_wrong}
 use Rattle.check_conditions.proofs.Tests.{equal_test}
-use borrow.Author.Rules.{rules}
 use Rattle.check_conditions.proofs.solution.row_wrong.Goals as goal
 
 pub returns : goal.returns

@@ -15,7 +15,7 @@ use Rattle.check_conditions.specs.Areas.{system_in_slots, certifying_denominator
 use Rattle.check_conditions.specs.Table.{column_wrong, try_columns}
 use Rattle.check_conditions.specs.Walk.{carried_words, carried_in, Carries, column_so_far_lem}
 use Rattle.check_conditions.specs.declared.dimensions.Dimensions.{Dimensions}
-use Rattle.check_conditions.proofs.FirstPlace.{Passing, passing_start, passing_turn, passing_found, passing_end}
+use Rattle.check_conditions.proofs.FirstPlace.{passing_start, passing_turn, passing_found, passing_end}
 use Rattle.check_conditions.proofs.solution.try_columns.Goals as goal
 
 -- the remainder that is carried is that of the column
@@ -69,7 +69,7 @@ returns-then-leaves_remainder c =
     let taken = c.loop-j-test.true in
     let walked = c.walk_columns in
     let is = c.coefficients_in-w.ensures in
-    let called = tells S.args.dimensions S.args.system.now _ _ walked.new.0 is walked.ensures.0 _ taken
+    let called = tells S.args.dimensions S.args.system.now _ _ walked.new.carried is walked.ensures.carries _ taken
     c.leaves_remainder.ensures in
     passing_found L.invariant _ taken (sym called ∙ c.if-leaves_remainder.true)
 
@@ -80,7 +80,7 @@ loop-j-preserved c =
     let taken = c.loop-j-test.true in
     let walked = c.walk_columns in
     let is = c.coefficients_in-w.ensures in
-    let called = tells S.args.dimensions S.args.system.now _ _ walked.new.0 is walked.ensures.0 _ taken
+    let called = tells S.args.dimensions S.args.system.now _ _ walked.new.carried is walked.ensures.carries _ taken
     c.leaves_remainder.ensures in
     passing_turn L.invariant taken (sym called ∙ c.if-leaves_remainder.false)
 

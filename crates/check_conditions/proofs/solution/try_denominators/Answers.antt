@@ -5,7 +5,6 @@ use Rattle.check_conditions.specs.Areas.{system_in_slots}
 use Rattle.check_conditions.proofs.Refusals.{denominators_same, denominators_differ}
 use Rattle.check_conditions.proofs.Tests.{equal_test}
 use Rattle.check_conditions.proofs.Values.{gcd_some, certified_value}
-use borrow.Author.Rules.{rules}
 use Rattle.check_conditions.proofs.solution.try_denominators.Goals as goal
 
 pub polynomial_in-w-requires : goal.polynomial_in-w-requires

@@ -1,9 +1,7 @@
 use mathlib.Core.Path.{sym, ◌∙◌}
-use Prim.Native.Nat.{◌-◌}
-use borrow.Author.Rules.{rules}
-use Rattle.check_conditions.specs.Areas.{system_in_slots, denominator_in, numerators_in}
-use Rattle.check_conditions.specs.Table.{row_wrong, try_rows}
-use Rattle.check_conditions.proofs.FirstPlace.{Passing, passing_start, passing_turn, passing_found, passing_end}
+use Rattle.check_conditions.specs.Areas.{system_in_slots}
+use Rattle.check_conditions.specs.Table.{try_rows}
+use Rattle.check_conditions.proofs.FirstPlace.{passing_start, passing_turn, passing_found, passing_end}
 use Rattle.check_conditions.proofs.solution.try_rows.Goals as goal
 
 pub loop-i-init : goal.loop-i-init

@@ -1,10 +1,8 @@
 -- The loop keeps a `Passing`: no row before is wrong.
-use mathlib.Core.Path.{sym, ◌∙◌}
 use Prim.Native.Nat.{◌-◌}
-use borrow.Author.Rules.{rules}
 use Rattle.check_conditions.specs.Areas.{system_in_slots, denominator_in, numerators_in}
-use Rattle.check_conditions.specs.Table.{row_wrong, try_rows}
-use Rattle.check_conditions.proofs.FirstPlace.{Passing, passing_start, passing_turn, passing_found, passing_end}
+use Rattle.check_conditions.specs.Table.{row_wrong}
+use Rattle.check_conditions.proofs.FirstPlace.{Passing}
 use Rattle.check_conditions.proofs.solution.try_rows.Given as goal
 
 abbrev pub invariant-loop-i : goal.invariant-loop-i

@@ -1,5 +1,5 @@
 use mathlib.Core.Path.{◌≡◌, refl}
-use Prim.Native.Nat.{◌+◌, ◌-◌, ◌<◌}
+use Prim.Native.Nat.{◌+◌, ◌<◌}
 use native.Mathlib.Omega.{arith}
 use lib.ListN.{length}
 use borrow.Author.Rules.{rules}
@@ -7,7 +7,7 @@ use Rattle.residue.specs.Modulus.{ValidModulus}
 use Rattle.polynomial.specs.Value.{represents_is, polynomial_room}
 use Rattle.loader.specs.SlotLaws.{taken_canonical, taken_size, canonical_word}
 use Rattle.check_conditions.specs.Products.{product}
-use Rattle.check_conditions.proofs.Summing.{Summing, summing_start, summing_fits, summing_small, summing_turn, summing_end}
+use Rattle.check_conditions.proofs.Summing.{summing_start, summing_fits, summing_small, summing_turn, summing_end}
 use Rattle.check_conditions.proofs.sum.sum_of_products.Goals as goal
 
 pub loop-k-init : goal.loop-k-init
@@ -90,7 +90,7 @@ loop-k-preserved c =
     (omega (arith, taken_size is-g g))
     (rw (is_f, is-g) refl)
     taken
-    called.new.0
+    called.new.h
     (search rules)
     called.ensures
 

@@ -1,14 +1,7 @@
 -- The loop keeps a `Summing`.
-use mathlib.Core.Path.{◌≡◌, refl}
-use Prim.Native.Nat.{◌+◌, ◌-◌, ◌<◌}
-use native.Mathlib.Omega.{arith}
-use lib.ListN.{length}
-use borrow.Author.Rules.{rules}
-use Rattle.residue.specs.Modulus.{ValidModulus}
-use Rattle.polynomial.specs.Value.{represents_is, polynomial_room}
-use Rattle.loader.specs.SlotLaws.{taken_canonical, taken_size, canonical_word}
+use Prim.Native.Nat.{◌-◌}
 use Rattle.check_conditions.specs.Products.{product}
-use Rattle.check_conditions.proofs.Summing.{Summing, summing_start, summing_fits, summing_small, summing_turn, summing_end}
+use Rattle.check_conditions.proofs.Summing.{Summing}
 use Rattle.check_conditions.proofs.sum.sum_of_products.Given as goal
 
 abbrev pub invariant-loop-k : goal.invariant-loop-k

@@ -1,16 +1,13 @@
 -- Where there is no coefficient, 0 is added.
-use mathlib.Core.Logic.{⊎_elim}
 use Prim.Native.Nat.{ℕ, ◌+◌, ◌*◌, ◌<◌}
 use native.Mathlib.Nat.{mul-le-mul}
 use native.Mathlib.Omega.{arith}
 use lib.ListN.{get_or, get_or-eq_default}
-use lib.Dec.{eqb}
-use borrow.Author.Rules.{rules}
-use borrow.Author.Tests.{eqb-true, not-false}
 use Rattle.modular.specs.Bits.{most16, bound32, bound64}
 use Rattle.check_conditions.specs.Walk.{carried_width}
 use Rattle.check_conditions.proofs.Adding.{column_room, nothing_added}
 use Rattle.check_conditions.proofs.walk.add_term.Goals as goal
+use Rattle.check_conditions.proofs.walk.add_term.Goals.{else-k-f-via-then-k-f+else-f-k-ne0, else-k-f-via-else-k-f}
 
 pub add_scaled-requires : goal.add_scaled-requires
 add_scaled-requires c =
@@ -37,7 +34,7 @@ returns-else-k-f c =
     let a : ℕ = get_or S.args.f.now S.args.k 0 in
     nothing_added S.args.carried.now S.args.window.now (S.args.j * carried_width) _ S.args.e a
     (column_room S.args.carried.now given.0 given.1 given.4)
-    (⊎_elim
-    (λ came. eqb-true a 0 (not-false (eqb a 0) came.2.left))
-    (λ came. get_or-eq_default S.args.f.now 0 came.left)
-    c.if-k-f.branch)
+    (elim c.else-k-f.branch [
+      | else-k-f-via-then-k-f+else-f-k-ne0 w ↦ w.if-f-k-ne0.false
+      | else-k-f-via-else-k-f w ↦ get_or-eq_default S.args.f.now 0 w.if-k-f.false
+    ])

@@ -1,16 +1,11 @@
 use mathlib.Core.Path.{refl}
-use Prim.Native.Nat.{ℕ, ◌+◌, ◌-◌, ◌*◌, ◌<◌}
+use Prim.Native.Nat.{ℕ, ◌+◌, ◌<◌}
 use native.Mathlib.Nat.{mul-le-mul_right}
 use native.Mathlib.Omega.{arith}
-use lib.ListN.{get_or}
-use borrow.Author.Rules.{rules}
 use Rattle.words.specs.Limits.{office}
-use Rattle.vector.specs.Reduced.{polynomial}
-use Rattle.loader.specs.Slot.{slot}
 use Rattle.loader.specs.SlotLaws.{taken_canonical, canonical_word}
-use Rattle.loader.specs.Widths.{system_width}
 use Rattle.check_conditions.proofs.Terms.{row_places}
-use Rattle.check_conditions.proofs.Adding.{AddingTerms, adding_start, adding_small, adding_turn, adding_end, adding_carried}
+use Rattle.check_conditions.proofs.Adding.{adding_start, adding_small, adding_turn, adding_end, adding_carried}
 use Rattle.check_conditions.proofs.walk.add_to_columns.Goals as goal
 
 pub loop-j-init : goal.loop-j-init

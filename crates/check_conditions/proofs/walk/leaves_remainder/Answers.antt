@@ -8,7 +8,6 @@ use native.Mathlib.Omega.{arith}
 use lib.Dec.{ltb}
 use lib.ListN.{length, get_or, take, drop, length-take, length-drop}
 use lib.Seq.{take-take}
-use borrow.Author.Rules.{rules}
 use borrow.Author.Tests.{lt-ltb}
 use Rattle.vector.specs.Bound.{below_reducible}
 use Rattle.vector.specs.Reduced.{reduced, word_inside, word_behind}
@@ -39,11 +38,11 @@ find_leading-leading-requires c =
     let all = S.args.carried.now in
     let room = column_room all S.requires.reduced.0 S.requires.valid_modulus.2 S.requires.valid_modulus.1 in
     let long : S.args.e ≤ length (take (from + S.args.e - from) (drop from all)) = simp (length-take, length-drop)
-    (omega (arith, room)) in (
-      (S.requires.valid_modulus.0, omega (arith, long)),
-      below_reducible p (take (from + S.args.e - from) (drop from all)) _
-          (part-below p all from (from + S.args.e - from) (omega (arith, S.requires.valid_modulus.0.prime.large)) S.requires.reduced.1),
-    )
+    (omega (arith, room)) in record {
+      valid_modulus = (S.requires.valid_modulus.0, omega (arith, long));
+      sums = below_reducible p (take (from + S.args.e - from) (drop from all)) _
+          (part-below p all from (from + S.args.e - from) (omega (arith, S.requires.valid_modulus.0.prime.large)) S.requires.reduced.1);
+    }
 
 pub returns : goal.returns
 returns c =

@@ -1,11 +1,9 @@
 use mathlib.Core.Path.{ap}
 use mathlib.Core.Logic.{⊎_elim}
-use Prim.Native.Nat.{ℕ, ◌+◌, ◌-◌, ◌*◌, ◌≤◌, ◌<◌}
+use Prim.Native.Nat.{◌+◌, ◌*◌, ◌<◌}
 use native.Mathlib.Nat.{eq-or-lt_of_le, le_of_suc-le-suc}
 use native.Mathlib.Omega.{arith}
 use lib.ListN.{length}
-use borrow.Author.Rules.{rules}
-use Rattle.words.specs.Limits.{office}
 use Rattle.loader.specs.Slot.{slot}
 use Rattle.loader.specs.SlotLaws.{taken_size}
 use Rattle.loader.specs.Widths.{system_width}
@@ -49,7 +47,7 @@ loop-j-preserved c =
             ap (λ x. length (slot system_width S.args.system.now (S.args.i * S.args.dimensions.columns + x))) here,
             ap length is,
           ))
-          (λ l. omega (arith, c.larger-longest.ensures, L.invariant.1 k l))
+          (λ (l : k < L.j). omega (arith, c.larger-longest.ensures, L.invariant.1 k l))
           (eq-or-lt_of_le (le_of_suc-le-suc (omega arith))),
     )
 

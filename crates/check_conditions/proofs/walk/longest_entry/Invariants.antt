@@ -1,16 +1,9 @@
 -- The entries before j are no longer than the longest so far.
-use mathlib.Core.Path.{ap}
-use mathlib.Core.Logic.{⊎_elim}
 use Prim.Native.Nat.{ℕ, ◌+◌, ◌-◌, ◌*◌, ◌≤◌, ◌<◌}
-use native.Mathlib.Nat.{eq-or-lt_of_le, le_of_suc-le-suc}
-use native.Mathlib.Omega.{arith}
 use lib.ListN.{length}
-use borrow.Author.Rules.{rules}
 use Rattle.words.specs.Limits.{office}
 use Rattle.loader.specs.Slot.{slot}
-use Rattle.loader.specs.SlotLaws.{taken_size}
 use Rattle.loader.specs.Widths.{system_width}
-use Rattle.check_conditions.proofs.Terms.{row_places}
 use Rattle.check_conditions.proofs.walk.longest_entry.Given as goal
 
 abbrev pub invariant-loop-j : goal.invariant-loop-j

@@ -25,9 +25,9 @@ divide_words-requires c =
     let copied = c.copy.ensures in record {
       valid_modulus = (m, omega (arith, z.1), search rules, omega (arith, S.requires.valid_modulus.1, z.1));
       dividend = (
-          rw (copied_is positive S.args.z.now z.0 blank none z.1 copied) z.0,
-          copied_small positive S.args.z.now z.0 blank none z.1 copied,
-        );
+        rw (copied_is positive S.args.z.now z.0 blank none z.1 copied) z.0,
+        copied_small positive S.args.z.now z.0 blank none z.1 copied,
+      );
       divisor = divisor_of positive S.args.w.now w.0 w.1 S.args.inverse w.3;
       zero = S.requires.valid_modulus.2;
     }
@@ -44,11 +44,11 @@ reduce_range-requires c =
     let copied = D.copy.ensures in
     let is = copied_is positive S.args.z.now z.0 blank (zeros_none office.certificate_coefficients) z.1 copied in
     let cleared = c.clear in
-    let long : length D.divide_words.new.d ≡ window_words = search rules in
-    let room : length cleared.new.0 ≡ window_words = search rules in record {
+    let long : length D.divide_words.new.q ≡ window_words = search rules in
+    let room : length cleared.new.h ≡ window_words = search rules in record {
       valid_modulus = (m, omega (arith, room, w.2, ap length c.copy-2.ensures));
       sums = moved_reducible m.prime S.args.z.now S.args.w.now z.0 w.0 w.1 office.system_coefficients _ is
-          D.divide_words.ensures cleared.new.0 (cleared_none window_words _ long cleared.ensures)
+          D.divide_words.ensures cleared.new.h (cleared_none window_words _ long cleared.ensures)
           (omega (arith, room, w.2)) _
           c.lesser.ensures c.copy-2.ensures;
     }
@@ -65,11 +65,11 @@ returns c =
     let copied = D.copy.ensures in
     let is = copied_is positive S.args.z.now z.0 blank (zeros_none office.certificate_coefficients) z.1 copied in
     let cleared = c.clear in
-    let long : length D.divide_words.new.d ≡ window_words = search rules in
-    let all : length cleared.new.0 ≡ window_words = search rules in
+    let long : length D.divide_words.new.q ≡ window_words = search rules in
+    let all : length cleared.new.h ≡ window_words = search rules in
     let none = cleared_none window_words _ long cleared.ensures in
-    let room : office.system_coefficients + (length S.args.w.now - 1) ≤ length cleared.new.0 = omega (arith, all, w.2) in
+    let room : office.system_coefficients + (length S.args.w.now - 1) ≤ length cleared.new.h = omega (arith, all, w.2) in
     let lesser = c.lesser.ensures in
     let r = started m.prime S.args.z.now S.args.w.now z.0 w.0 w.1 office.system_coefficients _ is
-    D.divide_words.ensures cleared.new.0 none room _ lesser c.copy-2.ensures
+    D.divide_words.ensures cleared.new.h none room _ lesser c.copy-2.ensures
     c.reduce_range.ensures all in record { value = r.0; reduced = r.1 }

@@ -18,7 +18,7 @@ use Rattle.check_conditions.specs.Areas.{system_in_slots, certifying_denominator
 use Rattle.check_conditions.specs.Walk.{carried_in, take_along, window_words}
 use Rattle.check_conditions.proofs.Terms.{row_filled, entry_in, vector_in_lem}
 use Rattle.check_conditions.proofs.Starting.{divisor_of}
-use Rattle.check_conditions.proofs.Walking.{counted, Walking, walking_start, walking_turn, walking_end, walking_words, slid}
+use Rattle.check_conditions.proofs.Walking.{counted, walking_start, walking_turn, walking_end, walking_words, slid}
 use Rattle.check_conditions.proofs.walk.take_row.Goals as goal
 
 pub coefficients_in-w-requires : goal.coefficients_in-w-requires

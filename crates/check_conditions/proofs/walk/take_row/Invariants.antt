@@ -1,25 +1,13 @@
 -- The loop keeps a `Walking`: what is carried, and what the coefficients that are left add.
-use mathlib.Core.Path.{◌≡◌, sym, ap, ap₂, ◌∙◌, subst}
-use mathlib.Core.List.{List}
-use Prim.Native.Nat.{ℕ, ◌+◌, ◌-◌, ◌*◌, ◌<◌}
-use native.Mathlib.Omega.{arith}
-use lib.ListN.{length}
-use borrow.Author.Rules.{rules}
+use Prim.Native.Nat.{◌+◌, ◌-◌, ◌*◌}
 use Rattle.algebra.specs.Coefficients.{mul}
 use Rattle.modular.specs.Modulo.{modulo}
-use Rattle.modular.specs.Canonical.{Canonical}
 use Rattle.modular.specs.Delay.{degree}
 use Rattle.words.specs.Limits.{office}
-use Rattle.vector.specs.Bound.{zeros_none}
-use Rattle.polynomial_words.specs.Window.{ReducedFrom}
 use Rattle.loader.specs.Slot.{slot}
-use Rattle.loader.specs.SlotLaws.{taken_canonical, taken_size}
 use Rattle.loader.specs.Widths.{system_width, certificate_width}
-use Rattle.check_conditions.specs.Areas.{system_in_slots, certifying_denominator_in, certifying_numerators_in}
-use Rattle.check_conditions.specs.Walk.{carried_in, take_along, window_words}
-use Rattle.check_conditions.proofs.Terms.{row_filled, entry_in, vector_in_lem}
-use Rattle.check_conditions.proofs.Starting.{divisor_of}
-use Rattle.check_conditions.proofs.Walking.{counted, Walking, walking_start, walking_turn, walking_end, walking_words, slid}
+use Rattle.check_conditions.specs.Walk.{carried_in, take_along}
+use Rattle.check_conditions.proofs.Walking.{Walking}
 use Rattle.check_conditions.proofs.walk.take_row.Given as goal
 
 abbrev pub invariant-loop-k : goal.invariant-loop-k

@@ -70,12 +70,12 @@ add_scaled-requires c =
       n_in_bounds = (omega (arith, L.invariant.0.same_remainder), omega (arith, by.room), omega arith);
       small = (λ j lt. omega (arith, by.small (0 + j)));
       fits = λ j lt.
-            omega (
-              arith,
-              word (L.k - 1 - e + j),
-              mul-le-mul_right p limit,
-              mul-le-mul {n₁ = p - v} {m₁ = get_or S.args.d.now (0 + j) 0} {n₂ = p} {m₂ = p} (omega arith) (by.small (0 + j)),
-            );
+          omega (
+            arith,
+            word (L.k - 1 - e + j),
+            mul-le-mul_right p limit,
+            mul-le-mul {n₁ = p - v} {m₁ = get_or S.args.d.now (0 + j) 0} {n₂ = p} {m₂ = p} (omega arith) (by.small (0 + j)),
+          );
     }
 
 pub loop-k-preserved : goal.loop-k-preserved
@@ -97,7 +97,7 @@ loop-k-preserved c =
     (λ (j : ℕ). Dividing p S.args.h.now S.args.q.now S.args.n (take (e + 1) S.args.d.now) L.q L.h j)
     next
     L.invariant.0 in
-    (dividing_turn by i so_far (omega arith) _ (rw place at factor) called.ensures.0 called.ensures.1, omega arith)
+    (dividing_turn by i so_far (omega arith) _ (rw place at factor) called.ensures.words called.ensures.polynomials, omega arith)
 
 pub returns : goal.returns
 returns c =

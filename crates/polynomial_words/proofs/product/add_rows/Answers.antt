@@ -22,7 +22,7 @@ loop-i-preserved c =
     let S = c in
     let L = c.loop-i in
     let called = c.add_scaled in
-    adding_turn _ _ _ _ _ _ _ L.invariant called.new.0 (omega arith) (omega arith) called.ensures.0 called.ensures.1
+    adding_turn _ _ _ _ _ _ _ L.invariant called.new.h (omega arith) (omega arith) called.ensures.words called.ensures.polynomials
 
 pub returns : goal.returns
 returns c = adding_end _ _ _ _ _ _ _ c.loop-i.invariant (omega arith)

@@ -34,10 +34,10 @@ find_leading-leading-requires c =
     let S = c in
     let positive : 0 < S.args.modulus.p = omega (arith, S.requires.valid_modulus.0.prime.large) in
     let words = c.copy_reduced.ensures in
-    let p = S.args.modulus.p in (
-      (S.requires.valid_modulus.0, still-room p positive _ S.args.s.now S.args.a S.args.n (omega arith) words),
-      reducible p positive _ S.args.s.now S.args.a S.args.n (omega arith) words,
-    )
+    let p = S.args.modulus.p in record {
+      valid_modulus = (S.requires.valid_modulus.0, still-room p positive _ S.args.s.now S.args.a S.args.n (omega arith) words);
+      sums = reducible p positive _ S.args.s.now S.args.a S.args.n (omega arith) words;
+    }
 
 pub returns : goal.returns
 returns c =

@@ -31,39 +31,39 @@ add_scaled-requires c =
     let p : ℕ = S.args.modulus.p in
     let limit : p ≤ largest_modulus = S.requires.valid_modulus.0.limit in
     let divisor = S.requires.divisor in
-    let called = c.mul in record {
+    let called = c.mul-c in record {
       n_in_bounds = (omega (arith, S.requires.valid_modulus.1), omega (arith, divisor.room), omega arith);
       small = (λ j lt. omega (arith, divisor.small (0 + j)));
       fits = λ j lt.
-            omega (
-              arith,
-              slide_small S.requires.valid_modulus.0.prime S.args.a divisor S.requires.valid_modulus.2 S.requires.valid_modulus.1 called.result
-                  (S.args.a + j) (0 + j),
-              mul-le-mul limit limit,
-            );
+          omega (
+            arith,
+            slide_small S.requires.valid_modulus.0.prime S.args.a divisor S.requires.valid_modulus.2 S.requires.valid_modulus.1 called.result
+                (S.args.a + j) (0 + j),
+            mul-le-mul limit limit,
+          );
     }
 
 pub reduce_range-requires : goal.reduce_range-requires
 reduce_range-requires c =
     let S = c in
-    let called = c.mul in
+    let called = c.mul-c in
     let added = c.add_scaled in
-    let long : length added.new.0 ≡ length S.args.h.now = search rules in record {
+    let long : length added.new.h ≡ length S.args.h.now = search rules in record {
       valid_modulus = (S.requires.valid_modulus.0, omega (arith, S.requires.valid_modulus.1));
       sums = slide_reducible S.requires.valid_modulus.0.prime S.args.a S.requires.divisor S.requires.valid_modulus.2 S.requires.valid_modulus.1 called.result
-          added.ensures.0 _;
+          added.ensures.words _;
     }
 
 pub returns : goal.returns
 returns c =
     let S = c in
-    let called = c.mul in
+    let called = c.mul-c in
     let added = c.add_scaled in
     let reduced = c.reduce_range.ensures in record {
-      value = slide_value S.requires.valid_modulus.0.prime S.args.a S.requires.divisor S.requires.valid_modulus.2 S.requires.valid_modulus.1 called.result added.ensures.0
-          called.ensures added.ensures.1 reduced;
+      value = slide_value S.requires.valid_modulus.0.prime S.args.a S.requires.divisor S.requires.valid_modulus.2 S.requires.valid_modulus.1 called.result added.ensures.words
+          called.ensures added.ensures.polynomials reduced;
       reduced = slide_window S.requires.valid_modulus.0.prime S.args.a S.requires.divisor S.requires.valid_modulus.2 S.requires.valid_modulus.1 called.result
-            added.ensures.0 called.ensures added.ensures.1 reduced;
-      rest = slide_rest S.requires.valid_modulus.0.prime S.args.a S.requires.divisor S.requires.valid_modulus.2 S.requires.valid_modulus.1 called.result added.ensures.0
-            called.ensures added.ensures.1 reduced;
+          added.ensures.words called.ensures added.ensures.polynomials reduced;
+      rest = slide_rest S.requires.valid_modulus.0.prime S.args.a S.requires.divisor S.requires.valid_modulus.2 S.requires.valid_modulus.1 called.result added.ensures.words
+          called.ensures added.ensures.polynomials reduced;
     }

@@ -9,7 +9,7 @@ use Rattle.solve_lattice.specs.Room.{product_words, slot_words, lanes}
 use Rattle.solve_descent.specs.Combination.{TakesCombination}
 use Rattle.solve_descent.specs.Blocks.{block_terms}
 use Rattle.solve_descent.proofs.Combinations.{combination_start, combination_small, combination_turn}
-use Rattle.solve_descent.proofs.Terms.{terms_are, terms_room, terms_fit}
+use Rattle.solve_descent.proofs.TermLaws.{terms_are, terms_room, terms_fit}
 use Rattle.solve_descent.proofs.blocks.subtract_blocks.Goals as goal
 
 pub most_terms-requires : goal.most_terms-requires
@@ -31,9 +31,9 @@ subtract_product-requires c =
       valid_modulus = (S.requires.valid_modulus.0, fit.0, fit.1, omega (arith, valid.room, slot.block.within));
       factors = (fit.2, S.requires.factors);
       small = (
-          combination_small L.invariant.1 (omega arith) S.requires.valid_modulus.0.limit S.requires.zero,
-          λ j lt. valid.below (slot_words * L.q + j) (omega (arith, slot.block.within)),
-        );
+        combination_small L.invariant.1 (omega arith) S.requires.valid_modulus.0.limit S.requires.zero,
+        λ j lt. valid.below (slot_words * L.q + j) (omega (arith, slot.block.within)),
+      );
     }
 
 pub loop-q-preserved : goal.loop-q-preserved

@@ -10,7 +10,7 @@ use Rattle.solve_lattice.specs.Room.{product_words, slot_words, lanes}
 use Rattle.solve_descent.specs.Combination.{TakesCombination}
 use Rattle.solve_descent.specs.Blocks.{block_terms}
 use Rattle.solve_descent.proofs.Combinations.{combination_start, combination_small, combination_turn}
-use Rattle.solve_descent.proofs.Terms.{terms_are, terms_room, terms_fit}
+use Rattle.solve_descent.proofs.TermLaws.{terms_are, terms_room, terms_fit}
 use Rattle.solve_descent.proofs.blocks.subtract_blocks.Given as goal
 
 abbrev pub invariant-loop-q : goal.invariant-loop-q

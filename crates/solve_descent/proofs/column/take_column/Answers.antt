@@ -27,7 +27,7 @@ find_leading-found-requires c =
     let S = c in
     let m : ValidModulus S.args.modulus = S.requires.valid_modulus.0 in
     let y : length S.args.y.now ≡ tail_words = search rules in
-    ((m, omega arith), λ j lt. omega (arith, S.requires.sums j))
+    record { valid_modulus = (m, omega arith); sums = λ j lt. omega (arith, S.requires.sums j) }
 
 pub subtract_product-requires : goal.subtract_product-requires
 subtract_product-requires c =
@@ -39,17 +39,17 @@ subtract_product-requires c =
     let square = mul-le-mul limit limit in
     let few = K.lesser.ensures in
     let stores = N.store_negated.ensures in
-    let t : length S.args.t.now ≡ product_words = c.subtract_product-arg-1.given.0.1 in
+    let t : length S.args.t.now ≡ product_words = search rules in
     let output : length S.args.output.now ≡ output_words = search rules in
     let input : length S.args.input.now ≡ input_words = search rules in
     let room : S.args.place + block_words ≤ length S.args.output.now = omega (arith, S.requires.valid_modulus.1) in
     let size = stored_length m.prime S.args.output.now _ S.args.place S.args.y.now block_words stores room in record {
       valid_modulus = (m, omega (arith, few), omega (arith, few), omega (arith, S.requires.valid_modulus.2));
       factors = (
-          omega (arith, few, room),
-          stored_below m.prime S.args.output.now _ S.args.place S.args.y.now block_words stores room
-              (λ i out. S.requires.coordinates i),
-        );
+        omega (arith, few, room),
+        stored_below m.prime S.args.output.now _ S.args.place S.args.y.now block_words stores room
+            (λ i out. S.requires.coordinates i),
+      );
       small = ((λ i. omega (arith, square, S.requires.block i)), λ j lt. S.requires.column (S.args.at + j));
     }
 
@@ -59,7 +59,7 @@ returns c =
     let N = K in
     let S = N in
     let m : ValidModulus S.args.modulus = S.requires.valid_modulus.0 in
-    let t : length S.args.t.now ≡ product_words = c.subtract_product-arg-1.given.0.1 in
+    let t : length S.args.t.now ≡ product_words = search rules in
     let output : length S.args.output.now ≡ output_words = search rules in
     column_taken m.prime S.args.t.now S.args.output.now S.args.place S.args.y.now S.args.input.now
     S.args.at _ _ _ _ t (omega (arith, S.requires.valid_modulus.1)) N.store_negated.ensures K.find_leading-found.ensures.size

@@ -13,14 +13,14 @@ subtract_multiple-requires c =
     let S = G in
     let prime = S.requires.valid_modulus.0.prime in
     let f = S.args.factors.now in
-    let written = c.subtract_multiple-arg-3-1.given.0 in
-    let room : length f ≡ block_words = sym (length-set f _ _) ∙ written in record {
+    let room : length f ≡ block_words = search rules in
+    let written = length-set f _ 1 ∙ room in record {
       valid_modulus = (S.requires.valid_modulus.0, S.requires.quotients);
       multiple = lane_below S.args.quotients.now _ S.args.q S.requires.quotients G.gather_lane.ensures refl;
       factors = (
-          written,
-          factors_below prime f S.args.q room S.requires.valid_modulus.1 _ (omega (arith, prime.large)) S.requires.factors,
-        );
+        written,
+        factors_below prime f S.args.q room S.requires.valid_modulus.1 _ (omega (arith, prime.large)) S.requires.factors,
+      );
     }
 
 pub returns : goal.returns
@@ -29,7 +29,7 @@ returns c =
     let G = C in
     let S = G in
     let f = S.args.factors.now in
-    let room : length f ≡ block_words = sym (length-set f _ _) ∙ c.subtract_multiple-arg-3-1.given.0 in
+    let room : length f ≡ block_words = search rules in
     let output : length S.args.output.now ≡ output_words = search rules in record {
       lowers = quotients_lowered S.requires.valid_modulus.0.prime S.args.quotients.now f S.args.output.now _
           S.args.place S.args.q S.requires.valid_modulus.1 S.requires.quotients room (omega (arith, S.requires.valid_modulus.2)) S.requires.output refl

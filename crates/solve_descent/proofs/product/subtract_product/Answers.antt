@@ -1,6 +1,5 @@
 use Prim.Native.Nat.{◌+◌, ◌-◌, ◌*◌, ◌≤◌}
 use mathlib.Core.Path.{◌≡◌, sym, ◌∙◌, subst}
-use mathlib.Core.Logic.{⊎_elim}
 use native.Mathlib.Omega.{arith}
 use borrow.Author.Rules.{rules}
 use Rattle.modular.specs.LargestPrime.{largest_modulus}
@@ -8,6 +7,7 @@ use Rattle.solve_descent.specs.Product.{TakesProduct}
 use Rattle.solve_descent.proofs.Products.{next_multiple, product_start, product_none, product_sum, product_turn}
 use Rattle.solve_descent.proofs.Products.{product_skip}
 use Rattle.solve_descent.proofs.product.subtract_product.Goals as goal
+use Rattle.solve_descent.proofs.product.subtract_product.Goals.{then-factor-gt0, else-factor-gt0}
 
 pub overflow_mul-factor : goal.overflow_mul-factor
 overflow_mul-factor c =
@@ -60,7 +60,7 @@ add_scaled-requires c =
       n_in_bounds = (omega (arith, so_far.same_length), omega arith, omega arith);
       small = (λ j lt. omega (arith, S.requires.small.1 j lt));
       fits = λ j lt. product_sum so_far S.requires.factors.1 S.requires.small.1 S.args.terms.count (omega arith) S.requires.valid_modulus.1 limit
-            S.requires.small.0 j lt;
+          S.requires.small.0 j lt;
     }
 
 pub loop-k-preserved : goal.loop-k-preserved
@@ -68,12 +68,12 @@ loop-k-preserved c =
     let S = c in
     let L = c.loop-k in (
       omega arith,
-      ⊎_elim
-          (λ way. product_turn L.invariant.1 S.requires.factors.1 S.requires.small.1 _ (way.6 ∙ way.3.ensures.0))
-          (λ way. subst (TakesProduct S.args.modulus.p S.args.w S.args.h.now S.args.f.now S.args.terms.at
-          S.args.terms.step (L.k + 1) S.args.s.now S.args.a S.args.m) (sym way.1)
-          (product_skip L.invariant.1 (omega (arith, way.0.left))))
-          c.if-factor-gt0.branch,
+      elim c.if-factor-gt0.branch [
+        | then-factor-gt0 w ↦ product_turn L.invariant.1 S.requires.factors.1 S.requires.small.1 _ (w.h-is ∙ w.add_scaled.ensures.words)
+        | else-factor-gt0 w ↦ subst
+            (TakesProduct S.args.modulus.p S.args.w S.args.h.now S.args.f.now S.args.terms.at S.args.terms.step (L.k + 1) S.args.s.now
+            S.args.a S.args.m) (sym w.h-is) (product_skip L.invariant.1 (omega (arith, w.if-factor-gt0.false)))
+      ],
     )
 
 pub returns : goal.returns

@@ -20,9 +20,9 @@ subtract_product-requires c =
       valid_modulus = (S.requires.valid_modulus.0, omega arith, omega (arith, slot.tail_within), omega (arith, valid.room, slot.tail_within));
       factors = (omega arith, S.requires.factors);
       small = (
-          combination_small L.invariant.1 (omega arith) S.requires.valid_modulus.0.limit S.requires.zero,
-          λ j lt. valid.below (slot_words * L.q + block_words + j) (omega (arith, slot.tail_within)),
-        );
+        combination_small L.invariant.1 (omega arith) S.requires.valid_modulus.0.limit S.requires.zero,
+        λ j lt. valid.below (slot_words * L.q + block_words + j) (omega (arith, slot.tail_within)),
+      );
     }
 
 pub loop-q-preserved : goal.loop-q-preserved

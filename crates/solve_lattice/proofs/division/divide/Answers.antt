@@ -3,7 +3,6 @@ use mathlib.Core.Path.{◌≡◌, subst}
 use mathlib.Core.Logic.{inl, inr}
 use native.Mathlib.Nat.{le_of_lt, le_trans, le-add_right, pos_of_ne-zero}
 use native.Mathlib.Omega.{arith}
-use borrow.Author.Rules.{rules}
 use Rattle.residue.specs.Modulus.{ValidModulus}
 use Rattle.solve_lattice.specs.Room.{product_words, slot_places, most_places}
 use Rattle.solve_lattice.specs.Found.{found_ends, found_leading, found_within}
@@ -12,7 +11,7 @@ use Rattle.solve_lattice.specs.Quotients.{BlockDivided}
 use Rattle.solve_lattice.specs.Step.{takes_left}
 use Rattle.solve_lattice.proofs.Rows
 use Rattle.solve_lattice.proofs.Stepping
-use Rattle.solve_lattice.proofs.Dividing.{Dividing, dividing_start, dividing_step, dividing_turn, dividing_end}
+use Rattle.solve_lattice.proofs.Dividing.{dividing_start, dividing_step, dividing_turn, dividing_end}
 use Rattle.solve_lattice.proofs.division.divide.Goals as goal
 
 pub find_leading-found-requires : goal.find_leading-found-requires
@@ -20,7 +19,10 @@ find_leading-found-requires c =
     let S = c in
     let m : ValidModulus S.args.modulus = S.requires.valid_modulus.0 in
     let room = sums_room _ S.args.block.now most_places (le_of_lt m.prime.large) S.requires.block.3 in
-    ((m, Rows.within_degrees S.requires.block.0), λ j lt. le_trans (le-add_right _ _) (room j))
+    record {
+      valid_modulus = (m, Rows.within_degrees S.requires.block.0);
+      sums = λ j lt. le_trans (le-add_right _ _) (room j);
+    }
 
 pub loop-found-init : goal.loop-found-init
 loop-found-init c =
@@ -55,7 +57,11 @@ take_multiple-left-requires c =
     let some = on.loop-found-test.true in
     let filled = pos_of_ne-zero on.if-size-eq0.false in
     let step = dividing_step S.requires.valid_modulus.0.prime I S.requires.valid_modulus.1 some filled on.if-k-size.false in
-    (S.requires.valid_modulus.0, (step, sums_fewer _ L.loop-found.block (slot_places + L.loop-found.found.size) 1 (omega arith) I.sums))
+    record {
+      valid_modulus = S.requires.valid_modulus.0;
+      step = step;
+      sums = sums_fewer _ L.loop-found.block (slot_places + L.loop-found.found.size) 1 (omega arith) I.sums;
+    }
 
 pub bounds-quotients-place : goal.bounds-quotients-place
 bounds-quotients-place c =
@@ -96,7 +102,7 @@ pub find_rest-found-requires : goal.find_rest-found-requires
 find_rest-found-requires c =
     let T = c in
     let L = T in
-    (L.requires.valid_modulus.0, T.take_multiple-left.ensures.rest)
+    record { valid_modulus = L.requires.valid_modulus.0; rest = T.take_multiple-left.ensures.rest }
 
 pub loop-found-smaller : goal.loop-found-smaller
 loop-found-smaller c =

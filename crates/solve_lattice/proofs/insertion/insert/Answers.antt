@@ -1,8 +1,7 @@
 use native.Mathlib.Nat.{pos_of_ne-zero}
 use native.Mathlib.Omega.{arith}
-use Rattle.solve_lattice.specs.Memory.{memory, places}
 use Rattle.solve_lattice.proofs.Rows
-use Rattle.solve_lattice.proofs.Inserting.{Inserting, inserting_start, inserting_turn, inserting_on, inserting_end}
+use Rattle.solve_lattice.proofs.Inserting.{inserting_start, inserting_turn, inserting_on, inserting_end}
 use Rattle.solve_lattice.proofs.insertion.insert.Goals as goal
 
 pub returns-then-level-q-eq0 : goal.returns-then-level-q-eq0
@@ -19,7 +18,11 @@ turn-hand-requires c =
     let on = c in
     let some = on.loop-hand-test.true in
     let filled = pos_of_ne-zero on.if-level-q-eq0.false in
-    (S.requires.valid_modulus, (I.moved.valid, inserting_on S.requires.valid_modulus.prime S.requires.memory S.requires.starts I some filled))
+    record {
+      valid_modulus = S.requires.valid_modulus;
+      memory = I.moved.valid;
+      filled = inserting_on S.requires.valid_modulus.prime S.requires.memory S.requires.starts I some filled;
+    }
 
 pub loop-hand-preserved : goal.loop-hand-preserved
 loop-hand-preserved c =

@@ -1,9 +1,6 @@
 -- The loop keeps an `Inserting`; its measure is the places.
-use native.Mathlib.Nat.{pos_of_ne-zero}
-use native.Mathlib.Omega.{arith}
 use Rattle.solve_lattice.specs.Memory.{memory, places}
-use Rattle.solve_lattice.proofs.Rows
-use Rattle.solve_lattice.proofs.Inserting.{Inserting, inserting_start, inserting_turn, inserting_on, inserting_end}
+use Rattle.solve_lattice.proofs.Inserting.{Inserting}
 use Rattle.solve_lattice.proofs.insertion.insert.Given as goal
 
 abbrev pub invariant-loop-hand : goal.invariant-loop-hand

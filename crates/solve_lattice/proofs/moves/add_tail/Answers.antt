@@ -1,5 +1,4 @@
 -- Where there are no words, nothing is stored.
-use borrow.Author.Rules.{rules}
 use mathlib.Core.Path.{◌≡◌, sym, ap}
 use native.Mathlib.Omega.{arith}
 use Rattle.vector.specs.Multiple.{sum_at}

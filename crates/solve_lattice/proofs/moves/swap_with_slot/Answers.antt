@@ -16,7 +16,10 @@ find_leading-hand_tail-requires c =
     let m : ValidModulus S.args.modulus = S.requires.valid_modulus in
     let positive : 0 < S.args.modulus.p = le_of_lt m.prime.large in
     let room = sums_room _ S.args.tail.now _ positive valid.hand.tail_sums in
-    ((m, le_trans valid.hand.tail_within valid.hand.tail_room), λ j lt. le_trans (le-add_right _ _) (room j))
+    record {
+      valid_modulus = (m, le_trans valid.hand.tail_within valid.hand.tail_room);
+      sums = λ j lt. le_trans (le-add_right _ _) (room j);
+    }
 
 pub exchange-requires : goal.exchange-requires
 exchange-requires c =
@@ -68,10 +71,10 @@ find_leading-found-requires c =
     let m : ValidModulus S.args.modulus = S.requires.valid_modulus in
     let positive : 0 < S.args.modulus.p = le_of_lt m.prime.large in
     let E = swap_of positive valid S.requires.room _ T.find_leading-hand_tail.ensures.size _ W.larger-words.ensures _ Y.larger-tail_words.ensures
-    in (
-      (m, block_there E X.exchange.new.h X.exchange.auto.h),
-      λ j lt. block_reducible E _ X.exchange.ensures.hand positive j,
-    )
+    in record {
+      valid_modulus = (m, block_there E X.exchange.new.h X.exchange.auto.h);
+      sums = λ j lt. block_reducible E _ X.exchange.ensures.hand positive j;
+    }
 
 pub returns : goal.returns
 returns c =

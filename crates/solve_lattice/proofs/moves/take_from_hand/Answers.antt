@@ -14,15 +14,16 @@ pub take_multiple-left-requires : goal.take_multiple-left-requires
 take_multiple-left-requires c =
     let S = c in
     let valid = S.requires.memory in
-    let fits = S.requires.fits in (
-      S.requires.valid_modulus,
-      (Taking.fits_step valid fits, sums_fewer _ S.args.block.now _ 1 (omega (arith, fits.some)) valid.hand.sums),
-    )
+    let fits = S.requires.fits in record {
+      valid_modulus = S.requires.valid_modulus;
+      step = Taking.fits_step valid fits;
+      sums = sums_fewer _ S.args.block.now _ 1 (omega (arith, fits.some)) valid.hand.sums;
+    }
 
 pub find_rest-rest-requires : goal.find_rest-rest-requires
 find_rest-rest-requires c =
     let A = c in
-    (A.requires.valid_modulus, A.take_multiple-left.ensures.rest)
+    record { valid_modulus = A.requires.valid_modulus; rest = A.take_multiple-left.ensures.rest }
 
 pub overflow_sub-minus : goal.overflow_sub-minus
 overflow_sub-minus c =
@@ -40,7 +41,7 @@ overflow_add-words c =
 pub overflow_mul-words : goal.overflow_mul-words
 overflow_mul-words c =
     let S = c in
-    Rows.tail_words S.requires.memory.level _
+    Rows.tail_words_lem S.requires.memory.level _
 
 pub add_tail-requires : goal.add_tail-requires
 add_tail-requires c =
@@ -58,7 +59,7 @@ add_tail-requires c =
       );
       small = (λ j lt. Stepping.word_short m.limit (Taking.taking_word m.prime valid fits taken _ refl j lt));
       fits = λ j lt. Taking.taking_sum m.prime valid fits taken m.limit j
-            (le_trans lt (Taking.taking_fits m.prime valid fits taken _ refl));
+          (le_trans lt (Taking.taking_fits m.prime valid fits taken _ refl));
     }
 
 pub overflow_add-shift-2 : goal.overflow_add-shift-2

@@ -2,7 +2,6 @@ use Prim.Native.Nat.{◌+◌, ◌-◌, ◌<◌}
 use native.Mathlib.Omega.{arith}
 use Rattle.solve_lattice.specs.Room.{block_words, most_products}
 use Rattle.solve_lattice.specs.Sums.{sums_fewer}
-use Rattle.solve_lattice.specs.Remainder.{Reducing}
 use Rattle.solve_lattice.proofs.Reducing.{reducing_start, reducing_multiple, reducing_skip, reducing_turn, reducing_end}
 use Rattle.solve_lattice.proofs.remainder.reduce_words.Goals as goal
 
@@ -31,11 +30,11 @@ take_word-requires c =
     let some : 0 < A.loop-k.k = omega arith in record {
       valid_modulus = (P.valid_modulus.0, omega (arith, I.within, P.valid_modulus.2));
       multiple = reducing_multiple P.valid_modulus.0.prime P.valid_modulus.1 P.valid_modulus.2 P.room.0 P.room.1 I some F.word_to_take-value.ensures
-            (omega arith);
+          (omega arith);
       sums = (
-          sums_fewer _ A.loop-k.block (most_products - block_words + A.loop-k.k) 1 (omega arith) I.sums,
-          sums_fewer _ A.loop-k.tail (most_products - block_words + A.loop-k.k) 1 (omega arith) I.tail_sums,
-        );
+        sums_fewer _ A.loop-k.block (most_products - block_words + A.loop-k.k) 1 (omega arith) I.sums,
+        sums_fewer _ A.loop-k.tail (most_products - block_words + A.loop-k.k) 1 (omega arith) I.tail_sums,
+      );
     }
 
 pub loop-k-preserved-then-value-gt0 : goal.loop-k-preserved-then-value-gt0

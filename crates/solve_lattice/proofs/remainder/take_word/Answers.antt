@@ -62,7 +62,7 @@ pub returns : goal.returns
 returns c =
     let B = c in
     let A = B in
-    record { factor = A.mul.result; by = A.mul.ensures; words = B.add_scaled.ensures.words; tail-words = c.add_tail.ensures }
+    record { factor = A.mul.result; by = A.mul.ensures; words = B.add_scaled.ensures.words; tail_words_lem = c.add_tail.ensures }
 
 pub overflow_sub-q : goal.overflow_sub-q
 overflow_sub-q c = c.requires.multiple.some
@@ -113,7 +113,7 @@ pub overflow_add-tail_words : goal.overflow_add-tail_words
 overflow_add-tail_words c = Rows.rounded_tail c.requires.multiple.level _
 
 pub overflow_mul-tail_words : goal.overflow_mul-tail_words
-overflow_mul-tail_words c = Rows.tail_words c.requires.multiple.level _
+overflow_mul-tail_words c = Rows.tail_words_lem c.requires.multiple.level _
 
 pub overflow_sub-k-2 : goal.overflow_sub-k-2
 overflow_sub-k-2 c = c.requires.multiple.fits

@@ -1,7 +1,6 @@
 -- The word is a sum that can be reduced.
 use Prim.Native.Nat.{◌-◌}
 use native.Mathlib.Omega.{arith}
-use borrow.Author.Rules.{rules}
 use Rattle.solve_lattice.specs.Sums.{sums_room}
 use Rattle.solve_lattice.proofs.Rows
 use Rattle.solve_lattice.proofs.remainder.word_to_take.Goals as goal

@@ -28,10 +28,10 @@ word_before-next-requires c =
     let m : ValidModulus S.args.modulus = S.requires.valid_modulus in
     let step = S.requires.step.multiple in
     let by = A.mul-factor.ensures in
-    let within = (step.level.slot (row S.args.found.size) (omega arith)).block.within in (
-      (m, omega (arith, step.fits, step.room), omega (arith, within, step.level.room)),
-      Stepping.step_reduces _ m.prime step _ by S.requires.sums _ (omega (arith, within)),
-    )
+    let within = (step.level.slot (row S.args.found.size) (omega arith)).block.within in record {
+      valid_modulus = (m, omega (arith, step.fits, step.room), omega (arith, within, step.level.room));
+      sum = Stepping.step_reduces _ m.prime step _ by S.requires.sums _ (omega (arith, within));
+    }
 
 pub add_scaled-requires : goal.add_scaled-requires
 add_scaled-requires c =

@@ -1,7 +1,6 @@
 -- The sum that is reduced fits in a word.
 use native.Mathlib.Omega.{arith}
 use Rattle.residue.specs.Sum.{sum_fits}
-use borrow.Author.Rules.{rules}
 use Rattle.solve_lattice.proofs.step.word_before.Goals as goal
 
 pub overflow_mul-c : goal.overflow_mul-c

@@ -16,4 +16,8 @@ pub returns : goal.returns
 returns c = after_column c.insert-left.ensures c.settle.ensures
 
 pub insert-left-requires : goal.insert-left-requires
-insert-left-requires c = (c.requires.valid_modulus.0, c.requires.1)
+insert-left-requires c = record {
+  valid_modulus = c.requires.valid_modulus.0;
+  memory = c.requires.memory;
+  starts = c.requires.starts;
+}

@@ -8,7 +8,12 @@ use Rattle.solve_levels.proofs.next.next_level.Goals as goal
 pub start_column-hand-requires : goal.start_column-hand-requires
 start_column-hand-requires c =
     let given = c.requires in
-    (given.valid_modulus, (given.column, (given.next, (refl, zeros_none tail_words))))
+    record {
+      valid_modulus = given.valid_modulus;
+      column = given.column;
+      next = given.next;
+      tail = (refl, zeros_none tail_words);
+    }
 
 pub insert_column-requires : goal.insert_column-requires
 insert_column-requires c =

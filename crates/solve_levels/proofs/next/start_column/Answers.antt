@@ -26,6 +26,6 @@ returns c =
 
 pub copy_level-requires : goal.copy_level-requires
 copy_level-requires c = record {
-      blocks = (λ q h. (c.requires.valid_modulus.1.slot q h).block.within);
-      zeros = c.requires.next;
-    }
+  blocks = (λ q h. (c.requires.valid_modulus.1.slot q h).block.within);
+  zeros = c.requires.next;
+}

@@ -15,7 +15,7 @@ find_leading-found-requires c =
     let valid = S.requires.memory in
     let m : ValidModulus S.args.modulus = S.requires.valid_modulus in
     let room = sums_room _ S.args.tail.now _ (omega (arith, m.prime.large)) valid.hand.tail_sums in
-    ((m, omega (arith, valid.hand.tail_room)), λ j lt. omega (arith, room j))
+    record { valid_modulus = (m, omega (arith, valid.hand.tail_room)); sums = λ j lt. omega (arith, room j) }
 
 pub exchange-requires : goal.exchange-requires
 exchange-requires c =

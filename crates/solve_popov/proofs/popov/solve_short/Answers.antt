@@ -25,9 +25,9 @@ solve_second-requires c =
       valid_modulus = (P.valid_modulus.0, P.valid_modulus.1, omega arith, R.reduce_slots.ensures.valid);
       tops = popov_has R.reduce_slots.ensures P.tops;
       room = (
-          search rules,
-          λ i ge. omega (arith, get_or-eq_default S.args.rows.now 0 {n = i} (omega (arith, room)), P.valid_modulus.0.prime.large),
-        );
+        search rules,
+        λ i ge. omega (arith, get_or-eq_default S.args.rows.now 0 {n = i} (omega (arith, room)), P.valid_modulus.0.prime.large),
+      );
     }
 
 pub returns : goal.returns

@@ -17,11 +17,11 @@ reduce_words-requires c =
       valid_modulus = (P.valid_modulus.0, P.valid_modulus.2, omega (arith, within));
       room = (omega (arith, B.copy.auto.h, P.room.0), omega (arith, T.copy-2.auto.h, P.room.1));
       words = (
-          copied_most P.valid_modulus.2 (slot_words * i) (omega (arith, P.valid_modulus.1)) S.args.block.now (omega (arith, P.room.0))
-              P.zeros.0 B.copy.new.h B.copy.ensures,
-          copied_most P.valid_modulus.2 (slot_words * i + block_words) (omega (arith, P.valid_modulus.1)) S.args.tail.now
-              (omega (arith, P.room.1)) P.zeros.1 T.copy-2.new.h T.copy-2.ensures,
-        );
+        copied_most P.valid_modulus.2 (slot_words * i) (omega (arith, P.valid_modulus.1)) S.args.block.now (omega (arith, P.room.0))
+            P.zeros.0 B.copy.new.h B.copy.ensures,
+        copied_most P.valid_modulus.2 (slot_words * i + block_words) (omega (arith, P.valid_modulus.1)) S.args.tail.now
+            (omega (arith, P.room.1)) P.zeros.1 T.copy-2.new.h T.copy-2.ensures,
+      );
     }
 
 pub reduce_by_kernel-requires : goal.reduce_by_kernel-requires

@@ -1,9 +1,9 @@
 use mathlib.Core.Path.{◌≡◌, sym, ◌∙◌, ap}
-use mathlib.Core.Logic.{⊎_elim}
 use Prim.Native.Nat.{◌-◌, ◌≤◌}
 use native.Mathlib.Omega.{arith}
 use Rattle.solve_second.specs.Greatest.{greatest, greatest_none, greatest_turn}
 use Rattle.solve_second.proofs.height.greatest_height.Goals as goal
+use Rattle.solve_second.proofs.height.greatest_height.Goals.{then-top-height, else-top-height}
 
 pub loop-q-init : goal.loop-q-init
 loop-q-init c = (omega arith, sym (greatest_none _))
@@ -17,8 +17,10 @@ loop-q-preserved c =
     let L = H in
     let turn = greatest_turn L.args.level.now L.loop-q.q in (
       omega arith,
-      ⊎_elim (λ w. omega (arith, turn, H.slot_height-height.ensures, L.loop-q.invariant.1))
-          (λ w. omega (arith, turn, H.slot_height-height.ensures, L.loop-q.invariant.1)) c.if-top-height.branch,
+      elim c.if-top-height.branch [
+        | then-top-height w ↦ omega (arith, turn, H.slot_height-height.ensures, L.loop-q.invariant.1)
+        | else-top-height w ↦ omega (arith, turn, H.slot_height-height.ensures, L.loop-q.invariant.1)
+      ],
     )
 
 pub returns : goal.returns

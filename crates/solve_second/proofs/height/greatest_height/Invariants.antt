@@ -1,9 +1,7 @@
 -- The loop keeps the greatest height of the slots so far.
-use mathlib.Core.Path.{◌≡◌, sym, ◌∙◌, ap}
-use mathlib.Core.Logic.{⊎_elim}
+use mathlib.Core.Path.{◌≡◌}
 use Prim.Native.Nat.{◌-◌, ◌≤◌}
-use native.Mathlib.Omega.{arith}
-use Rattle.solve_second.specs.Greatest.{greatest, greatest_none, greatest_turn}
+use Rattle.solve_second.specs.Greatest.{greatest}
 use Rattle.solve_second.proofs.height.greatest_height.Given as goal
 
 abbrev pub invariant-loop-q : goal.invariant-loop-q

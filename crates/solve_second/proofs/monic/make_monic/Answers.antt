@@ -14,11 +14,11 @@ pub find_leading-found-requires : goal.find_leading-found-requires
 find_leading-found-requires c =
     let S = c in
     let m : ValidModulus S.args.modulus = S.requires.valid_modulus in
-    let room : length S.args.tail.now ≡ tail_words = search rules in (
-      (m, omega arith),
-      sums_reducible S.args.modulus.p S.args.tail.now most_coefficients (omega (arith, m.prime.large))
-          S.requires.tail.1,
-    )
+    let room : length S.args.tail.now ≡ tail_words = search rules in record {
+      valid_modulus = (m, omega arith);
+      sums = sums_reducible S.args.modulus.p S.args.tail.now most_coefficients (omega (arith, m.prime.large))
+          S.requires.tail.1;
+    }
 
 pub returns-then-found-eq0 : goal.returns-then-found-eq0
 returns-then-found-eq0 c =

@@ -32,13 +32,13 @@ subtract_product-requires c =
     let whole = cleared_length block_words S.args.out.now _ cleared.clear.ensures in record {
       valid_modulus = (m, omega arith, omega (arith, whole, S.requires.valid_modulus.3), omega arith);
       factors = (
-          omega (arith, negated_length m.prime _ _ S.args.f.now S.args.n stores),
-          negated_below m.prime _ _ S.args.f.now S.args.n stores (zeros_none block_words),
-        );
+        omega (arith, negated_length m.prime _ _ S.args.f.now S.args.n stores),
+        negated_below m.prime _ _ S.args.f.now S.args.n stores (zeros_none block_words),
+      );
       small = (
-          (λ i. omega (arith, cleared_none block_words S.args.out.now _ cleared.clear.ensures room i)),
-          λ j lt. S.requires.small.1 (0 + j),
-        );
+        (λ i. omega (arith, cleared_none block_words S.args.out.now _ cleared.clear.ensures room i)),
+        λ j lt. S.requires.small.1 (0 + j),
+      );
     }
 
 pub reduce_range-requires : goal.reduce_range-requires

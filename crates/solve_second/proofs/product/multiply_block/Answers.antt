@@ -29,9 +29,9 @@ subtract_product-requires c =
     let room : length S.args.out.now ≡ product_words = search rules in record {
       valid_modulus = (m, omega arith, omega (arith, S.requires.valid_modulus.3), omega arith);
       factors = (
-          omega (arith, negated_length m.prime _ _ S.args.f.now S.args.n stores),
-          negated_below m.prime _ _ S.args.f.now S.args.n stores (zeros_none block_words),
-        );
+        omega (arith, negated_length m.prime _ _ S.args.f.now S.args.n stores),
+        negated_below m.prime _ _ S.args.f.now S.args.n stores (zeros_none block_words),
+      );
       small = ((λ i. omega (arith, S.requires.zeros i)), λ j lt. S.requires.small.1 (0 + j));
     }
 

@@ -33,7 +33,10 @@ find_leading-found-requires c =
     let m : ValidModulus S.args.modulus = S.requires.valid_modulus.0 in
     let laid = c.lay_second.ensures in
     let valid = side_valid S.args.side S.requires.valid_modulus.2 S.requires.valid_modulus.3 in
-    ((m, omega (arith, laid.room)), block_reducible S.args.modulus.p m.prime S.requires.valid_modulus.1 valid laid)
+    record {
+      valid_modulus = (m, omega (arith, laid.room));
+      sums = block_reducible S.args.modulus.p m.prime S.requires.valid_modulus.1 valid laid;
+    }
 
 pub second_denominator-count-requires : goal.second_denominator-count-requires
 second_denominator-count-requires c =
@@ -42,15 +45,13 @@ second_denominator-count-requires c =
     let m : ValidModulus S.args.modulus = S.requires.valid_modulus.0 in
     let laid = F.lay_second.ensures in
     let valid = side_valid S.args.side S.requires.valid_modulus.2 S.requires.valid_modulus.3 in
-    let found = F.find_leading-found in (
-      m,
-      (
-        first_valid S.args.modulus.p m.prime S.requires.valid_modulus.1 valid laid found.result found.ensures.0
-            found.ensures.1,
-        first_starts S.args.modulus.p m.prime S.requires.valid_modulus.1 valid laid found.result found.ensures.0
-            found.ensures.1,
-      ),
-    )
+    let found = F.find_leading-found in record {
+      valid_modulus = m;
+      memory = first_valid S.args.modulus.p m.prime S.requires.valid_modulus.1 valid laid found.result found.ensures.size
+          found.ensures.value;
+      starts = first_starts S.args.modulus.p m.prime S.requires.valid_modulus.1 valid laid found.result found.ensures.size
+          found.ensures.value;
+    }
 
 pub multiply_block-requires : goal.multiply_block-requires
 multiply_block-requires c =

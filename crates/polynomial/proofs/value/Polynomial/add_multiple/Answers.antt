@@ -27,8 +27,8 @@ from_words-requires c =
     let positive : 0 < S.args.modulus.p = omega (arith, m.prime.large) in
     let called = c.add_scaled in
     let p = S.args.modulus.p in
-    let small = multiple_small p positive S.requires.1 S.requires.3 S.args.c S.requires.2 _ called.ensures.0 in
-    let long : length called.new.0 ≡ polynomial_room = search rules in
+    let small = multiple_small p positive S.requires.1 S.requires.3 S.args.c S.requires.2 _ called.ensures.words in
+    let long : length called.new.h ≡ polynomial_room = search rules in
     let fits : c.larger.result ≤ polynomial_room = omega (arith, c.larger.ensures, S.requires.1.within, S.requires.3.within) in
     record {
       valid_modulus = (m, fits, omega arith);
@@ -50,8 +50,8 @@ returns c =
     S.requires.3
     S.args.c
     S.requires.2
-    called.new.0
+    called.new.h
     c.larger.result
-    called.ensures.1
+    called.ensures.polynomials
     (omega (arith, c.larger.ensures))
     (omega (arith, c.larger.ensures)))

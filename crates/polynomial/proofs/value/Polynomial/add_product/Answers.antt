@@ -31,7 +31,7 @@ from_words-requires c =
     let S = c in
     let m : ValidModulus S.args.modulus = S.requires.valid_modulus.0 in
     let called = c.add_rows in
-    let long : length called.new.0 ≡ polynomial_room = search rules in
+    let long : length called.new.h ≡ polynomial_room = search rules in
     let fits : c.larger.result - 1 ≤ polynomial_room = omega (arith, c.larger.ensures, S.requires.valid_modulus.1.within) in
     let small =
     products_small

@@ -13,8 +13,8 @@ pub returns-then-self-g : goal.returns-then-self-g
 unfolding coefficients_of
 returns-then-self-g c =
     let S = c in
-    let f = S.args.t1 in
-    let g = S.args.t2 in
+    let f = S.args.self in
+    let g = S.args.g in
     let room-f : length f.coefficients ≡ polynomial_room = search rules in
     let room-g : length g.coefficients ≡ polynomial_room = search rules in
     compared_sizes f.coefficients g.coefficients f.size g.size (omega arith) (omega arith) c.if-self-g.true
@@ -23,9 +23,9 @@ pub returns : goal.returns
 unfolding coefficients_of
 returns c =
     let S = c in
-    let same : S.args.t1.size ≡ S.args.t2.size = omega arith in
-    let f = S.args.t1 in
+    let same : S.args.self.size ≡ S.args.g.size = omega arith in
+    let f = S.args.self in
     subst
-    (λ (n : ℕ). Decides c.same_words.result (take f.size f.coefficients ≡ take n S.args.t2.coefficients))
+    (λ (n : ℕ). Decides c.same_words.result (take f.size f.coefficients ≡ take n S.args.g.coefficients))
     same
     c.same_words.ensures

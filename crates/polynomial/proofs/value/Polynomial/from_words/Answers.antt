@@ -8,7 +8,10 @@ pub copy_polynomial-count-requires : goal.copy_polynomial-count-requires
 copy_polynomial-count-requires c =
     let S = c in
     let long = c.zeros-residues.ensures.0 in
-    ((S.requires.valid_modulus.0, omega (arith, long, S.requires.valid_modulus.1), omega (arith, S.requires.valid_modulus.2)), λ j lt. S.requires.small j (omega arith))
+    record {
+      valid_modulus = (S.requires.valid_modulus.0, omega (arith, long, S.requires.valid_modulus.1), omega (arith, S.requires.valid_modulus.2));
+      sums = λ j lt. S.requires.small j (omega arith);
+    }
 
 pub returns : goal.returns
 returns c =
@@ -26,7 +29,7 @@ returns c =
       few = S.requires.valid_modulus.1;
       room = fresh.ensures.0;
       zero = fresh.ensures.1;
-      copies = copies.ensures.0;
+      copies = copies.ensures.words;
     })
     copies.result
-    copies.ensures.1
+    copies.ensures.size
