@@ -17,7 +17,7 @@ use solve_levels::{divide_column, empty_slot, fill_slot, next_level};
 // Makes a certificate in `output`, but for the numerators of the columns that are in `level`, the first of the stage; stores the
 // coefficients of what is left of d b in the blocks of `level` in `quotients`, which are 0. Leaves `level` as before. Returns
 // whether there is a solution. What is left of the stage's column when it is divided by the slots decides what becomes of it.
-#[cycle(ascend_drop_column_fill_column_insert_column)]
+#[cycle(ascending)]
 pub fn ascend(
     output: &mut Output,
     quotients: &mut Product,
@@ -64,7 +64,7 @@ pub fn ascend(
 }
 
 // Does what `ascend` does where nothing is left of the column: it is in the span of the columns before it, and its numerator is 0.
-#[cycle(ascend_drop_column_fill_column_insert_column)]
+#[cycle(ascending)]
 fn drop_column(
     output: &mut Output,
     quotients: &mut Product,
@@ -87,7 +87,7 @@ fn drop_column(
 
 // Does what `ascend` does where `left` words are left of the column, in `rest`, and their slot is empty: they fill it for as long
 // as the columns behind it take.
-#[cycle(ascend_drop_column_fill_column_insert_column)]
+#[cycle(ascending)]
 fn fill_column(
     output: &mut Output,
     quotients: &mut Product,
@@ -120,7 +120,7 @@ fn fill_column(
 
 // Does what `ascend` does where `left` words are left of the column, in `rest`, and their slot is longer: they are inserted into a
 // copy of the level, with a kernel.
-#[cycle(ascend_drop_column_fill_column_insert_column)]
+#[cycle(ascending)]
 fn insert_column(
     output: &mut Output,
     quotients: &mut Product,

@@ -36,10 +36,10 @@ returns c =
     let down = Q.descend_column in
     let done = Q.divide in
     record {
-      rest = down.new.0;
-      cleared = down.new.1.1.0;
+      rest = down.new.rest;
+      cleared = down.new.quotients;
       turned = down.ensures;
-      emptied = done.new.1.0;
+      emptied = done.new.block;
       left = done.result;
       divided = done.ensures;
     }

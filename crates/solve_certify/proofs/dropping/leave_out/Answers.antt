@@ -1,5 +1,4 @@
 -- `leave_out` meets its contract.
-use borrow.Author.Rules.{rules}
 use Rattle.solve_certify.specs.Dropping.{left_out_lem, left_alone}
 use Rattle.solve_certify.proofs.dropping.leave_out.Goals as goal
 

@@ -9,10 +9,11 @@ use Rattle.solve_certify.proofs.solution.find_solution.Goals as goal
 pub find_denominator-size-requires : goal.find_denominator-size-requires
 find_denominator-size-requires c =
     let S = c.requires in
-    let stage = S.valid_stage.0 in (
-      (stage.modulus, stage.columns, S.valid_stage.1),
-      ((vanished_tail stage.rows S.vanished, S.tail.0, S.tail.1), zeros_none product_words),
-    )
+    let stage = S.valid_stage.0 in record {
+      valid_modulus = (stage.modulus, stage.columns, S.valid_stage.1);
+      tail = (vanished_tail stage.rows S.vanished, S.tail.0, S.tail.1);
+      cleared = zeros_none product_words;
+    }
 
 pub slice_bounds-divide-end-2 : goal.slice_bounds-divide-end-2
 slice_bounds-divide-end-2 c = omega (arith, c.find_denominator-size.ensures.room)

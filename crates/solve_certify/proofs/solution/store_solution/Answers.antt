@@ -3,7 +3,6 @@ use Prim.Native.Nat.{ℕ, ◌+◌, ◌*◌}
 use mathlib.Core.Path.{◌∙◌, ap}
 use mathlib.Core.List.{List}
 use lib.ListN.{get_or}
-use borrow.Author.Rules.{rules}
 use Rattle.vector.specs.Stored.{stored}
 use Rattle.solve_lattice.specs.Room.{block_words}
 use Rattle.solve_certify.proofs.solution.store_solution.Goals as goal

@@ -2,7 +2,6 @@
 use Prim.Native.Nat.{◌<◌}
 use mathlib.Core.Path.{◌≡◌, refl}
 use native.Mathlib.Omega.{arith}
-use borrow.Author.Rules.{rules}
 use Rattle.vector.specs.Bound.{zeros_none}
 use Rattle.solve_lattice.specs.Room.{level_words, tail_words}
 use Rattle.solve_certify.specs.Found.{last_vanished, last_stuck, solution_witnessed, absence_witnessed}
@@ -11,7 +10,12 @@ use Rattle.solve_certify.proofs.witness.find_witness.Goals as goal
 pub insert_side-size-requires : goal.insert_side-size-requires
 insert_side-size-requires c =
     let S = c.requires in
-    ((S.valid_stage.0.modulus, S.valid_stage.0.columns, S.valid_stage.1), (S.level, ((refl, zeros_none level_words), (refl, zeros_none tail_words))))
+    record {
+      valid_modulus = (S.valid_stage.0.modulus, S.valid_stage.0.columns, S.valid_stage.1);
+      level = S.level;
+      next = (refl, zeros_none level_words);
+      tail = (refl, zeros_none tail_words);
+    }
 
 pub find_solution-requires : goal.find_solution-requires
 find_solution-requires c =
