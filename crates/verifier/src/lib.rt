@@ -2,6 +2,7 @@
 // side, then reads the certificate, then tries 41 where limits are kept beside the office's, then 31 to 36, which are in
 // `check_conditions`. On files: `file::check_files`; on the panel: `panel::check_panel`.
 #![tactic(auto)]
+
 pub mod file;
 mod loading;
 pub mod panel;

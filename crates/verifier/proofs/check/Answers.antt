@@ -4,7 +4,6 @@ use Rattle.words.specs.Limits.{Limits, office}
 use Rattle.words.specs.LimitsLaws.{office_fits}
 use Rattle.truth.specs.Within.{verdict_within}
 use Rattle.truth.specs.WithinLaws.{within_own}
-use borrow.Author.Rules.{rules}
 use Rattle.verifier.proofs.check.Goals as goal
 
 pub returns : goal.returns

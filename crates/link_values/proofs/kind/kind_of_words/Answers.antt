@@ -4,7 +4,6 @@ use Rattle.words.specs.Systems.{systems_head, read_systems}
 use Rattle.answers.specs.Answer.{system_outcome, certificate_outcome}
 use Rattle.reader.specs.ReadLaws.{system_refused, system_read, certificate_refused, both_read}
 use Rattle.link_values.proofs.Reading.{refused_system, refused_certificate, kind_read}
-use borrow.Author.Rules.{rules}
 use Rattle.link_values.proofs.kind.kind_of_words.Goals as goal
 
 pub returns-in-Accepted-found : goal.returns-in-Accepted-found
@@ -18,7 +17,7 @@ returns-in-Accepted-found c =
     (ap system_outcome read.in-Accepted.is)
     (λ h. h.shape) _ _ certificate_part.limits-in-Accepted.ensures certificate_part.read_certificate-found.ensures
     (ap certificate_outcome found.in-Accepted-found.is))
-    c.number_of_lem.ensures
+    c.number_of.ensures
 
 pub returns-in-Refused-found : goal.returns-in-Refused-found
 returns-in-Refused-found c =

@@ -5,7 +5,6 @@ use Rattle.answers.specs.Answer.{verdict_outcome}
 use Rattle.lookup.specs.Answer.{of_asked}
 use Rattle.link_values.specs.GivingLaws.{gives_refusal}
 use Rattle.link_values.proofs.Looking.{sought_refused, none_shown, some_shown, gives_found}
-use borrow.Author.Rules.{rules}
 use Rattle.link_values.proofs.lookup_file.lookup_words.Goals as goal
 
 pub copy_payloads-requires : goal.copy_payloads-requires

@@ -3,7 +3,6 @@ use Prim.Native.Nat.{ℕ, zero, suc}
 use mathlib.Core.Path.{◌≡◌, refl}
 use Rattle.lookup.specs.Lookup.Of.{certificate}
 use Rattle.link_values.specs.Files.{of_numbered}
-use borrow.Author.Rules.{rules}
 use Rattle.link_values.proofs.lookup_file.of_numbered.Goals as goal
 
 other : (n : ℕ) → ¬ (n ≡ 0) → certificate ≡ of_numbered n

@@ -18,14 +18,12 @@ use Rattle.answers.specs.Heads.{head_number}
 use Rattle.link_values.specs.Files.{file_shape}
 use Rattle.link_values.specs.FilesLaws.{shape_places}
 use Rattle.link_values.proofs.Small.{refusal_small}
-use borrow.Author.Rules.{rules}
 use Rattle.link_values.proofs.shape.shape_of_file.Goals as goal
-use Rattle.link_values.proofs.shape.shape_of_file.Goals.{After-read_system_file-read as The-After-read_system_file-read}
 
 -- what the reader told, under a name
-told : (c : The-After-read_system_file-read) (read : SystemRead) → c.read_system_file-read.result ≡ read
-    → file_shape office c.args.system.now ≡ mapped head_number (system_outcome read)
-told c read e = ap (mapped head_number) (sym (ap system_outcome (sym e) ∙ c.read_system_file-read.ensures))
+told : (f : List ℕ) {found : SystemRead} → system_outcome found ≡ mapped systems_head (read_systems_file office f)
+    → (read : SystemRead) → found ≡ read → file_shape office f ≡ mapped head_number (system_outcome read)
+told f ensured read e = ap (mapped head_number) (sym (ap system_outcome (sym e) ∙ ensured))
 
 -- what was read has a right side
 some_side : (f : List ℕ) (h : Head) → accepted h ≡ mapped systems_head (read_systems_file office f) → 1 ≤ h.sides
@@ -34,22 +32,17 @@ some_side f h e =
     omega (arith, ap (λ (g : Head). g.sides) s.2, (file_within office office_fits s.0 f s.1).head.sides.0)
 
 pub pack_head-requires : goal.pack_head-requires
-pack_head-requires c =
-    let t = c in
-    some_side _ _ (ap system_outcome (sym t.in-Accepted.is) ∙ t.read_system_file-read.ensures)
+pack_head-requires c = some_side _ _ (ap system_outcome (sym c.in-Accepted.is) ∙ c.read_system_file-read.ensures)
 
 pub pack_counted-requires : goal.pack_counted-requires
 pack_counted-requires c =
-    let t = c in
     refusal_small (shape_places office office_fits packed_most (omega arith) (omega arith) _)
-    (told t.before.before _ t.in-Refused.is)
+    (told _ c.read_system_file-read.ensures _ c.in-Refused.is)
 
 pub returns-in-Accepted : goal.returns-in-Accepted
 returns-in-Accepted c =
-    let t = c in
-    c.pack_head.ensures ∙ sym (ap packed (told t.before.before _ t.in-Accepted.is))
+    c.pack_head.ensures ∙ sym (ap packed (told _ c.read_system_file-read.ensures _ c.in-Accepted.is))
 
 pub returns-in-Refused : goal.returns-in-Refused
 returns-in-Refused c =
-    let t = c in
-    c.pack_counted.ensures ∙ sym (ap packed (told t.before.before _ t.in-Refused.is))
+    c.pack_counted.ensures ∙ sym (ap packed (told _ c.read_system_file-read.ensures _ c.in-Refused.is))

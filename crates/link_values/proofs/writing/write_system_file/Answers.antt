@@ -4,7 +4,6 @@ use Rattle.writer.specs.Values.{head_with}
 use Rattle.answers.specs.Packed.{packed_most, AnswerMost}
 use Rattle.link_values.specs.GivingLaws.{gives_packed}
 use Rattle.link_values.proofs.Small.{write_small}
-use borrow.Author.Rules.{rules}
 use Rattle.link_values.proofs.writing.write_system_file.Goals as goal
 
 pub pack_counted-requires : goal.pack_counted-requires

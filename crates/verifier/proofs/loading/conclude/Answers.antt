@@ -3,7 +3,6 @@ use mathlib.Core.Path.{sym, ap, subst, ◌∙◌}
 use Rattle.answers.specs.Answer.{form_of}
 use Rattle.verifier.specs.Loading.{Ready, area_verdict, loading_verdict, loaded_count}
 use Rattle.check_conditions.specs.Areas.{Loaded}
-use borrow.Author.Rules.{rules}
 use Rattle.verifier.proofs.loading.conclude.Goals as goal
 
 pub check_solution-requires : goal.check_solution-requires

@@ -5,7 +5,6 @@ use Rattle.limits.specs.Value.{limits_of}
 use Rattle.files.specs.OpeningLaws.{opened_room, opened_length}
 use Rattle.files.specs.OpeningBothLaws.{both_are, none_is}
 use Rattle.verifier.proofs.Files.{both_opened, none_opened}
-use borrow.Author.Rules.{rules}
 use Rattle.verifier.proofs.loading.load_files.Goals as goal
 
 pub slice_bounds-system_words-end : goal.slice_bounds-system_words-end

@@ -5,7 +5,6 @@ use Rattle.limits.specs.Value.{limits_of}
 use Rattle.answers.specs.Answer.{head_of, form_of, verdict_outcome}
 use Rattle.verifier.specs.Loading.{FindsBoth}
 use Rattle.verifier.proofs.Tried.{limits_refuse, limits_pass, line_read, room_kept, none_read}
-use borrow.Author.Rules.{rules}
 use Rattle.verifier.proofs.loading.load_pair.Goals as goal
 
 pub try_limits-tried-requires : goal.try_limits-tried-requires

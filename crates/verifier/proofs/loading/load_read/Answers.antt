@@ -35,24 +35,19 @@ load-requires c =
 
 pub returns : goal.returns
 returns c =
-    let loaded = c in
-    let counted = loaded in
-    let line = counted in
-    let new = line in
-    let S = new in
-    let b = S.requires.both_line in
-    let A = line.Load_Line.new-modulus.0 in
-    let C = loaded.load.new-modulus.0 in
-    let room-A : length A ≡ length S.args.system_area.now = search rules in
-    let room-C : length C ≡ length S.args.certificate_area.now = search rules in
-    let room : AreaRoom (shape_of S.args.shape) A C = record {
-      system = omega (arith, S.requires.room.system);
-      certificate = omega (arith, S.requires.room.certificate);
+    let b = c.requires.both_line in
+    let A = c.load_line.new.area in
+    let C = c.load.new.area in
+    let room-A : length A ≡ length c.args.system_area.now = search rules in
+    let room-C : length C ≡ length c.args.certificate_area.now = search rules in
+    let room : AreaRoom (shape_of c.args.shape) A C = record {
+      system = omega (arith, c.requires.room.system);
+      certificate = omega (arith, c.requires.room.certificate);
     } in
-    let found = read_loads _ _ b _ new.new-modulus.ensures.0 new.new-modulus.ensures.1 A C room
-    (line_loaded _ _ b line.Load_Line.ensures)
+    let found = read_loads _ _ b _ c.new-modulus.ensures.0 c.new-modulus.ensures.1 A C room
+    (line_loaded _ _ b c.load_line.ensures)
     (read_stands (read_certificate_lem _ _ b)
-    (subst (λ n. InSlots certificate_width C (first_entries S.args.certificate.now n)) counted.entry_count-count.ensures
-    loaded.load.ensures))
-    (form_of S.args.form) refl in
+    (subst (λ n. InSlots certificate_width C (first_entries c.args.certificate.now n)) c.entry_count-count.ensures
+    c.load.ensures))
+    (form_of c.args.form) refl in
     record { ready = found.0; verdict = found.1 }

@@ -9,7 +9,6 @@ use Rattle.words.specs.Kept.{read_sided}
 use Rattle.truth.specs.WithinLaws.{both_of, both_none}
 use Rattle.answers.specs.Answer.{system_outcome, certificate_outcome}
 use Rattle.reader.specs.ReadLaws.{system_refused, system_read, certificate_refused, both_read}
-use borrow.Author.Rules.{rules}
 use Rattle.verifier.proofs.loading.read_both.Goals as goal
 
 abbrev reading : ℕ → Limits → List ℕ → Outcome Systems
