@@ -1,6 +1,7 @@
 // Polynomials loaded from the words of a system or a certificate that was read, each into a slot of an area: a number of
 // coefficients, then these, as the loops on words take them.
 #![tactic(auto)]
+
 pub mod width;
 
 ghost use Rattle.std.specs.Prelude.{◌≡◌, ◌+◌, ◌-◌, ◌*◌, ◌≤◌, ◌<◌, length, get_or};

@@ -1,6 +1,7 @@
 // The lookup of one polynomial of a system or of a certificate (document 01, end of "Turned back"). `lookup_part` says where it
 // stands, `lookup` returns that part of the lent words, and its companion `lookup_refusal` says why there is none.
 #![tactic(auto)]
+
 pub mod part;
 
 ghost use Rattle.std.specs.Prelude.{◌≡◌};

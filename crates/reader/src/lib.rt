@@ -3,6 +3,7 @@
 // `file::read_system_file` are the entries; `kept` tries other limits on what was read; crate `read_frame` reads what stands behind
 // a head.
 #![tactic(auto)]
+
 pub mod certificate;
 pub mod file;
 pub mod kept;

@@ -18,7 +18,7 @@ Reports (refused number place) text = text ≡ report_text (refused number place
 Reports (accepted s) text = (a : Answer) × Answers s a × (text ≡ report_text (accepted a))
 
 -- "reads a sheet from standard input and prints three lines": from the bytes of the file to those of the report. Of the right sides
--- "the report uses the first" (document 02, item 1), which no sheet lacks (`first-of-file`).
+-- "the report uses the first" (document 02, item 1), which no sheet lacks (`first_of_file`).
 abbrev pub ReportOf : Limits → List ℕ → List ℕ → Type 0
 ReportOf limits file text = Reports (read_line_file limits 0 file) text
 
@@ -33,7 +33,7 @@ unfoldable pub GivenUnless : Bool → Outcome System → (entry exit : List ℕ)
 GivenUnless true read entry exit count = (count ≡ 0) × (exit ≡ entry)
 GivenUnless false read entry exit count = ReportGiven read entry exit count
 
--- `report_space`, 1,024 bytes, suffices (`report-fits`): the bytes of a sheet's file, the lent bytes before and after, and the
+-- `report_space`, 1,024 bytes, suffices (`report_fits`): the bytes of a sheet's file, the lent bytes before and after, and the
 -- number of the report's bytes
 abbrev pub ReportsFile : Limits → List ℕ → (entry exit : List ℕ) → ℕ → Type 0
 ReportsFile limits file entry exit count =

@@ -1,6 +1,7 @@
 // The report (document 01, "The report"; document 02, items 1 and 2): from the bytes of a system's file to those of the text. It
 // uses the first right side.
 #![tactic(auto)]
+
 ghost use Rattle.std.specs.Prelude.{◌≤◌, length};
 ghost use Rattle.words.specs.Limits.{office};
 ghost use Rattle.words.specs.Systems.{read_line};

@@ -1,6 +1,7 @@
 // The report, written into lent bytes (document 01, "The report"; its third line by document 02, item 2): of a solution, of none,
 // and of a refusal. And the line of a verdict.
 #![tactic(auto)]
+
 ghost use Rattle.std.specs.Prelude.{◌≤◌, length};
 ghost use Rattle.words.specs.Limits.{office};
 ghost use Rattle.words.specs.Outcome.Outcome.{accepted};

@@ -36,7 +36,7 @@ pub record GivesRight (limits : Limits) (write : Certificate → List ℕ) (s : 
   pub words : exit ≡ overwritten (write certificate) entry
   pub same_count : count ≡ length (write certificate)
 
--- Nothing of the certificate is free: it is the chosen one, of which a system has only one (`gives-certificate`).
+-- Nothing of the certificate is free: it is the chosen one, of which a system has only one (`gives_certificate`).
 pub record Gives (limits : Limits) (write : Certificate → List ℕ) (s : System) (entry exit : List ℕ) (count : ℕ) : Type 0 where
   pub given : GivesRight limits write s entry exit count
   pub chosen : Chosen s given.certificate

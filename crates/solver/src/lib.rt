@@ -1,6 +1,7 @@
 // The solver: from the words of a system and the number of a right side to the words of that line's certificate, whichever kind
 // there is.
 #![tactic(auto)]
+
 pub mod certifying;
 pub mod file;
 

@@ -1,6 +1,7 @@
 // The values of a system or a certificate that is read, stored in arrays as the writers take them. The entries are `load_system`
 // and `load_certificate`, for every input.
 #![tactic(auto)]
+
 mod entries;
 
 ghost use Rattle.words.specs.Limits.{office};

@@ -2,6 +2,7 @@
 // differs between a system and a certificate is a `format::Format`. All of it is inside the product: callers know that the arrays
 // have room for the polynomials.
 #![tactic(auto)]
+
 pub mod format;
 pub mod frame;
 pub mod trial;

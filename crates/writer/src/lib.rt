@@ -3,6 +3,7 @@
 // their callers know: `output` writes what the solver leaves; `format` and `shape` say what the writers and the calls that load
 // values have in common.
 #![tactic(auto)]
+
 pub mod certificate;
 pub mod format;
 pub mod output;

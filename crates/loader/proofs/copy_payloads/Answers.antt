@@ -1,9 +1,4 @@
-use Prim.Native.Nat.{◌+◌, ◌-◌}
-use native.Mathlib.Omega.{arith}
-use lib.ListN.{get_or}
-use borrow.Author.Rules.{rules}
-use Rattle.words.specs.Word.{payload}
-use Rattle.vector.proofs.Storing.{Storing, storing_start, storing_turn, storing_end}
+use Rattle.vector.proofs.Storing.{storing_start, storing_turn, storing_end}
 use Rattle.loader.proofs.copy_payloads.Goals as goal
 
 pub loop-j-init : goal.loop-j-init

@@ -1,10 +1,8 @@
 -- Before turn j the first j payloads are stored.
 use Prim.Native.Nat.{◌+◌, ◌-◌}
-use native.Mathlib.Omega.{arith}
 use lib.ListN.{get_or}
-use borrow.Author.Rules.{rules}
 use Rattle.words.specs.Word.{payload}
-use Rattle.vector.proofs.Storing.{Storing, storing_start, storing_turn, storing_end}
+use Rattle.vector.proofs.Storing.{Storing}
 use Rattle.loader.proofs.copy_payloads.Given as goal
 
 abbrev pub invariant-loop-j : goal.invariant-loop-j

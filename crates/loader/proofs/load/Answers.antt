@@ -2,7 +2,6 @@
 use mathlib.Core.Path.{◌≡◌, sym, ap}
 use Prim.Native.Nat.{◌+◌, ◌-◌, ◌*◌}
 use native.Mathlib.Omega.{arith}
-use borrow.Author.Rules.{rules}
 use Rattle.words.specs.Starts.{start_first}
 use Rattle.loader.proofs.Loading.{load_stands}
 use Rattle.loader.proofs.load.Goals as goal

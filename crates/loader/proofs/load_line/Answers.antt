@@ -2,7 +2,6 @@
 use mathlib.Core.Path.{sym}
 use Prim.Native.Nat.{◌+◌, ◌*◌}
 use native.Mathlib.Omega.{arith}
-use borrow.Author.Rules.{rules}
 use Rattle.words.specs.Starts.{start_first, has_fewer}
 use Rattle.loader.proofs.Loading.{few_entries, both_stand}
 use Rattle.loader.proofs.load_line.Goals as goal
@@ -17,7 +16,7 @@ pub load_part-behind-requires : goal.load_part-behind-requires
 load_part-behind-requires c =
     let S = c in
     let h = has_fewer _ S.requires.0 (S.args.rows * S.args.columns) (omega arith) in
-    ((h, omega arith, omega arith, sym (start_first _)), omega arith)
+    record { has_entries = (h, omega arith, omega arith, sym (start_first _)); room = omega arith }
 
 pub step_over-at-requires : goal.step_over-at-requires
 step_over-at-requires c =

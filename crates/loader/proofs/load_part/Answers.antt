@@ -1,7 +1,5 @@
-use Prim.Native.Nat.{◌-◌}
 use native.Mathlib.Omega.{arith}
-use borrow.Author.Rules.{rules}
-use Rattle.loader.proofs.Loading.{Loads, loads_start, reached_room, turn_number, turn_fits, loads_turn, loads_end}
+use Rattle.loader.proofs.Loading.{loads_start, reached_room, turn_number, turn_fits, loads_turn, loads_end}
 use Rattle.loader.proofs.load_part.Goals as goal
 
 pub loop-k-init : goal.loop-k-init

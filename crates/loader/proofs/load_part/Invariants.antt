@@ -1,8 +1,6 @@
 -- The loop keeps a `Loads`.
 use Prim.Native.Nat.{◌-◌}
-use native.Mathlib.Omega.{arith}
-use borrow.Author.Rules.{rules}
-use Rattle.loader.proofs.Loading.{Loads, loads_start, reached_room, turn_number, turn_fits, loads_turn, loads_end}
+use Rattle.loader.proofs.Loading.{Loads}
 use Rattle.loader.proofs.load_part.Given as goal
 
 abbrev pub invariant-loop-k : goal.invariant-loop-k

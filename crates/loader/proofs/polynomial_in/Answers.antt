@@ -3,7 +3,6 @@ use mathlib.Core.Path.{◌∙◌}
 use Prim.Native.Nat.{◌+◌, ◌<◌}
 use native.Mathlib.Nat.{le-mul_of_pos_right}
 use native.Mathlib.Omega.{arith}
-use borrow.Author.Rules.{rules}
 use Rattle.polynomial.specs.Value.{represents_is}
 use Rattle.loader.specs.SlotLaws.{taken_canonical, taken_size, canonical_word, canonical_polynomial}
 use Rattle.loader.proofs.polynomial_in.Goals as goal

@@ -1,7 +1,5 @@
 use mathlib.Core.Path.{◌≡◌, ap, ◌∙◌}
-use Prim.Native.Nat.{◌-◌, ◌≤◌}
 use native.Mathlib.Omega.{arith}
-use borrow.Author.Rules.{rules}
 use Rattle.words.specs.Starts.{start_place}
 use Rattle.loader.proofs.Loading.{reached_room, reached_next}
 use Rattle.loader.proofs.step_over.Goals as goal

@@ -1,10 +1,7 @@
 -- Before turn k start word k is at the place.
-use mathlib.Core.Path.{◌≡◌, ap, ◌∙◌}
+use mathlib.Core.Path.{◌≡◌}
 use Prim.Native.Nat.{◌-◌, ◌≤◌}
-use native.Mathlib.Omega.{arith}
-use borrow.Author.Rules.{rules}
 use Rattle.words.specs.Starts.{start_place}
-use Rattle.loader.proofs.Loading.{reached_room, reached_next}
 use Rattle.loader.proofs.step_over.Given as goal
 
 abbrev pub invariant-loop-k : goal.invariant-loop-k

@@ -1,7 +1,6 @@
 -- Nothing where too little is lent; else number 10, or the report of the words of the bytes (`Giving`).
 use mathlib.Core.Path.{refl, ap}
 use native.Mathlib.Omega.{arith}
-use borrow.Author.Rules.{rules}
 use Rattle.words.specs.Limits.{office}
 use Rattle.answers.specs.Answer.{counted_outcome}
 use Rattle.files.specs.OpeningLaws.{opened_room, opened_length, line_file_refused, line_file_read}

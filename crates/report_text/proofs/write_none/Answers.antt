@@ -1,24 +1,23 @@
 -- One line.
-use Prim.Native.Nat.{◌≤◌}
+use Prim.Native.Nat.{ℕ, ◌≤◌}
 use native.Mathlib.Nat.{le_trans}
-use borrow.Author.Rules.{rules}
+use mathlib.Core.List.{List}
 use lib.ListN.{length}
 use Rattle.words.specs.Outcome.Outcome.{accepted}
 use Rattle.truth.specs.Solution.Answer.{none}
-use Rattle.report_text.specs.Longest.{ReportWithin, report_fits}
+use Rattle.report_text.specs.Longest.{report_space, ReportWithin, report_fits}
 use Rattle.report_text.specs.Text.{report_text}
 use Rattle.report_text.specs.WrittenLaws.{appended_whole}
 use Rattle.report_text.proofs.write_none.Goals as goal
-use Rattle.report_text.proofs.write_none.Goals.{Start as The-Start}
 
-fits : (c : The-Start) → length (report_text (accepted none)) ≤ length c.args.out.now
+fits : (out : List ℕ) → report_space ≤ length out → length (report_text (accepted none)) ≤ length out
 unfolding ReportWithin
-fits c = le_trans (report_fits (accepted none) tt) c.requires
+fits out room = le_trans (report_fits (accepted none) tt) room
 
 pub append-requires : goal.append-requires
 unfolding report_text
-append-requires c = fits c.before.before.before
+append-requires c = fits _ c.requires
 
 pub returns : goal.returns
 unfolding report_text
-returns c = appended_whole (fits c.before.before.before.before.before.before) c.append.ensures
+returns c = appended_whole (fits _ c.requires) c.append.ensures

@@ -1,7 +1,6 @@
 -- By the verdict.
 use mathlib.Core.Path.{sym, ap}
 use native.Mathlib.Omega.{arith}
-use borrow.Author.Rules.{rules}
 use Rattle.answers.specs.Answer.{verdict_outcome}
 use Rattle.report_text.specs.Verdict.{verdict_line, same_line}
 use Rattle.report_text.specs.WrittenLaws.{appended_whole}

@@ -1,7 +1,6 @@
 -- What was certified is written (`Writing`).
 use mathlib.Core.Path.{refl}
 use native.Mathlib.Omega.{arith}
-use borrow.Author.Rules.{rules}
 use Rattle.vector.specs.Bound.{zeros_none}
 use Rattle.solve_lattice.specs.Room.{output_words}
 use Rattle.solver.specs.Certified.{read_told}
@@ -29,4 +28,4 @@ returns c =
     (taken_wrote _ _ (output_valid S.requires.0 _ _ certified) _ W.write_output.ensures)
 
 pub certify_words-solved-requires : goal.certify_words-solved-requires
-certify_words-solved-requires c = (read_told c.requires.0, (refl, zeros_none output_words))
+certify_words-solved-requires c = record { has_shape = read_told c.requires.0; cleared = (refl, zeros_none output_words) }

@@ -1,7 +1,6 @@
 -- Number 10 of either file, or what was unpacked of each.
 use mathlib.Core.Path.{sym, ◌∙◌}
 use Rattle.files.proofs.Opens.{opens_unpacked, first_refused, second_refused}
-use borrow.Author.Rules.{rules}
 use Rattle.files.proofs.opening.open_both.Goals as goal
 
 pub returns-then-turned_back : goal.returns-then-turned_back

@@ -1,7 +1,6 @@
 -- `files::opening::open_file` meets its contract: number 10, or what was unpacked.
 use mathlib.Core.Path.{sym, ◌∙◌}
 use Rattle.files.proofs.Opens.{opens_refused, opens_unpacked}
-use borrow.Author.Rules.{rules}
 use Rattle.files.proofs.opening.open_file.Goals as goal
 
 pub returns-then-turned_back : goal.returns-then-turned_back

@@ -1,7 +1,5 @@
-use Prim.Native.Nat.{◌-◌}
 use native.Mathlib.Omega.{arith}
-use Rattle.files.proofs.UnpackTurns.{WordsUnpacked, unpack_start, unpack_room, unpack_length, unpack_next, unpack_end}
-use borrow.Author.Rules.{rules}
+use Rattle.files.proofs.UnpackTurns.{unpack_start, unpack_room, unpack_length, unpack_next, unpack_end}
 use Rattle.files.proofs.unpacking.unpack.Goals as goal
 
 pub loop-i-init : goal.loop-i-init

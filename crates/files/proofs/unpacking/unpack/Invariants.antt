@@ -1,9 +1,7 @@
 -- `files::unpacking::unpack` meets its contract. The loop's invariant: the words before its place are unpacked. The measure is the
 -- number of those that are not.
 use Prim.Native.Nat.{◌-◌}
-use native.Mathlib.Omega.{arith}
-use Rattle.files.proofs.UnpackTurns.{WordsUnpacked, unpack_start, unpack_room, unpack_length, unpack_next, unpack_end}
-use borrow.Author.Rules.{rules}
+use Rattle.files.proofs.UnpackTurns.{WordsUnpacked}
 use Rattle.files.proofs.unpacking.unpack.Given as goal
 
 abbrev pub invariant-loop-i : goal.invariant-loop-i

@@ -1,6 +1,5 @@
 use native.Mathlib.Omega.{arith}
 use lib.ListN.{length-set}
-use borrow.Author.Rules.{rules}
 use Rattle.files.proofs.writing.write_word.Goals as goal
 
 pub bounds-bytes-at-2 : goal.bounds-bytes-at-2

@@ -1,11 +1,8 @@
 -- `lookup::part::start_of` meets its contract. The loop's invariant: it stands at the place of the polynomial behind those passed.
 -- The measure is the number of those still to pass.
-use mathlib.Core.Path.{◌≡◌, sym, ap, ◌∙◌}
+use mathlib.Core.Path.{◌≡◌}
 use Prim.Native.Nat.{◌-◌, ◌≤◌}
-use native.Mathlib.Omega.{arith}
-use borrow.Author.Rules.{rules}
-use Rattle.words.specs.Starts.{start_place, start_first}
-use Rattle.lookup.proofs.Walk.{reached_inside, reached_end, reached_next}
+use Rattle.words.specs.Starts.{start_place}
 use Rattle.lookup.proofs.part.start_of.Given as goal
 
 abbrev pub invariant-loop-left : goal.invariant-loop-left

@@ -1,7 +1,6 @@
 -- `read_frame::frame::read_end` meets its contract: each answer is what the definition gives at that test.
 use mathlib.Core.Path.{sym, ◌∙◌}
 use Rattle.read_frame.proofs.EndWord.{end_missing, end_kind, end_payload, end_follows, end_right}
-use borrow.Author.Rules.{rules}
 use Rattle.read_frame.proofs.frame.read_end.Goals as goal
 
 pub returns-then-words-place : goal.returns-then-words-place

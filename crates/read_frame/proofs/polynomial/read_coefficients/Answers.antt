@@ -1,11 +1,9 @@
 use mathlib.Core.Path.{sym, ◌∙◌}
-use mathlib.Core.Logic.{⊎_elim}
-use Prim.Native.Nat.{◌+◌, ◌-◌}
 use native.Mathlib.Omega.{arith}
-use borrow.Author.Rules.{rules}
-use Rattle.read_frame.proofs.CoefficientTurns.{Reached, reached_start, reached_next, reached_end, due_missing, due_kind}
+use Rattle.read_frame.proofs.CoefficientTurns.{reached_start, reached_next, reached_end, due_missing, due_kind}
 use Rattle.read_frame.proofs.CoefficientTurns.{due_large, due_last}
 use Rattle.read_frame.proofs.polynomial.read_coefficients.Goals as goal
+use Rattle.read_frame.proofs.polynomial.read_coefficients.Goals.{then-place-last+else-coefficient-eq0, else-place-last}
 
 pub loop-place-init : goal.loop-place-init
 loop-place-init c = reached_start _ _ _ c.requires.0
@@ -51,7 +49,10 @@ loop-place-preserved c =
     let l = e.loop-place.invariant in
     reached_next _ _ _ _ l e.loop-place-test.true e.if-words-place.false (sym k.kind_of.ensures ∙ x.if-kind_of-ne3.false)
     (omega (arith, x.payload_of-coefficient.ensures))
-    (λ last z. ⊎_elim (λ w. w.1.left (x.payload_of-coefficient.ensures ∙ z)) (λ w. w.left last) c.if-place-last.branch)
+    (λ last z. elim c.if-place-last.branch [
+      | then-place-last+else-coefficient-eq0 w ↦ w.if-coefficient-eq0.false (x.payload_of-coefficient.ensures ∙ z)
+      | else-place-last w ↦ w.if-place-last.false last
+    ])
 
 pub returns : goal.returns
 returns c = sym (reached_end _ _ _ _ c.loop-place.invariant (omega arith))

@@ -1,12 +1,7 @@
 -- `read_frame::polynomial::read_coefficients` meets its contract. The loop's invariant: what is told of all coefficients is what is
 -- told of those from the loop's word on. The measure is the number of these.
-use mathlib.Core.Path.{sym, ◌∙◌}
-use mathlib.Core.Logic.{⊎_elim}
 use Prim.Native.Nat.{◌+◌, ◌-◌}
-use native.Mathlib.Omega.{arith}
-use borrow.Author.Rules.{rules}
-use Rattle.read_frame.proofs.CoefficientTurns.{Reached, reached_start, reached_next, reached_end, due_missing, due_kind}
-use Rattle.read_frame.proofs.CoefficientTurns.{due_large, due_last}
+use Rattle.read_frame.proofs.CoefficientTurns.{Reached}
 use Rattle.read_frame.proofs.polynomial.read_coefficients.Given as goal
 
 abbrev pub invariant-loop-place : goal.invariant-loop-place

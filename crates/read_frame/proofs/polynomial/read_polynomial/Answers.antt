@@ -6,7 +6,6 @@ use lib.ListN.{length, drop}
 use Rattle.words.specs.Reading.{words_used}
 use Rattle.words.specs.Polynomial.{coefficients_from}
 use Rattle.read_frame.proofs.StartWord.{start_missing, start_kind, start_many, start_right}
-use borrow.Author.Rules.{rules}
 use Rattle.read_frame.proofs.polynomial.read_polynomial.Goals as goal
 
 pub returns-then-words-eq0 : goal.returns-then-words-eq0

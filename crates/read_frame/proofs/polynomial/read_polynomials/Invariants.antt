@@ -1,10 +1,6 @@
 -- `read_frame::polynomial::read_polynomials` meets its contract. The loop's invariant: what is told of all polynomials is what is
 -- told of those that are due, from the loop's word on. The measure is the number of these.
-use mathlib.Core.Path.{sym, ap, ◌∙◌}
-use native.Mathlib.Omega.{arith}
-use borrow.Author.Rules.{rules}
-use Rattle.answers.specs.Answer.{counted_outcome}
-use Rattle.read_frame.proofs.PolynomialTurns.{Passed, passed_start, passed_next, passed_refused, passed_end}
+use Rattle.read_frame.proofs.PolynomialTurns.{Passed}
 use Rattle.read_frame.proofs.polynomial.read_polynomials.Given as goal
 
 abbrev pub invariant-loop-due : goal.invariant-loop-due

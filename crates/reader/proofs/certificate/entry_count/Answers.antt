@@ -3,7 +3,6 @@ use mathlib.Core.Path.{sym, ap}
 use Rattle.words.specs.Certificate.{entry_count}
 use Rattle.answers.specs.declared.shape.Form.{Form}
 use Rattle.answers.specs.Answer.{shape_of, form_of}
-use borrow.Author.Rules.{rules}
 use Rattle.reader.proofs.certificate.entry_count.Goals as goal
 
 pub returns-in-Solution : goal.returns-in-Solution

@@ -1,7 +1,6 @@
 -- `reader::certificate::read_head` meets its contract: each answer is what the definition gives at that test.
 use mathlib.Core.Path.{sym, ◌∙◌}
 use Rattle.reader.proofs.CertificateHead.{head_missing, head_kind, head_solution, head_absence, head_form}
-use borrow.Author.Rules.{rules}
 use Rattle.reader.proofs.certificate.read_head.Goals as goal
 
 pub returns-then-words-eq0 : goal.returns-then-words-eq0

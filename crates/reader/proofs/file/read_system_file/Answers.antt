@@ -7,7 +7,6 @@ use Rattle.words.specs.Systems.{systems_head, read_systems}
 use Rattle.answers.specs.Answer.{counted_outcome}
 use Rattle.files.specs.OpeningLaws.{opened_room, opened_length, system_file_refused, system_file_read}
 use Rattle.reader.specs.ReadLaws.{system_told}
-use borrow.Author.Rules.{rules}
 use Rattle.reader.proofs.file.read_system_file.Goals as goal
 
 pub slice_bounds-words-end : goal.slice_bounds-words-end

@@ -5,7 +5,6 @@ use Rattle.words.specs.Kept.{longer?}
 use Rattle.limits.specs.Value.{limits_of}
 use Rattle.answers.specs.Answer.{shape_of, form_of}
 use Rattle.reader.proofs.KeptSteps.{certificate_has, certificate_told}
-use borrow.Author.Rules.{rules}
 use Rattle.reader.proofs.kept.certificate_exceeds.Goals as goal
 
 pub some_longer-requires : goal.some_longer-requires

@@ -1,7 +1,5 @@
-use Prim.Native.Nat.{◌-◌}
 use native.Mathlib.Omega.{arith}
-use Rattle.reader.proofs.KeptSteps.{Walked, walk_start, walk_room, walk_next, walk_stops, walk_end}
-use borrow.Author.Rules.{rules}
+use Rattle.reader.proofs.KeptSteps.{walk_start, walk_room, walk_next, walk_stops, walk_end}
 use Rattle.reader.proofs.kept.some_longer.Goals as goal
 
 pub loop-k-init : goal.loop-k-init

@@ -1,8 +1,6 @@
 -- `reader::kept::some_longer` meets its contract: before turn k none of the first k polynomials is longer.
 use Prim.Native.Nat.{◌-◌}
-use native.Mathlib.Omega.{arith}
-use Rattle.reader.proofs.KeptSteps.{Walked, walk_start, walk_room, walk_next, walk_stops, walk_end}
-use borrow.Author.Rules.{rules}
+use Rattle.reader.proofs.KeptSteps.{Walked}
 use Rattle.reader.proofs.kept.some_longer.Given as goal
 
 abbrev pub invariant-loop-k : goal.invariant-loop-k

@@ -2,7 +2,6 @@
 use native.Mathlib.Omega.{arith}
 use Rattle.limits.specs.Value.{limits_of}
 use Rattle.reader.proofs.KeptSteps.{system_has, system_few, rows_exceed, columns_exceed, sides_exceed, entries_exceed}
-use borrow.Author.Rules.{rules}
 use Rattle.reader.proofs.kept.system_exceeds.Goals as goal
 
 pub returns-then-kept-shape : goal.returns-then-kept-shape

@@ -1,9 +1,7 @@
 -- `reader::system::read_head` meets its contract: each answer is what the definition gives at that test.
 use mathlib.Core.Path.{sym, ◌∙◌}
-use borrow.Author.Tests.{not-true, not-false}
 use Rattle.reader.proofs.SystemHead.{head_missing, head_kind, head_bits, head_composite, head_rows, head_columns}
 use Rattle.reader.proofs.SystemHead.{head_right}
-use borrow.Author.Rules.{rules}
 use Rattle.reader.proofs.system.read_head.Goals as goal
 
 pub returns-then-words-eq0 : goal.returns-then-words-eq0
@@ -27,7 +25,7 @@ returns-then-not-is_prime c =
     let e = t in
     let k = e in
     sym (head_composite _ _ k.if-words-eq0.false (sym k.kind_of.ensures ∙ e.if-kind_of-ne1.false) t.if-limits-sides.false
-    (sym q.is_prime.ensures ∙ not-true _ c.if-not-is_prime.true))
+    (sym q.is_prime.ensures ∙ c.if-not-is_prime.true))
 
 pub returns-then-not-one_to : goal.returns-then-not-one_to
 returns-then-not-one_to c =
@@ -38,8 +36,8 @@ returns-then-not-one_to c =
     let k = e in
     sym
     (head_rows _ _ k.if-words-eq0.false (sym k.kind_of.ensures ∙ e.if-kind_of-ne1.false) t.if-limits-sides.false
-    (sym q.is_prime.ensures ∙ not-false _ r.if-not-is_prime.false)
-    (sym r.one_to.ensures ∙ not-true _ c.if-not-one_to.true))
+    (sym q.is_prime.ensures ∙ r.if-not-is_prime.false)
+    (sym r.one_to.ensures ∙ c.if-not-one_to.true))
 
 pub returns-then-not-one_to-2 : goal.returns-then-not-one_to-2
 returns-then-not-one_to-2 c =
@@ -51,9 +49,9 @@ returns-then-not-one_to-2 c =
     let k = e in
     sym
     (head_columns _ _ k.if-words-eq0.false (sym k.kind_of.ensures ∙ e.if-kind_of-ne1.false) t.if-limits-sides.false
-    (sym q.is_prime.ensures ∙ not-false _ r.if-not-is_prime.false)
-    (sym r.one_to.ensures ∙ not-false _ m.if-not-one_to.false)
-    (sym m.one_to-2.ensures ∙ not-true _ c.if-not-one_to-2.true))
+    (sym q.is_prime.ensures ∙ r.if-not-is_prime.false)
+    (sym r.one_to.ensures ∙ m.if-not-one_to.false)
+    (sym m.one_to-2.ensures ∙ c.if-not-one_to-2.true))
 
 pub returns : goal.returns
 returns c =
@@ -65,6 +63,6 @@ returns c =
     let k = e in
     sym
     (head_right _ _ k.if-words-eq0.false (sym k.kind_of.ensures ∙ e.if-kind_of-ne1.false) t.if-limits-sides.false
-    (sym q.is_prime.ensures ∙ not-false _ r.if-not-is_prime.false)
-    (sym r.one_to.ensures ∙ not-false _ m.if-not-one_to.false)
-    (sym m.one_to-2.ensures ∙ not-false _ c.if-not-one_to-2.false))
+    (sym q.is_prime.ensures ∙ r.if-not-is_prime.false)
+    (sym r.one_to.ensures ∙ m.if-not-one_to.false)
+    (sym m.one_to-2.ensures ∙ c.if-not-one_to-2.false))

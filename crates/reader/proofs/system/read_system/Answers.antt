@@ -7,7 +7,6 @@ use Rattle.modular.specs.Bits.{most8}
 use Rattle.limits.specs.Value.{limits_of}
 use Rattle.answers.specs.Answer.{head_of, counted_outcome, system_outcome}
 use Rattle.reader.proofs.SystemSteps.{system_head_refused, system_some, system_body_refused, system_read}
-use borrow.Author.Rules.{rules}
 use Rattle.reader.proofs.system.read_system.Goals as goal
 
 pub overflow_mul-rows : goal.overflow_mul-rows
@@ -35,36 +34,30 @@ overflow_add-rows c =
 pub read_body-found-requires : goal.read_body-found-requires
 read_body-found-requires c =
     let r = c in
-    let e = c.head-1.given in
     let a = r.args in
-    system_some (limits_of a.limits) a.words.now (head_of e.0.0) (ap system_outcome (sym e.1) ∙ r.read_head-head.ensures)
+    system_some (limits_of a.limits) a.words.now (head_of c.in-Accepted.head) (sym (ap system_outcome c.in-Accepted.is) ∙ r.read_head-head.ensures)
 
 pub returns-in-Count : goal.returns-in-Count
 returns-in-Count c =
     let head = c in
     let r = head in
-    let e = head.head-1.given in
     let a = r.args in
-    let f = c.enum_told-1.given in
-    sym (system_read (limits_of a.limits) a.words.now (head_of e.0.0)
-    (ap system_outcome (sym e.1) ∙ r.read_head-head.ensures) _
-    (ap counted_outcome (sym f.1) ∙ c.read_body-found.ensures))
+    sym (system_read (limits_of a.limits) a.words.now (head_of c.in-Accepted.head)
+    (sym (ap system_outcome c.in-Accepted.is) ∙ r.read_head-head.ensures) _
+    (sym (ap counted_outcome c.in-Count.is) ∙ c.read_body-found.ensures))
 
 pub returns-in-Refused-found : goal.returns-in-Refused-found
 returns-in-Refused-found c =
     let head = c in
     let r = head in
-    let e = head.head-1.given in
     let a = r.args in
-    let f = c.found-1.given in
-    sym (system_body_refused (limits_of a.limits) a.words.now (head_of e.0.0)
-    (ap system_outcome (sym e.1) ∙ r.read_head-head.ensures) _ _
-    (ap counted_outcome (sym f.1) ∙ c.read_body-found.ensures))
+    sym (system_body_refused (limits_of a.limits) a.words.now (head_of c.in-Accepted.head)
+    (sym (ap system_outcome c.in-Accepted.is) ∙ r.read_head-head.ensures) _ _
+    (sym (ap counted_outcome c.in-Refused-found.is) ∙ c.read_body-found.ensures))
 
 pub returns-in-Refused : goal.returns-in-Refused
 returns-in-Refused c =
     let r = c in
-    let e = c.head-in-Refused-head-1.given in
     let a = r.args in
-    sym (system_head_refused (limits_of a.limits) a.words.now e.0.0.number e.0.0.place
-    (ap system_outcome (sym e.1) ∙ r.read_head-head.ensures))
+    sym (system_head_refused (limits_of a.limits) a.words.now c.in-Refused.refusal.number c.in-Refused.refusal.place
+    (sym (ap system_outcome c.in-Refused.is) ∙ r.read_head-head.ensures))

@@ -1,13 +1,7 @@
 -- The loop keeps: the first j bytes of the text are appended.
-use Prim.Native.Nat.{ℕ, ◌+◌, ◌-◌, ◌≤◌, ◌<◌}
-use mathlib.Core.List.{List}
-use native.Mathlib.Omega.{arith}
-use native.Mathlib.Numerals.{add-one}
-use native.Mathlib.Nat.{add-zero}
-use lib.ListN.{length, take, get_or, set}
-use lib.Seq.{take-suc, take_all}
+use Prim.Native.Nat.{◌+◌, ◌-◌, ◌≤◌}
+use lib.ListN.{length, take}
 use Rattle.report_text.specs.Written.{Appended}
-use Rattle.report_text.specs.WrittenLaws.{appended_nothing, appended_byte, appended_length}
 use Rattle.report_text.proofs.text.append.Given as goal
 
 abbrev pub invariant-loop-j : goal.invariant-loop-j

@@ -1,5 +1,4 @@
 -- The space, then the number.
-use borrow.Author.Rules.{rules}
 use Rattle.report_text.specs.WrittenLaws.{appended_then}
 use Rattle.report_text.proofs.text.append_number.Goals as goal
 

@@ -1,4 +1,4 @@
-use Prim.Native.Nat.{ℕ, ◌+◌, ◌-◌, ◌≤◌, ◌<◌}
+use Prim.Native.Nat.{ℕ, ◌+◌, ◌<◌}
 use mathlib.Core.Path.{◌≡◌, refl, ap}
 use mathlib.Core.List.{List, [], ◌∷◌, ◌++◌, map}
 use native.Mathlib.Omega.{arith}
@@ -7,11 +7,8 @@ use lib.ListN.{length, get_or, drop, drop_of_length-le}
 use lib.Seq.{drop-cons}
 use Rattle.report_text.specs.Decimal.{decimal}
 use Rattle.report_text.specs.Text.{spaced, all_spaced}
-use Rattle.report_text.specs.Written.{Appended}
-use Rattle.report_text.specs.WrittenLaws.{appended_length}
 use Rattle.report_text.proofs.Due.{joined, Due, due_all, due_room, due_next, due_none}
 use Rattle.report_text.proofs.text.append_numbers.Goals as goal
-use Rattle.report_text.proofs.text.append_numbers.Goals.{After-loop-i as The-After-loop-i, Start as The-Start}
 
 -- the numbers as parts
 abbrev parts : List ℕ → List (List ℕ)
@@ -42,18 +39,7 @@ loop-i-preserved c =
     let left = left_at _ _ turn.loop-i-test.true turn.loop-i.invariant.1 in
     (omega arith, due_next left c.append_number-next.ensures)
 
-abbrev entry : The-After-loop-i → The-Start
-entry c = c.before.before.before.before
-
-all : (c : The-After-loop-i)
-    → Appended (all_spaced (map decimal (entry c).args.numbers.now)) (entry c).args.out.now (entry c).args.at
-    c.loop-i.out c.loop-i.next
-all c =
-    let done = drop_of_length-le (entry c).args.numbers.now c.loop-i-test.false in
-    due_none (rw done at c.loop-i.invariant.1)
-
-pub shape_of-out : goal.shape_of-out
-shape_of-out c = appended_length (all c)
-
 pub returns : goal.returns
-returns c = all c
+returns c =
+    let done = drop_of_length-le c.args.numbers.now c.loop-i-test.false in
+    due_none (rw done at c.loop-i.invariant.1)

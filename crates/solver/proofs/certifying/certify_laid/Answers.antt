@@ -1,5 +1,4 @@
 -- The system in the input area is held by it, and what is then certified is that system (`CertifiedWords`).
-use borrow.Author.Rules.{rules}
 use Rattle.solver.proofs.CertifiedWords.{area_valid, area_system, output_cleared, area_certified}
 use Rattle.solver.proofs.certifying.certify_laid.Goals as goal
 

@@ -8,9 +8,9 @@ use Rattle.solver.proofs.certifying.certify_words.Goals as goal
 
 pub lay_line-requires : goal.lay_line-requires
 lay_line-requires c = record {
-      words_value = c.requires.has_shape;
-      area = (refl, zeros_none input_words);
-    }
+  words_value = c.requires.has_shape;
+  area = (refl, zeros_none input_words);
+}
 
 pub certify_laid-requires : goal.certify_laid-requires
 certify_laid-requires c =

@@ -2,7 +2,6 @@
 use Prim.Native.Nat.{ℕ, ◌*◌}
 use mathlib.Core.Path.{refl, sym, ap, subst}
 use native.Mathlib.Omega.{arith}
-use borrow.Author.Rules.{rules}
 use lib.ListN.{length}
 use Rattle.words.specs.Limits.{office, longest_certificate}
 use Rattle.words.specs.Bytes.{word_bytes}
@@ -32,7 +31,7 @@ returns-in-Count c =
     let call = found in
     let lent = call.args.bytes.now in
     let solved = c.solve_to_bytes in
-    subst (λ o. SolvesOr office certificate_bytes (with_room (word_bytes * longest) (length lent) o) lent solved.new.0
+    subst (λ o. SolvesOr office certificate_bytes (with_room (word_bytes * longest) (length lent) o) lent solved.new.bytes
     (counted_outcome solved.result))
     (sym (line_file_read office call.open_file-opened.ensures _ (omega arith) (ap counted_outcome found.in-Count.is)))
     solved.ensures

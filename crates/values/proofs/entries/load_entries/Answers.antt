@@ -1,23 +1,14 @@
-use Prim.Native.Nat.{◌-◌}
 use native.Mathlib.Omega.{arith}
-use borrow.Author.Rules.{rules}
-use Rattle.values.proofs.Turns.{Loads, loads_start, same_sizes, same_values, Turn, turn, loads_turn, loads_end}
+use Rattle.values.proofs.Turns.{loads_start, same_sizes, same_values, Turn, turn, loads_turn, loads_end}
 use Rattle.values.proofs.entries.load_entries.Goals as goal
-use Rattle.values.proofs.entries.load_entries.Goals.{In-loop-k as The-In-loop-k}
-
--- polynomial k
-turn_at : (c : The-In-loop-k) →
-    let l = c in
-    let S = l.args in
-    Turn S.words.now S.sizes.now S.values.now l.loop-k.sizes l.loop-k.values S.format.stride l.loop-k.at
-    l.loop-k.k
-turn_at c =
-    let l = c in
-    let P = l.requires in
-    turn P.0 P.1.apart P.1.sized P.1.roomy l.loop-k.invariant c.loop-k-test.true
 
 pub copy_payloads-requires : goal.copy_payloads-requires
-copy_payloads-requires c = let t = turn_at c.before.before.before in (omega arith, omega arith)
+copy_payloads-requires c =
+    let P = c.requires in
+    let t : Turn c.args.words.now c.args.sizes.now c.args.values.now c.loop-k.sizes c.loop-k.values c.args.format.stride
+    c.loop-k.at c.loop-k.k =
+    turn P.0 P.1.apart P.1.sized P.1.roomy c.loop-k.invariant c.loop-k-test.true in
+    (omega arith, omega arith)
 
 pub loop-k-preserved : goal.loop-k-preserved
 loop-k-preserved c =
@@ -47,22 +38,57 @@ pub loop-k-init : goal.loop-k-init
 loop-k-init c = loads_start _ _ _ _ _
 
 pub offset_bounds-words-at : goal.offset_bounds-words-at
-offset_bounds-words-at c = let t = turn_at c in omega arith
+offset_bounds-words-at c =
+    let P = c.requires in
+    let t : Turn c.args.words.now c.args.sizes.now c.args.values.now c.loop-k.sizes c.loop-k.values c.args.format.stride
+    c.loop-k.at c.loop-k.k =
+    turn P.0 P.1.apart P.1.sized P.1.roomy c.loop-k.invariant c.loop-k-test.true in
+    omega arith
 
 pub bounds-words-at : goal.bounds-words-at
-bounds-words-at c = let t = turn_at c.before in omega arith
+bounds-words-at c =
+    let P = c.requires in
+    let t : Turn c.args.words.now c.args.sizes.now c.args.values.now c.loop-k.sizes c.loop-k.values c.args.format.stride
+    c.loop-k.at c.loop-k.k =
+    turn P.0 P.1.apart P.1.sized P.1.roomy c.loop-k.invariant c.loop-k-test.true in
+    omega arith
 
 pub overflow_add-from : goal.overflow_add-from
-overflow_add-from c = let t = turn_at c.before.before in omega arith
+overflow_add-from c =
+    let P = c.requires in
+    let t : Turn c.args.words.now c.args.sizes.now c.args.values.now c.loop-k.sizes c.loop-k.values c.args.format.stride
+    c.loop-k.at c.loop-k.k =
+    turn P.0 P.1.apart P.1.sized P.1.roomy c.loop-k.invariant c.loop-k-test.true in
+    omega arith
 
 pub offset_bounds-sizes-k : goal.offset_bounds-sizes-k
-offset_bounds-sizes-k c = let t = turn_at c.before.before in omega arith
+offset_bounds-sizes-k c =
+    let P = c.requires in
+    let t : Turn c.args.words.now c.args.sizes.now c.args.values.now c.loop-k.sizes c.loop-k.values c.args.format.stride
+    c.loop-k.at c.loop-k.k =
+    turn P.0 P.1.apart P.1.sized P.1.roomy c.loop-k.invariant c.loop-k-test.true in
+    omega arith
 
 pub bounds-sizes-k : goal.bounds-sizes-k
-bounds-sizes-k c = let t = turn_at c.before.before in omega arith
+bounds-sizes-k c =
+    let P = c.requires in
+    let t : Turn c.args.words.now c.args.sizes.now c.args.values.now c.loop-k.sizes c.loop-k.values c.args.format.stride
+    c.loop-k.at c.loop-k.k =
+    turn P.0 P.1.apart P.1.sized P.1.roomy c.loop-k.invariant c.loop-k-test.true in
+    omega arith
 
 pub overflow_mul-stride : goal.overflow_mul-stride
-overflow_mul-stride c = let t = turn_at c.before.before.before in omega arith
+overflow_mul-stride c =
+    let P = c.requires in
+    let t : Turn c.args.words.now c.args.sizes.now c.args.values.now c.loop-k.sizes c.loop-k.values c.args.format.stride
+    c.loop-k.at c.loop-k.k =
+    turn P.0 P.1.apart P.1.sized P.1.roomy c.loop-k.invariant c.loop-k-test.true in
+    omega arith
 
 pub overflow_add-at : goal.overflow_add-at
-overflow_add-at c = let t = turn_at c.before.before.before.before.before.before in omega arith
+overflow_add-at c =
+    let P = c.requires in
+    let t : Turn c.args.words.now c.args.sizes.now c.args.values.now c.loop-k.sizes c.loop-k.values c.args.format.stride
+    c.loop-k.at c.loop-k.k =
+    turn P.0 P.1.apart P.1.sized P.1.roomy c.loop-k.invariant c.loop-k-test.true in
+    omega arith

@@ -1,8 +1,6 @@
 -- The loop keeps a `Loads`.
 use Prim.Native.Nat.{◌-◌}
-use native.Mathlib.Omega.{arith}
-use borrow.Author.Rules.{rules}
-use Rattle.values.proofs.Turns.{Loads, loads_start, same_sizes, same_values, Turn, turn, loads_turn, loads_end}
+use Rattle.values.proofs.Turns.{Loads}
 use Rattle.values.proofs.entries.load_entries.Given as goal
 
 abbrev pub invariant-loop-k : goal.invariant-loop-k

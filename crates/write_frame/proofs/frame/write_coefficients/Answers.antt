@@ -1,9 +1,8 @@
 use mathlib.Core.Path.{subst}
 use mathlib.Core.List.{map}
-use Prim.Native.Nat.{ℕ, ◌-◌, ◌+◌}
+use Prim.Native.Nat.{ℕ, ◌+◌}
 use native.Mathlib.Omega.{arith}
-use borrow.Author.Rules.{rules}
-use lib.ListN.{length, set, length-map, get_or-map}
+use lib.ListN.{set, length-map, get_or-map}
 use Rattle.words.specs.Word.{word}
 use Rattle.write_frame.proofs.Overwriting.{WrittenTo, written_start, written_next, written_end}
 use Rattle.write_frame.proofs.frame.write_coefficients.Goals as goal

@@ -1,7 +1,6 @@
 -- The head, a callee's polynomials behind it and the end are written one behind another.
 use Prim.Native.Nat.{◌+◌, ◌≤◌, ◌<◌}
 use native.Mathlib.Omega.{arith}
-use borrow.Author.Rules.{rules}
 use lib.ListN.{length, length-set, length-take, length-drop}
 use Rattle.words.specs.Word.{payload_bound}
 use Rattle.write_frame.proofs.Framed.{length_whole, length_ended, framed_written}

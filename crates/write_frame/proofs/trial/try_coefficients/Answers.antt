@@ -1,11 +1,8 @@
-use Prim.Native.Nat.{◌-◌}
 use native.Mathlib.Omega.{arith}
-use mathlib.Core.Logic.{⊎_elim}
-use borrow.Author.Rules.{rules}
-use lib.ListN.{length}
-use Rattle.write_frame.proofs.Coefficients.{CoefficientsTried, coefficients_start, coefficients_end, coefficient_large}
+use Rattle.write_frame.proofs.Coefficients.{coefficients_start, coefficients_end, coefficient_large}
 use Rattle.write_frame.proofs.Coefficients.{coefficient_last, coefficients_next_nonzero, coefficients_next_inner}
 use Rattle.write_frame.proofs.trial.try_coefficients.Goals as goal
+use Rattle.write_frame.proofs.trial.try_coefficients.Goals.{then-a-eq0+else-i-f, else-a-eq0}
 
 pub returns-then-modulus-a : goal.returns-then-modulus-a
 returns-then-modulus-a c =
@@ -23,10 +20,12 @@ pub loop-i-preserved : goal.loop-i-preserved
 loop-i-preserved c =
     let e = c in
     let l = e in
-    ⊎_elim
-    (λ w. coefficients_next_inner _ _ _ _ _ l.loop-i.invariant l.loop-i-test.true e.if-modulus-a.false w.1.left)
-    (λ w. coefficients_next_nonzero _ _ _ _ _ l.loop-i.invariant l.loop-i-test.true e.if-modulus-a.false w.left)
-    c.if-a-eq0.branch
+    elim c.if-a-eq0.branch [
+      | then-a-eq0+else-i-f w ↦
+          coefficients_next_inner _ _ _ _ _ l.loop-i.invariant l.loop-i-test.true e.if-modulus-a.false w.if-i-f.false
+      | else-a-eq0 w ↦
+          coefficients_next_nonzero _ _ _ _ _ l.loop-i.invariant l.loop-i-test.true e.if-modulus-a.false w.if-a-eq0.false
+    ]
 
 pub loop-i-init : goal.loop-i-init
 loop-i-init c = coefficients_start _ _ _ _

@@ -1,5 +1,4 @@
 -- What a certificate's shape and values give (`certificate-framed`).
-use borrow.Author.Rules.{rules}
 use Rattle.writer.specs.Formats.{certificate_framed}
 use Rattle.writer.proofs.Answers.{writes_as}
 use Rattle.writer.proofs.certificate.write_certificate.Goals as goal

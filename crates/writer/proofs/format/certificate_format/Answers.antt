@@ -1,6 +1,5 @@
 -- Each arm makes the format of its kind of certificate.
 use mathlib.Core.Path.{sym, ap}
-use borrow.Author.Rules.{rules}
 use Rattle.words.specs.Limits.{office}
 use Rattle.words.specs.Certificate.{entry_count, form_word}
 use Rattle.answers.specs.declared.shape.Form.{Form}

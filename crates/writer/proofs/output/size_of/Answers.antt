@@ -1,9 +1,8 @@
-use mathlib.Core.Path.{◌≡◌, refl, sym, ◌∙◌}
-use Prim.Native.Nat.{◌*◌, ◌≤◌}
+use mathlib.Core.Path.{refl, sym, ◌∙◌}
+use Prim.Native.Nat.{◌*◌}
 use native.Mathlib.Omega.{arith}
-use Rattle.words.specs.Limits.{office}
 use Rattle.writer.specs.Values.{certificate_stride}
-use Rattle.writer.specs.Output.{size_from, size_in}
+use Rattle.writer.specs.Output.{size_from}
 use Rattle.writer.specs.OutputLaws.{size_down, size_found, size_most}
 use Rattle.writer.proofs.output.size_of.Goals as goal
 

@@ -1,11 +1,9 @@
 -- The loop goes down over zeros.
-use mathlib.Core.Path.{◌≡◌, refl, sym, ◌∙◌}
+use mathlib.Core.Path.{◌≡◌}
 use Prim.Native.Nat.{◌*◌, ◌≤◌}
-use native.Mathlib.Omega.{arith}
 use Rattle.words.specs.Limits.{office}
 use Rattle.writer.specs.Values.{certificate_stride}
 use Rattle.writer.specs.Output.{size_from, size_in}
-use Rattle.writer.specs.OutputLaws.{size_down, size_found, size_most}
 use Rattle.writer.proofs.output.size_of.Given as goal
 
 abbrev pub invariant-loop-size : goal.invariant-loop-size

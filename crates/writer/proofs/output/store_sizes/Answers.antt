@@ -1,9 +1,6 @@
-use mathlib.Core.Path.{◌≡◌, ◌∙◌}
-use Prim.Native.Nat.{◌-◌, ◌≤◌}
+use mathlib.Core.Path.{◌∙◌}
 use native.Mathlib.Omega.{arith}
-use lib.ListN.{length, length-set}
-use Rattle.limits.specs.Counts.{certificate_polynomials}
-use Rattle.writer.specs.Output.{SizesTaken}
+use lib.ListN.{length-set}
 use Rattle.writer.specs.OutputLaws.{sized_next}
 use Rattle.writer.proofs.output.store_sizes.Goals as goal
 

@@ -1,11 +1,9 @@
 -- The invariant: the sizes before k are stored.
-use mathlib.Core.Path.{◌≡◌, ◌∙◌}
+use mathlib.Core.Path.{◌≡◌}
 use Prim.Native.Nat.{◌-◌, ◌≤◌}
-use native.Mathlib.Omega.{arith}
-use lib.ListN.{length, length-set}
+use lib.ListN.{length}
 use Rattle.limits.specs.Counts.{certificate_polynomials}
 use Rattle.writer.specs.Output.{SizesTaken}
-use Rattle.writer.specs.OutputLaws.{sized_next}
 use Rattle.writer.proofs.output.store_sizes.Given as goal
 
 abbrev pub invariant-loop-k : goal.invariant-loop-k

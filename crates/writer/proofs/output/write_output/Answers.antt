@@ -1,6 +1,5 @@
 -- The sizes are found, and the words are lent as they lie.
 use mathlib.Core.Path.{refl, sym}
-use borrow.Author.Rules.{rules}
 use Rattle.answers.specs.Answer.{shape_of}
 use Rattle.writer.specs.OutputLaws.{format_few, output_ready, output_wrote}
 use Rattle.writer.proofs.output.write_output.Goals as goal
@@ -17,7 +16,7 @@ write_framed-requires c =
     let F = Z in
     let S = F in
     output_ready (shape_of S.args.shape) S.requires.0 S.requires.1 _ (F.certificate_format-format.ensures _) _ _
-    Z.store_sizes.ensures.0 Z.store_sizes.ensures.1 c.write_framed-arg-2-1.given.0 S.requires.2 S.requires.3
+    Z.store_sizes.ensures.0 Z.store_sizes.ensures.1 c.told-output S.requires.2 S.requires.3
 
 pub returns : goal.returns
 returns c =
