@@ -14,12 +14,12 @@ shape_of-h-then-not-steps_fit c = refl
 pub returns-then-not-steps_fit : goal.returns-then-not-steps_fit
 unfolding allowed rounds
 returns-then-not-steps_fit c = record {
-      count = rw (sym c.steps_fit.ensures ∙ not-true _ c.if-not-steps_fit.true);
+      count = rw (sym c.steps_fit.ensures ∙ c.if-not-steps_fit.true);
       words = refl;
     }
 
 pub loop-t-init : goal.loop-t-init
-loop-t-init c = start (fits _ _ _ _ (sym c.steps_fit.ensures ∙ not-false _ c.if-not-steps_fit.false))
+loop-t-init c = start (fits _ _ _ _ (sym c.steps_fit.ensures ∙ c.if-not-steps_fit.false))
 
 pub offset_bounds-counts-t : goal.offset_bounds-counts-t
 offset_bounds-counts-t c = omega (arith, c.loop-t.invariant.given.all)
@@ -56,7 +56,7 @@ unfolding allowed
 returns c =
     let passed = c in record {
       count = rw
-          (sym passed.steps_fit.ensures ∙ not-false _ passed.if-not-steps_fit.false)
+          (sym passed.steps_fit.ensures ∙ passed.if-not-steps_fit.false)
           (end c.loop-t.invariant c.loop-t-test.false);
       words = c.loop-t.invariant.words;
     }

@@ -25,7 +25,7 @@ returns-then-not-all_at_most c =
       le-leb _ _ three.if-h-s.false,
       le-leb _ _ three.if-counts-factors.false,
       lt-ltb _ _ three.if-factors-ge-FACTORS_BOUND.false,
-      sym c.all_at_most.ensures ∙ not-true _ c.if-not-all_at_most.true,
+      sym c.all_at_most.ensures ∙ c.if-not-all_at_most.true,
     )
 
 pub returns : goal.returns
@@ -37,6 +37,6 @@ returns c =
       le-leb _ _ three.if-h-s.false,
       le-leb _ _ three.if-counts-factors.false,
       lt-ltb _ _ three.if-factors-ge-FACTORS_BOUND.false,
-      sym four.all_at_most.ensures ∙ not-false _ four.if-not-all_at_most.false,
+      sym four.all_at_most.ensures ∙ four.if-not-all_at_most.false,
     )
     c.words_small.ensures
