@@ -15,7 +15,7 @@ module _ {A : Type 0} {R : Ring A} {S : Sized R} (E : Euclidean S) (T : LinearSy
   open R use {mul as ◌*◌, zero as 𝟘}
 
   infixl 70 ◌*◌
-  -- "d and w are monic; A-as-N = d·b in every row; every entry of Z-as-A is divisible by w; w divided by the greatest common divisor of
+  -- "d and w are monic; A·N = d·b in every row; every entry of Z·A is divisible by w; w divided by the greatest common divisor of
   -- w and Z·b, made monic, is d"
   pub record RightSolutionIn (d : A) (N : ℕ → A) (w : A) (Z : ℕ → A) : Type 0 where
     pub monic : E.Monic d

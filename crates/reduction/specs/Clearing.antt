@@ -1,4 +1,4 @@
--- The denominator d of a right certificate is the least: d divides every f with A-as-Q = f·b, and every t that clears N / d.
+-- The denominator d of a right certificate is the least: d divides every f with A·Q = f·b, and every t that clears N / d.
 use Rattle.std.specs.Prelude.{ℕ, ◌<◌, ◌≡◌, refl, [], ◌∷◌}
 use Rattle.std.proofs.Common.{sym, ◌∙◌, ap}
 use Rattle.ring.specs.Ring.{Ring}
@@ -45,7 +45,7 @@ module _ {A : Type 0} {R : Ring A} {S : Sized R} (E : Euclidean S) (T : LinearSy
       Y : A
       Y = h.cofactor
 
-  -- A·x = f·b gives (Z-as-A)·x = f·(Z·b)
+  -- A·x = f·b gives (Z·A)·x = f·(Z·b)
   times_row : (f : A) (x : ℕ → A) → ((i : ℕ) → i < n → sum R m (λ j. M i j * x j) ≡ f * b i)
       → sum R m (λ j. sum R n (λ i. Z i * M i j) * x j) ≡ f * Zb
   times_row f x e =
@@ -59,7 +59,7 @@ module _ {A : Type 0} {R : Ring A} {S : Sized R} (E : Euclidean S) (T : LinearSy
       (divides_sum m (λ j. sum R n (λ i. Z i * M i j) * Q j)
       (λ j l. divides_equal (R.mul_comm (Q j) (sum R n (λ i. Z i * M i j))) (divides_mul (Q j) (C.divides j l)))))
 
-  -- w·d divides (Z-as-A)·(t·N) = t·d·(Z·b)
+  -- w·d divides (Z·A)·(t·N) = t·d·(Z·b)
   pub right_clears : (t : A) → ((j : ℕ) → j < m → Divides R d (t * N j)) → Divides R d t
   right_clears t h = divided t (mul_divides_cancel S d w (t * Zb) right_nonzero (divides_equal
       (times_row (t * d) (λ j. t * N j) row ∙ identity R (t ∷ d ∷ Zb ∷ []) (λ ρ qt qd qz. search quotes depth 16) refl)

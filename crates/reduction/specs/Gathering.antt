@@ -42,7 +42,7 @@ module _ {K : Type 0} (F : Field K) (n m : ℕ) (B : ℕ → ℕ → Polynomial 
     bound = bound_start R n m B c;
   }
 
-  -- a row U with h dividing U-as-B: r is U·c modulo h, and τ·U modulo h leaves the greatest common divisor of h and r
+  -- a row U with h dividing U·B: r is U·c modulo h, and τ·U modulo h leaves the greatest common divisor of h and r
   module _ (h : P) (U : ℕ → P) (σ τ : P) where
     abbrev r : P
     r = remainder F (sum (polynomials F) n (λ i. U i * c i)) h

@@ -72,7 +72,7 @@ module _ {A : Type 0} {R : Ring A} {S : Sized R} (T : LinearSystem S) (a : ℕ �
     pub nonzero : ¬ (e ≡ 𝟘)
     pub columns : Columns T m (λ i. e * a k i)
 
-  -- A-as-N = e·(a k), of sizes at most B
+  -- A·N = e·(a k), of sizes at most B
   pub record SolvedBy (B : ℕ) (e : A) (k : ℕ) : Type 0 where
     pub N : ℕ → A
     pub solves : (i : ℕ) → i < n → sum R m (λ j. M i j * N j) ≡ e * a k i

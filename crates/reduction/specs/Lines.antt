@@ -51,7 +51,7 @@ module _ {A : Type 0} {R : Ring A} {S : Sized R} (E : Euclidean S) (T : LinearSy
     columns = record { parts = X.N; equal = λ i g. sym (X.right.solves i g) };
   }
 
-  -- A-as-Q = f·(a k) for some Q just where d divides f
+  -- A·Q = f·(a k) for some Q just where d divides f
   pub line_least : (k : ℕ) (l : k < c) (d : A) → LineSolved k l d → (f : A) → Columns T m (λ i. f * a k i) → Divides R d f
   line_least k l d X f C =
       right_divides E (with_side T (a k) (λ i g. short k i l g)) X.right f C.parts (λ i g. sym (C.equal i g))

@@ -1,4 +1,4 @@
--- Rows that bound denominators from below, found one by one and put together: (w, Z) with w dividing Z-as-B, and Z·c = k modulo w for
+-- Rows that bound denominators from below, found one by one and put together: (w, Z) with w dividing Z·B, and Z·c = k modulo w for
 -- a divisor k of w, shows that L = w / k divides every denominator of B·y = c. Keeping Z·c at k itself, not at any multiple of it,
 -- two of them join by Bézout's multipliers of their L alone.
 use Rattle.std.specs.Prelude.{ℕ, ◌<◌, ◌-◌ as ◌-ₙ◌, ◌≡◌, refl, [], ◌∷◌}
@@ -28,7 +28,7 @@ module _ {A : Type 0} (R : Ring A) (n m : ℕ) (B : ℕ → ℕ → A) (c : ℕ 
   abbrev times : (ℕ → A) → (ℕ → A) → A
   times Z y = sum R n (λ i. Z i * y i)
 
-  -- w divides Z-as-B, and Z·c is s modulo w
+  -- w divides Z·B, and Z·c is s modulo w
   pub record Congruent (w : A) (Z : ℕ → A) (s : A) : Type 0 where
     pub columns : (j : ℕ) → j < m → Divides R w (sum R n (λ i. Z i * B i j))
     pub multiple : A
@@ -106,7 +106,7 @@ module _ {A : Type 0} (R : Ring A) (n m : ℕ) (B : ℕ → ℕ → A) (c : ℕ 
     };
   }
 
-  -- of one row U with h dividing U-as-B: r is U·c modulo h, k the greatest common divisor of h and r, τ its multiplier of r, and Z is
+  -- of one row U with h dividing U·B: r is U·c modulo h, k the greatest common divisor of h and r, τ its multiplier of r, and Z is
   -- τ·U modulo h
   pub bound_row : {h l : A} {U : ℕ → A} (θ r k σ τ : A) (μ Z : ℕ → A) → ((j : ℕ) → j < m → Divides R h (sum R n (λ i. U i * B i j)))
       → sum R n (λ i. U i * c i) ≡ θ * h + r → k ≡ σ * h + τ * r → h ≡ l * k
@@ -120,7 +120,7 @@ module _ {A : Type 0} (R : Ring A) (n m : ℕ) (B : ℕ → ℕ → A) (c : ℕ 
         (congruent_times τ μ Z e (record { columns = columns; multiple = θ; side = er ∙ R.add_comm (θ * h) r }));
   }
 
-  -- two of them: g = σ·L₁ + τ·L₂ with L·g = L₁-as-L₂, as their greatest common divisor and least common multiple, and W any common
+  -- two of them: g = σ·L₁ + τ·L₂ with L·g = L₁·L₂, as their greatest common divisor and least common multiple, and W any common
   -- multiple of w₁ and w₂. With K i = (W i)·(k i), W = (K i)·(L i), so that g·L·(τ·K₁ + σ·K₂) = L₁·L₂·(τ·K₁ + σ·K₂) = (τ·L₂ +
   -- σ·L₁)·W
   pub bound_join : (S : Sized R) {w₁ w₂ L₁ L₂ : A} {Z₁ Z₂ : ℕ → A} → LowerBound w₁ Z₁ L₁ → LowerBound w₂ Z₂ L₂

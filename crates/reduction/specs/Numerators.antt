@@ -1,4 +1,4 @@
--- Which numerators: of all N with A-as-N = f, those in which each N j is shorter than every relation of the columns up to j leaves at
+-- Which numerators: of all N with A·N = f, those in which each N j is shorter than every relation of the columns up to j leaves at
 -- j.
 use Rattle.std.specs.Prelude.{ℕ, zero, suc, ◌<◌, ◌≤◌, ◌+◌ as ◌+ₙ◌, ◌≡◌, refl, [], ◌∷◌}
 use Rattle.std.proofs.Common.{sym, ◌∙◌, subst, arith}

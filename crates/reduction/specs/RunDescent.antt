@@ -1,4 +1,4 @@
--- The way down, as a function: from a vector f of the span of the last level to numerators N with A-as-N = f.
+-- The way down, as a function: from a vector f of the span of the last level to numerators N with A·N = f.
 use Rattle.std.specs.Prelude.{ℕ, zero, suc, ◌<◌, ◌≤◌, ◌+◌ as ◌+ₙ◌, ◌*◌ as ◌*ₙ◌, ◌≡◌, refl, [], ◌∷◌}
 use Rattle.std.proofs.Common.{sym, ◌∙◌, ap, subst, arith}
 use Rattle.std.proofs.Math.Decide.{ℕ_discrete}

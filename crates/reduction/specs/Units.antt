@@ -1,5 +1,5 @@
 -- Independent rows: the unit columns have one denominator e in common, no longer than suc (n·δ); and h divides e wherever h divides
--- U-as-A for a row of fractions U / f in lowest terms whose f is a multiple of h. That bounds the w of certificates that are found one
+-- U·A for a row of fractions U / f in lowest terms whose f is a multiple of h. That bounds the w of certificates that are found one
 -- by one.
 use Rattle.std.specs.Prelude.{ℕ, zero, suc, ◌<◌, ◌≤◌, min, ◌*◌ as ◌*ₙ◌, ◌≡◌, refl, ◌⊎◌, [], ◌∷◌}
 use Rattle.std.proofs.Common.{sym, ◌∙◌, ap, inl, inr, arith}
@@ -48,7 +48,7 @@ module _ {A : Type 0} {R : Ring A} {S : Sized R} (E : Euclidean S) (T : LinearSy
 
   module _ {B : ℕ} (J : Joint T (unit_column R) n B) (h : A) (U : ℕ → A)
       (divides : (j : ℕ) → j < m → Divides R h (sum R n (λ i. U i * M i j))) where
-    -- (U-as-A)·(Q i) = e·(U i)
+    -- (U·A)·(Q i) = e·(U i)
     pub units_entry : (i : ℕ) → i < n → Divides R h (J.e * U i)
     units_entry i l = divides_equal (sym (sum_assoc R n m U M Q) ∙ single)
         (divides_sum m (λ j. sum R n (λ k. U k * M k j) * Q j) (λ j g.

@@ -135,7 +135,7 @@ module _ {A : Type 0} (R : Ring A) where
       ∙ add_comm (sum n (λ i. f (suc i))) (f 0)
       ∙ sym (sum_front n f)
 
-  -- Z·(M·x) = (Z-as-M)·x for a row Z, a matrix M and a column x
+  -- Z·(M·x) = (Z·M)·x for a row Z, a matrix M and a column x
   pub sum_assoc : (n m : ℕ) (Z : ℕ → A) (M : ℕ → ℕ → A) (x : ℕ → A)
       → sum n (λ i. Z i * sum m (λ j. M i j * x j)) ≡ sum m (λ j. sum n (λ i. Z i * M i j) * x j)
   sum_assoc n m Z M x =

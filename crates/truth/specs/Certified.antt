@@ -10,7 +10,7 @@ use Rattle.truth.specs.Solution.{column_of, side_of, RationalSolution, DividesMo
 use Rattle.truth.specs.Listed.{listed}
 use Rattle.truth.specs.Fractions.{SameFractions}
 
--- the row Z-as-A
+-- the row Z·A
 unfoldable pub product_of : System → List (List ℕ) → List (List ℕ)
 unfolding listed column_of
 product_of s Z = listed s.columns (column_of s Z)

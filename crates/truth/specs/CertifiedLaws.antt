@@ -210,7 +210,7 @@ module _ (s : System) (h : Proper s) where
     pub side_canonical : Canonical p (side_of s Z)
     side_canonical = subst (Canonical p) (side_list s h Z h_Z) (Witness.side_of (ring_of s h) (equations s h) (vector p Z h_Z)).1
 
-    -- 1 times an entry of Z-as-A
+    -- 1 times an entry of Z·A
     entry_is : (j : ℕ) → j < s.columns → mul (modulo p) (1 ∷ []) (get_or (product_of s Z) j []) ≡ column_of s Z j
     unfolding product_of
     entry_is j k = ap (mul (modulo p) (1 ∷ [])) (listed_at s.columns (column_of s Z) [] j k)

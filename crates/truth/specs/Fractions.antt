@@ -139,7 +139,7 @@ module _ (p : ℕ) (prime : Prime p) where
     least = λ f hf monic clears. D.least f hf monic (same_clears F h_F g hg g_nonzero M h_M e he (same_sym same) f hf clears);
   }
 
--- and is a solution or is none: e·(A-as-F) = A·(M·g) = g·(A-as-M) = g·e·b
+-- and is a solution or is none: e·(A·F) = A·(M·g) = g·(A·M) = g·e·b
 module _ (s : System) (h : Proper s) (M : List (List ℕ)) (e : List ℕ) (X : RationalSolution s M e)
     (F : List (List ℕ)) (h_F : AllCanonical s.modulus F) (g : List ℕ) (hg : Canonical s.modulus g) (nonzero : ¬ (g ≡ []))
     (same : SameFractions s.modulus M e F g) where

@@ -18,12 +18,12 @@ unfolding add modulo
 total_modulo p zero f = []
 total_modulo p (suc n) f = add (modulo p) (total_modulo p n f) (f n)
 
--- the entry of row i of A-as-M
+-- the entry of row i of A·M
 unfoldable pub row_of : System → List (List ℕ) → ℕ → List ℕ
 unfolding total_modulo mul modulo
 row_of s M i = total_modulo s.modulus s.columns (λ j. mul (modulo s.modulus) (entry s i j) (get_or M j []))
 
--- the entry of column j of Z-as-A
+-- the entry of column j of Z·A
 unfoldable pub column_of : System → List (List ℕ) → ℕ → List ℕ
 unfolding total_modulo mul modulo
 column_of s Z j = total_modulo s.modulus s.rows (λ i. mul (modulo s.modulus) (get_or Z i []) (entry s i j))

@@ -18,11 +18,11 @@ pub record FirstFailing (n : ℕ) (Holds : ℕ → Type 0) (place : ℕ) : Type 
 abbrev pub All : ℕ → (ℕ → Type 0) → Type 0
 All n Holds = (i : ℕ) → i < n → Holds i
 
--- row i of A-as-N = d·b
+-- row i of A·N = d·b
 abbrev pub RowSolved : System → List ℕ → List (List ℕ) → ℕ → Type 0
 RowSolved s d N i = row_of s N i ≡ mul (modulo s.modulus) d (side_entry s i)
 
--- w divides column j of Z-as-A
+-- w divides column j of Z·A
 abbrev pub ColumnDivided : System → List ℕ → List (List ℕ) → ℕ → Type 0
 ColumnDivided s w Z j = DividesModulo s.modulus w (column_of s Z j)
 

@@ -1,5 +1,5 @@
 -- Why a certificate tells the truth, in any commutative ring without zero divisors (section 4 of the mathematics): a row Z with w
--- dividing Z-as-A bounds the denominators of A·y = b from below, and a row q with q·A = 0 and q·b not 0 excludes every solution.
+-- dividing Z·A bounds the denominators of A·y = b from below, and a row q with q·A = 0 and q·b not 0 excludes every solution.
 use Rattle.std.specs.Prelude.{ℕ, ◌<◌, ◌≡◌, refl, [], ◌∷◌}
 use Rattle.std.proofs.Common.{sym, ◌∙◌, ap}
 use Rattle.ring.specs.Ring.{Ring, mul_left_comm, zero_mul}
@@ -25,7 +25,7 @@ module _ {A : Type 0} (R : Ring A) where
   abbrev pub row_of : RingEquations A → (ℕ → A) → ℕ → A
   row_of E x i = sum R E.columns (λ j. E.entry i j * x j)
 
-  -- column j of Z-as-A
+  -- column j of Z·A
   abbrev pub column_of : RingEquations A → (ℕ → A) → ℕ → A
   column_of E Z j = sum R E.rows (λ i. Z i * E.entry i j)
 
@@ -38,7 +38,7 @@ module _ {A : Type 0} (R : Ring A) where
     pub nonzero : ¬ (e ≡ 𝟘)
     pub rows : (i : ℕ) → i < E.rows → row_of E x i ≡ e * E.side i
 
-  -- w divides Z-as-A, and w = d·g, Z·b = g·s with d and s coprime
+  -- w divides Z·A, and w = d·g, Z·b = g·s with d and s coprime
   pub record Bounds (E : RingEquations A) (d w : A) (Z : ℕ → A) : Type 0 where
     pub quotient : ℕ → A
     pub columns : (j : ℕ) → j < E.columns → column_of E Z j ≡ w * quotient j
@@ -52,7 +52,7 @@ module _ {A : Type 0} (R : Ring A) where
     pub coprime : α * d + β * s ≡ 𝟙
 
   module _ (cancels : Cancels R) (E : RingEquations A) where
-    -- A·x = c·b gives c·(Z·b) = (Z-as-A)·x
+    -- A·x = c·b gives c·(Z·b) = (Z·A)·x
     times_row : (Z : ℕ → A) (c : A) (x : ℕ → A) → ((i : ℕ) → i < E.rows → row_of E x i ≡ c * E.side i)
         → c * side_of E Z ≡ sum R E.columns (λ j. column_of E Z j * x j)
     times_row Z c x h =
@@ -61,7 +61,7 @@ module _ {A : Type 0} (R : Ring A) where
         (λ i k. mul_left_comm R c (Z i) (E.side i) ∙ ap (λ y. Z i * y) (sym (h i k)))
         ∙ sum_assoc R E.rows E.columns Z E.entry x
 
-    -- lemma 6 of document 002: c·x = e·Q gives A-as-Q = c·b, so that w divides Z·A·Q = c·(Z·b)
+    -- lemma 6 of document 002: c·x = e·Q gives A·Q = c·b, so that w divides Z·A·Q = c·(Z·b)
     pub clearing_side : (w : A) (Z q : ℕ → A) → ((j : ℕ) → j < E.columns → column_of E Z j ≡ w * q j) → (x : ℕ → A) (e : A)
         → SolvesEquations E x e
         → (c : A) (Q : ℕ → A) → ((j : ℕ) → j < E.columns → c * x j ≡ e * Q j)
