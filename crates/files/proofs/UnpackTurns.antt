@@ -6,7 +6,7 @@ use native.Mathlib.Nat.{min-le_left, min-le_right}
 use native.Mathlib.Omega.{arith}
 use lib.ListN.{length, set}
 use Rattle.words.specs.Bytes.{word_at, words_of, word_bytes}
-use Rattle.words.specs.BytesLaws.{length_words_of, words_of_at}
+use Rattle.words.proofs.BytesLaws.{length_words_of, words_of_at}
 use Rattle.files.specs.FileWords.{Unpacked}
 use Rattle.files.proofs.Filling.{filled, filled_length, filled_next}
 

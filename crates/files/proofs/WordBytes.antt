@@ -7,7 +7,7 @@ use native.Mathlib.Omega.{arith}
 use lib.ListN.{length, get_or, set}
 use Rattle.modular.specs.Bits.{bound8}
 use Rattle.words.specs.Bytes.{bytes_of, fourth_byte_unit, second_byte_unit, third_byte_unit, word_bytes}
-use Rattle.words.specs.BytesLaws.{length_bytes_of}
+use Rattle.words.proofs.BytesLaws.{length_bytes_of}
 use Rattle.files.specs.FileBytes.{WritesBytes}
 use Rattle.files.proofs.Filling.{filled, filled_length, filled_next}
 

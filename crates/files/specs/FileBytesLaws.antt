@@ -4,7 +4,7 @@ use Rattle.std.proofs.Common.{sym, ap, ◌∙◌, arith}
 use Rattle.std.proofs.Math.Nat.{min-eq_left}
 use Rattle.std.proofs.Math.Seq.{take-length}
 use Rattle.words.specs.Bytes.{bytes_of, word_bytes}
-use Rattle.words.specs.BytesLaws.{length_bytes_of}
+use Rattle.words.proofs.BytesLaws.{length_bytes_of}
 use Rattle.files.specs.FileBytes.{WritesBytes}
 
 module _ {ws before after : List ℕ} {count : ℕ} (written : WritesBytes ws before after count)

@@ -11,7 +11,7 @@ use Rattle.words.specs.Outcome.Outcome.{accepted, refused}
 use Rattle.words.specs.OutcomeLaws.{refused_accepted}
 use Rattle.words.specs.Systems.{read_systems, read_line}
 use Rattle.words.specs.Bytes.{words_of, broken, read_systems_file, read_line_file, word_bytes}
-use Rattle.words.specs.BytesLaws.{length_words_of, or_right}
+use Rattle.words.proofs.BytesLaws.{length_words_of, or_right}
 use Rattle.files.specs.Opening.{turned_back, first_words, opened_words, Opened}
 
 -- a file whose limit is its own length has none

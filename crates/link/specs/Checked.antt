@@ -10,13 +10,13 @@ use Rattle.words.specs.Outcome.{Outcome}
 use Rattle.words.specs.Outcome.Outcome.{accepted, refused}
 use Rattle.words.specs.System.{System}
 use Rattle.words.specs.Systems.{Systems, systems_words, single, read_systems}
-use Rattle.words.specs.SystemsLaws.{systems_written_of_read}
+use Rattle.words.proofs.SystemsLaws.{systems_written_of_read}
 use Rattle.words.specs.Bytes.{words_of, bytes_of, read_line_file}
 use Rattle.words.specs.Line.LineRefused.{no_side}
 use Rattle.words.specs.Pair.PairRefused.{by_system}
 use Rattle.words.specs.TenFirst.TenFirst.{others}
 use Rattle.files.specs.OpeningBoth.{files_broken}
-use Rattle.truth.specs.DemandLaws.{Says, Agree}
+use Rattle.truth.proofs.DemandLaws.{Says, Agree}
 use Rattle.verifier.specs.File.{file_verdict}
 use Rattle.verifier.specs.FileLines.{line_file_verdict, file_verdict_alone}
 use Rattle.verifier.specs.Checked.{CertifiedFiles, files_iff_certified, files_say, line_files_agree}

@@ -11,13 +11,13 @@ use Rattle.words.specs.Outcome.Outcome.{accepted}
 use Rattle.words.specs.OutcomeLaws.{refuse_passed}
 use Rattle.words.specs.System.{System}
 use Rattle.words.specs.Systems.{Systems, SystemsWithin, systems_words, line, read_line}
-use Rattle.words.specs.LineLaws.{line_written_of_read}
+use Rattle.words.proofs.LineLaws.{line_written_of_read}
 use Rattle.words.specs.Bytes.{words_of, bytes_of, broken, too_long, read_line_file, word_bytes}
-use Rattle.words.specs.BytesLaws.{words_of_bytes_of}
-use Rattle.words.specs.LineFileLaws.{line_file_read}
+use Rattle.words.proofs.BytesLaws.{words_of_bytes_of}
+use Rattle.words.proofs.LineFileLaws.{line_file_read}
 use Rattle.words.specs.Certificate.{Certificate, certificate_words}
 use Rattle.truth.specs.Verdict.{verdict}
-use Rattle.truth.specs.Accepted.{accepted_of_words}
+use Rattle.truth.proofs.Accepted.{accepted_of_words}
 use Rattle.verifier.specs.File.{file_verdict}
 use Rattle.verifier.specs.Checked.{whole_words}
 use Rattle.solver.specs.Solving.{with_room, file_to_solve, certificate_bytes, GivesRight, SolvesOr, SolvesFile}

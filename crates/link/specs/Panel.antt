@@ -12,25 +12,25 @@ use Rattle.words.specs.Word.{Bytes}
 use Rattle.words.specs.Outcome.{Outcome}
 use Rattle.words.specs.Outcome.Outcome.{accepted, refused}
 use Rattle.words.specs.Systems.{Systems, SystemsWithin, systems_words, read_systems, line}
-use Rattle.words.specs.SystemsLaws.{systems_written_of_read, systems_words_most}
-use Rattle.words.specs.LineLaws.{line_within}
+use Rattle.words.proofs.SystemsLaws.{systems_written_of_read, systems_words_most}
+use Rattle.words.proofs.LineLaws.{line_within}
 use Rattle.words.specs.Certificate.{Certificate, CertificateWithin, certificate_words, read_certificate}
-use Rattle.words.specs.CertificateLaws.{certificate_written_of_read, certificate_words_most}
+use Rattle.words.proofs.CertificateLaws.{certificate_written_of_read, certificate_words_most}
 use Rattle.words.specs.Bytes.{words_of, bytes_of, broken, word_bytes}
-use Rattle.words.specs.BytesLaws.{words_of_bytes_of, length_words_of}
-use Rattle.words.specs.RefusedLaws.{systems_refused_iff, systems_rows, certificate_refused_iff, certificate_rows_lem}
+use Rattle.words.proofs.BytesLaws.{words_of_bytes_of, length_words_of}
+use Rattle.words.proofs.RefusedLaws.{systems_refused_iff, systems_rows, certificate_refused_iff, certificate_rows_lem}
 use Rattle.words.specs.Rows.{Row, InRows, system_rows, certificate_rows, value_rows, kept_rows}
 use Rattle.words.specs.TenFirst.TenFirst.{ten, others}
 use Rattle.words.specs.Pair.{WrittenPair, whole}
 use Rattle.words.specs.Pair.PairRefused.{by_system, by_certificate, by_values}
-use Rattle.words.specs.PairLaws.{written_map}
+use Rattle.words.proofs.PairLaws.{written_map}
 use Rattle.words.specs.System.{shape}
-use Rattle.words.specs.KeptLaws.{systems_wider}
+use Rattle.words.proofs.KeptLaws.{systems_wider}
 use Rattle.truth.specs.Within.{Keeps, KeptFault}
 use Rattle.truth.specs.Within.KeptFault.{system_exceeds, certificate_exceeds_lem, by_values as kept_values}
-use Rattle.truth.specs.WithinLaws.{line_shape, fault_in_rows}
-use Rattle.truth.specs.TurnedBackLaws.{fault_rows}
-use Rattle.truth.specs.DemandLaws.{Says, Agree}
+use Rattle.truth.proofs.WithinLaws.{line_shape, fault_in_rows}
+use Rattle.truth.proofs.TurnedBackLaws.{fault_rows}
+use Rattle.truth.proofs.DemandLaws.{Says, Agree}
 use Rattle.solve_meaning.specs.Existence.{chosen_certificate_within, panel_suffices, panel_office_same}
 use Rattle.verifier.specs.File.{file_verdict, panel_verdict}
 use Rattle.verifier.specs.Panel.{panel_exactly, panel_kept, panel_whole, PanelRefused, panel_refused_iff}

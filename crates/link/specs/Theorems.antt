@@ -19,34 +19,34 @@ use Rattle.words.specs.Outcome.{Outcome, refuse, mapped, followed_by}
 use Rattle.words.specs.Outcome.Outcome.{accepted, refused}
 use Rattle.words.specs.System.{System, Shape, shape, ShapeWithin, SystemWithin}
 use Rattle.words.specs.Systems.{Systems, Head, SystemsWithin, systems_words, line, single, read_systems, read_line}
-use Rattle.words.specs.SystemsLaws.{systems_accepted_iff, systems_read_of_written, systems_words_injective}
+use Rattle.words.proofs.SystemsLaws.{systems_accepted_iff, systems_read_of_written, systems_words_injective}
 use Rattle.words.specs.Line.{LineIn, LineRefused}
-use Rattle.words.specs.LineLaws.{line_within, line_in_within, line_read_of_written, line_refused_iff}
-use Rattle.words.specs.LineFileLaws.{line_file_refused_iff}
+use Rattle.words.proofs.LineLaws.{line_within, line_in_within, line_read_of_written, line_refused_iff}
+use Rattle.words.proofs.LineFileLaws.{line_file_refused_iff}
 use Rattle.words.specs.Before.{ZeroBits, read_before, longest_before, read_before_file}
-use Rattle.words.specs.BeforeLaws.{before_read, before_line, before_accepted, before_file, before_line_file}
+use Rattle.words.proofs.BeforeLaws.{before_read, before_line, before_accepted, before_file, before_line_file}
 use Rattle.words.specs.Certificate.{Certificate, Form, CertificateWithin, certificate_form, certificate_words, read_certificate}
-use Rattle.words.specs.CertificateLaws.{certificate_accepted_iff, certificate_read_of_written, certificate_words_injective}
-use Rattle.words.specs.CertificateLaws.{certificate_words_most}
-use Rattle.words.specs.KeptLaws.{systems_wider, certificate_wider}
+use Rattle.words.proofs.CertificateLaws.{certificate_accepted_iff, certificate_read_of_written, certificate_words_injective}
+use Rattle.words.proofs.CertificateLaws.{certificate_words_most}
+use Rattle.words.proofs.KeptLaws.{systems_wider, certificate_wider}
 use Rattle.words.specs.Bytes.{words_of, bytes_of, broken, read_systems_file, read_line_file, word_bytes}
 use Rattle.words.specs.Table.{ByTable, system_table, certificate_table, PolynomialsByTable}
 use Rattle.words.specs.Reading.{used}
 use Rattle.words.specs.Polynomial.{polynomial_from, polynomials_from}
-use Rattle.words.specs.PolynomialsRefused.{polynomial_refused_iff, polynomials_refused_iff}
+use Rattle.words.proofs.PolynomialsRefused.{polynomial_refused_iff, polynomials_refused_iff}
 use Rattle.words.specs.TenFirst.{FileRefused, LineFileRefused}
 use Rattle.words.specs.Pair.{PairRefused, WrittenPair, whole, one_line}
-use Rattle.words.specs.RefusedLaws.{systems_refused_iff, certificate_refused_iff, file_refused_iff}
+use Rattle.words.proofs.RefusedLaws.{systems_refused_iff, certificate_refused_iff, file_refused_iff}
 use Rattle.truth.specs.Solution.{RationalSolution, Answers}
 use Rattle.truth.specs.Solution.Answer.{least}
 use Rattle.truth.specs.Verdict.{certificate_verdict, verdict}
-use Rattle.truth.specs.Accepted.{AcceptedWords, proper}
-use Rattle.truth.specs.CertifiedWords.{CertifiedWords, accepted_iff_certified}
+use Rattle.truth.proofs.Accepted.{AcceptedWords, proper}
+use Rattle.truth.proofs.CertifiedWords.{CertifiedWords, accepted_iff_certified}
 use Rattle.truth.specs.TurnedBack.{Fault}
-use Rattle.truth.specs.RefusedWords.{words_refused_iff}
-use Rattle.truth.specs.DemandLaws.{Says, Agree, accepted_says, verdicts_agree}
+use Rattle.truth.proofs.RefusedWords.{words_refused_iff}
+use Rattle.truth.proofs.DemandLaws.{Says, Agree, accepted_says, verdicts_agree}
 use Rattle.truth.specs.Feedback.{TakenOut, SolutionWith, LeastOfEither, SaysLeast}
-use Rattle.truth.specs.FeedbackLaws.{taken_out, taken_out_only, solution_with, solution_one, answer_least, says_least, least_one}
+use Rattle.truth.proofs.FeedbackLaws.{taken_out, taken_out_only, solution_with, solution_one, answer_least, says_least, least_one}
 use Rattle.truth.specs.Chosen.{Chosen}
 use Rattle.files.specs.Opening.{Opened}
 use Rattle.files.specs.OpeningLaws.{opened_unchanged}

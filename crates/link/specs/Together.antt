@@ -8,9 +8,9 @@ use Rattle.words.specs.LimitsLaws.{office_fits}
 use Rattle.words.specs.Outcome.{Outcome, followed_by}
 use Rattle.words.specs.Outcome.Outcome.{accepted, refused}
 use Rattle.words.specs.Systems.{Systems, SystemsWithin, systems_words, line, single, line_of}
-use Rattle.words.specs.LineLaws.{line_within}
+use Rattle.words.proofs.LineLaws.{line_within}
 use Rattle.words.specs.Bytes.{bytes_of, read_systems_file, read_line_file, word_bytes}
-use Rattle.words.specs.LineFileLaws.{line_file}
+use Rattle.words.proofs.LineFileLaws.{line_file}
 use Rattle.words.specs.Certificate.{Certificate, certificate_words}
 use Rattle.write_frame.specs.Overwriting.{overwritten}
 use Rattle.solve_meaning.specs.Existence.{office_suffices, office_certificate}

@@ -14,10 +14,10 @@ use Rattle.words.specs.Outcome.Outcome.{accepted, refused}
 use Rattle.words.specs.OutcomeLaws.{mapped_accepted, mapped_refused, refused_accepted}
 use Rattle.words.specs.Word.{payload}
 use Rattle.words.specs.Polynomial.{polynomial_words}
-use Rattle.words.specs.PolynomialLaws.{length_polynomial_words}
-use Rattle.words.specs.PlaceLaws.{coefficient_at}
+use Rattle.words.proofs.PolynomialLaws.{length_polynomial_words}
+use Rattle.words.proofs.PlaceLaws.{coefficient_at}
 use Rattle.words.specs.Systems.{Systems, read_systems}
-use Rattle.words.specs.SystemsLaws.{systems_written_of_read}
+use Rattle.words.proofs.SystemsLaws.{systems_written_of_read}
 use Rattle.words.specs.Certificate.{Certificate, read_certificate}
 use Rattle.lookup.specs.Lookup.{Of, Part, entries_on, shown, polynomial_lookup, words_shown, companion}
 use Rattle.lookup.specs.LookupLaws.{Shows, lookup_shown}

@@ -16,18 +16,18 @@ use Rattle.words.specs.Outcome.Outcome.{accepted, refused}
 use Rattle.words.specs.OutcomeLaws.{followed_by_accepted, mapped_accepted, refuse_passed}
 use Rattle.words.specs.System.{System, Shape, ShapeWithin, shape}
 use Rattle.words.specs.Systems.{Systems, systems_head, read_systems, line, line_of, read_line}
-use Rattle.words.specs.SystemsLaws.{systems_written_of_read}
+use Rattle.words.proofs.SystemsLaws.{systems_written_of_read}
 use Rattle.words.specs.Certificate.{Certificate, read_certificate}
 use Rattle.words.specs.VectorLaws.{all_at}
-use Rattle.words.specs.PrefixLaws.{certificate_prefix}
+use Rattle.words.proofs.PrefixLaws.{certificate_prefix}
 use Rattle.words.specs.Rows.{system_rows, certificate_rows, file_rows}
 use Rattle.words.specs.RowLaws.{numbers_between, places_below}
-use Rattle.words.specs.RefusedLaws.{systems_rows, certificate_rows_lem, file_rows_lem, file_place}
+use Rattle.words.proofs.RefusedLaws.{systems_rows, certificate_rows_lem, file_rows_lem, file_place}
 use Rattle.words.specs.Bytes.{words_of, broken, too_long, read_systems_file, word_bytes}
-use Rattle.words.specs.BytesLaws.{length_words_of, or_left, or_right}
+use Rattle.words.proofs.BytesLaws.{length_words_of, or_left, or_right}
 use Rattle.lookup.specs.Lookup.{Of, entries_on}
 use Rattle.lookup.specs.Lookup.Of.{system, certificate}
-use Rattle.words.specs.FramedLaws.{systems_framed, certificate_framed, framed_size}
+use Rattle.words.proofs.FramedLaws.{systems_framed, certificate_framed, framed_size}
 use Rattle.truth.specs.Verdict.{verdict, certificate_verdict}
 use Rattle.files.specs.Opening.{first_words}
 use Rattle.files.specs.OpeningLaws.{few_words}

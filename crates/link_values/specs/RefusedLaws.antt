@@ -12,9 +12,9 @@ use Rattle.words.specs.Certificate.{Certificate, certificate_form}
 use Rattle.words.specs.Bytes.{words_of, bytes_of, read_systems_file, word_bytes}
 use Rattle.words.specs.TenFirst.{TenFirst, FileRefused}
 use Rattle.words.specs.Pair.{PairRefused, whole}
-use Rattle.words.specs.PairLaws.{pair_refused_iff}
-use Rattle.words.specs.SourceLaws.{whole_laws}
-use Rattle.words.specs.RefusedLaws.{ten_first_iff, file_refused_iff}
+use Rattle.words.proofs.PairLaws.{pair_refused_iff}
+use Rattle.words.proofs.SourceLaws.{whole_laws}
+use Rattle.words.proofs.RefusedLaws.{ten_first_iff, file_refused_iff}
 use Rattle.lookup.specs.Lookup.{Of, entries_on}
 use Rattle.lookup.specs.RefusedLaws.{NoPolynomial, no_polynomial_iff}
 use Rattle.files.specs.OpeningBoth.{files_broken}

@@ -13,15 +13,15 @@ use Rattle.words.specs.Outcome.{Outcome, refuse, followed_by, mapped}
 use Rattle.words.specs.Outcome.Outcome.{accepted, refused}
 use Rattle.words.specs.OutcomeLaws.{refuse_passed}
 use Rattle.words.specs.Polynomial.{polynomial_words}
-use Rattle.words.specs.PlaceLaws.{payloads_of}
+use Rattle.words.proofs.PlaceLaws.{payloads_of}
 use Rattle.words.specs.Systems.{Systems, SystemsWithin, systems_words, read_systems}
-use Rattle.words.specs.SystemsLaws.{systems_written_of_read}
+use Rattle.words.proofs.SystemsLaws.{systems_written_of_read}
 use Rattle.words.specs.Certificate.{Certificate, CertificateWithin, certificate_form, certificate_words, read_certificate}
-use Rattle.words.specs.CertificateLaws.{certificate_written_of_read}
+use Rattle.words.proofs.CertificateLaws.{certificate_written_of_read}
 use Rattle.words.specs.Bytes.{words_of, bytes_of, broken, too_long, read_systems_file}
 use Rattle.words.specs.Pair.{WrittenPair, whole}
-use Rattle.words.specs.PairLaws.{pair_accepted_iff}
-use Rattle.words.specs.SourceLaws.{whole_laws}
+use Rattle.words.proofs.PairLaws.{pair_accepted_iff}
+use Rattle.words.proofs.SourceLaws.{whole_laws}
 use Rattle.files.specs.OpeningBoth.{files_broken}
 use Rattle.lookup.specs.Lookup.{Of, Part, entries_on, part_of, shown, polynomial_lookup}
 use Rattle.verifier.specs.Checked.{words_of_files, files_of_words, whole_short}

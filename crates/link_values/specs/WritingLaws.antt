@@ -16,9 +16,9 @@ use Rattle.words.specs.Outcome.Outcome.{accepted, refused}
 use Rattle.words.specs.OutcomeLaws.{refused_accepted, mapped_accepted, refuse_passed, passed_refuse}
 use Rattle.words.specs.System.{Shape, one_to}
 use Rattle.words.specs.Systems.{Head, Systems, HeadWithin, systems_head, systems_entries, systems_words, read_systems}
-use Rattle.words.specs.SystemsLaws.{systems_words_most}
+use Rattle.words.proofs.SystemsLaws.{systems_words_most}
 use Rattle.words.specs.Bytes.{words_of, bytes_of, broken, too_long, read_systems_file, word_bytes}
-use Rattle.words.specs.BytesLaws.{length_bytes_of, file_read_of_written}
+use Rattle.words.proofs.BytesLaws.{length_bytes_of, file_read_of_written}
 use Rattle.answers.specs.Packed.{place_unit}
 use Rattle.write_frame.specs.Trial.{passed, last?, refuse_coefficients, refuse_polynomials}
 use Rattle.write_frame.specs.TrialLaws.{next_after, refuse_after, polynomials_first}

@@ -7,7 +7,7 @@ use Rattle.modular.specs.Canonical.{Canonical}
 use Rattle.modular.specs.Coefficientwise.{coefficient_get_or, coefficient_below}
 use Rattle.words.specs.System.{System}
 use Rattle.words.specs.Starts.{first_entries, line_entries}
-use Rattle.words.specs.FramedLaws.{EntriesRead, LineEntriesRead}
+use Rattle.words.proofs.FramedLaws.{EntriesRead, LineEntriesRead}
 use Rattle.vector.specs.Reduced.{reduced, polynomial, reduced_is}
 use Rattle.loader.specs.Slot.{slot, InSlots, SlotFilled}
 

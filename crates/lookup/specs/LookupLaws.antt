@@ -12,14 +12,14 @@ use Rattle.words.specs.Frame.{framed_words, entry_place}
 use Rattle.words.specs.System.{side_entry}
 use Rattle.words.specs.Systems.{Systems, read_systems, line}
 use Rattle.words.specs.LimitsLaws.{LimitsFit}
-use Rattle.words.specs.SystemsLaws.{systems_written_of_read}
-use Rattle.words.specs.LineLaws.{side_entry_lem}
+use Rattle.words.proofs.SystemsLaws.{systems_written_of_read}
+use Rattle.words.proofs.LineLaws.{side_entry_lem}
 use Rattle.words.specs.Certificate.{Certificate, certificate_form, entry_count, read_certificate}
-use Rattle.words.specs.PolynomialLaws.{length_polynomial_words}
+use Rattle.words.proofs.PolynomialLaws.{length_polynomial_words}
 use Rattle.lookup.specs.Lookup.{Of, Part, on, entries_on, part_of, shown, polynomial_lookup, words_shown}
 use Rattle.lookup.specs.Lookup.Of.{system, certificate}
 use Rattle.words.specs.OutcomeLaws.{followed_by_accepted, refuse_passed}
-use Rattle.words.specs.FramedLaws.{systems_framed, certificate_framed, polynomial_inside, polynomial_part}
+use Rattle.words.proofs.FramedLaws.{systems_framed, certificate_framed, polynomial_inside, polynomial_part}
 
 -- ---- the definition, case by case
 

@@ -10,9 +10,9 @@ use Rattle.words.specs.Systems.{Systems}
 use Rattle.words.specs.Certificate.{Certificate}
 use Rattle.words.specs.Rows.{RefusesBy, at_0, lookup_rows}
 use Rattle.words.specs.RowLaws.{by_accepted, by_row}
-use Rattle.words.specs.SourceLaws.{whole_laws, whole_rows}
+use Rattle.words.proofs.SourceLaws.{whole_laws, whole_rows}
 use Rattle.words.specs.Pair.{whole, PairRefused}
-use Rattle.words.specs.PairLaws.{pair_refused_iff, pair_rows}
+use Rattle.words.proofs.PairLaws.{pair_refused_iff, pair_rows}
 use Rattle.lookup.specs.Lookup.{Of, Part, entries_on, part_of, shown, polynomial_lookup}
 
 -- "12: no polynomial of that number; 0"

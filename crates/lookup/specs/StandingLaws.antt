@@ -6,11 +6,11 @@ use Rattle.std.proofs.lemmas.Bool.{lt-leb}
 use Rattle.words.specs.Word.{payload_bound, kind}
 use Rattle.words.specs.Outcome.{Outcome, refuse}
 use Rattle.words.specs.Outcome.Outcome.{accepted, refused}
-use Rattle.words.specs.PolynomialLaws.{length_polynomial_words}
+use Rattle.words.proofs.PolynomialLaws.{length_polynomial_words}
 use Rattle.words.specs.Frame.{Due}
-use Rattle.words.specs.PlaceLaws.{entry_place_next}
+use Rattle.words.proofs.PlaceLaws.{entry_place_next}
 use Rattle.words.specs.Starts.{start_place}
-use Rattle.words.specs.FramedLaws.{FramedIn, start_is, started, ended}
+use Rattle.words.proofs.FramedLaws.{FramedIn, start_is, started, ended}
 use Rattle.lookup.specs.Lookup.{part_of, shown, bounds_shown}
 use Rattle.lookup.specs.Standing.{part_in}
 

@@ -1,6 +1,6 @@
 -- interface, what contracts, other crates and documents cite: Bits, Prime, Primality, LargestPrime, Remainder, Modulo, Inverse,
 --   Residue, Canonical, Closed, Coefficientwise, Product, Length, Values, Arithmetic, Numbers, Carried, SizeLaws, DivisionLaws,
---   MonicLaws, GcdLaws, Lists, Delay, DelayLaws
+--   MonicLaws, GcdLaws, Lists, Delay
 -- inside: Total, Entries, Step, LcmLaws, Examples
 pub mod Bits
 pub mod Prime
@@ -29,5 +29,4 @@ pub mod GcdLaws
 pub mod LcmLaws
 pub mod Lists
 pub mod Delay
-pub mod DelayLaws
 pub mod Examples

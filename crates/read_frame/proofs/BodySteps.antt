@@ -12,8 +12,8 @@ use Rattle.words.specs.Reading.Reading.{read, fault}
 use Rattle.words.specs.Polynomial.{polynomials_words, polynomials_from}
 use Rattle.words.specs.Frame.{end_from, body_from}
 use Rattle.words.specs.ReadingLaws.{words_used_map}
-use Rattle.words.specs.PolynomialLaws.{polynomials_read}
-use Rattle.words.specs.ForwardLaws.{Forward, polynomials_forward}
+use Rattle.words.proofs.PolynomialLaws.{polynomials_read}
+use Rattle.words.proofs.ForwardLaws.{Forward, polynomials_forward}
 use Rattle.read_frame.specs.Due.{due_of}
 use Rattle.read_frame.proofs.PolynomialTurns.{rest_part}
 use Rattle.read_frame.proofs.EndWord.{OfEnd}

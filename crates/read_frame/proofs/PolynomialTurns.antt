@@ -12,8 +12,8 @@ use Rattle.words.specs.Reading.{Reading, and_then, words_used}
 use Rattle.words.specs.Reading.Reading.{read, fault}
 use Rattle.words.specs.Polynomial.{polynomial_words, polynomial_from, polynomials_from}
 use Rattle.words.specs.ReadingLaws.{words_used_map}
-use Rattle.words.specs.PolynomialLaws.{polynomial_read}
-use Rattle.words.specs.ForwardLaws.{Forward, polynomial_forward}
+use Rattle.words.proofs.PolynomialLaws.{polynomial_read}
+use Rattle.words.proofs.ForwardLaws.{Forward, polynomial_forward}
 
 -- the part `&words[at..]` is the words from `at` on
 pub rest_part : (ws : List ℕ) (at : ℕ) → take (length ws - at) (drop at ws) ≡ drop at ws

@@ -14,8 +14,8 @@ use Rattle.words.specs.System.{Shape}
 use Rattle.words.specs.Certificate.{Form, certificate_form, certificate_head_from, entry_count, certificate_due, certificate_as}
 use Rattle.words.specs.Certificate.{certificate_of, certificate_from, read_certificate}
 use Rattle.words.specs.Certificate.Form.{solving, absent}
-use Rattle.words.specs.CertificateLaws.{certificate_from_shown, form_read}
-use Rattle.words.specs.ForwardLaws.{forward_more, body_forward, forward_refused}
+use Rattle.words.proofs.CertificateLaws.{certificate_from_shown, form_read}
+use Rattle.words.proofs.ForwardLaws.{forward_more, body_forward, forward_refused}
 use Rattle.read_frame.specs.Due.{due_of}
 use Rattle.reader.proofs.FrameSteps.{mapped_outcome, OfFrame, OfBody, frame_head_refused, frame_some, frame_body_refused}
 use Rattle.reader.proofs.FrameSteps.{frame_read}

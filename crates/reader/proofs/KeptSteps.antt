@@ -17,14 +17,14 @@ use Rattle.words.specs.Outcome.Outcome.{accepted}
 use Rattle.words.specs.OutcomeLaws.{mapped_accepted}
 use Rattle.words.specs.System.{Shape, ShapeWithin}
 use Rattle.words.specs.Systems.{Head, HeadWithin, Systems, systems_head, systems_entries, systems_due, read_systems}
-use Rattle.words.specs.SystemsLaws.{systems_written_of_read}
+use Rattle.words.proofs.SystemsLaws.{systems_written_of_read}
 use Rattle.words.specs.Certificate.{Certificate, Form, certificate_form, certificate_entries, entry_count, read_certificate}
-use Rattle.words.specs.CertificateLaws.{certificate_written_of_read}
+use Rattle.words.proofs.CertificateLaws.{certificate_written_of_read}
 use Rattle.words.specs.Starts.{start_place, first_entries, coefficients_at, HasEntries}
 use Rattle.words.specs.Starts.{start_first, start_next, length_coefficients_at, length_first_entries, get_or_first_entries}
-use Rattle.words.specs.FramedLaws.{EntriesRead, systems_entries_read, certificate_entries_read}
+use Rattle.words.proofs.FramedLaws.{EntriesRead, systems_entries_read, certificate_entries_read}
 use Rattle.words.specs.Kept.{longer?, systems_exceed, certificate_exceeds}
-use Rattle.words.specs.KeptLaws.{longer_at, longer_next, words_follow}
+use Rattle.words.proofs.KeptLaws.{longer_at, longer_next, words_follow}
 
 -- ---- the walk from start word to start word: before turn k none of the first k is longer
 

@@ -13,7 +13,7 @@ use Rattle.words.specs.OutcomeLaws.{mapped_accepted, mapped_refused}
 use Rattle.words.specs.System.{shape}
 use Rattle.words.specs.Systems.{Head, Systems, systems_head, read_systems, line, read_line}
 use Rattle.words.specs.Kept.{sided_of, read_sided}
-use Rattle.words.specs.KeptLaws.{line_sided}
+use Rattle.words.proofs.KeptLaws.{line_sided}
 
 module _ (limits : Limits) (k : ℕ) (ws : List ℕ) where
   -- what is told, where the sheet is read as s

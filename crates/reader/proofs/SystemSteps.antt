@@ -11,8 +11,8 @@ use Rattle.words.specs.Reading.{outcome}
 use Rattle.words.specs.Reading.Reading.{read}
 use Rattle.words.specs.Frame.{framed_from}
 use Rattle.words.specs.Systems.{Head, systems_head, systems_head_from, systems_due, systems_of, systems_from, read_systems}
-use Rattle.words.specs.SystemsLaws.{systems_from_shown}
-use Rattle.words.specs.HeadLaws.{head_read}
+use Rattle.words.proofs.SystemsLaws.{systems_from_shown}
+use Rattle.words.proofs.HeadLaws.{head_read}
 use Rattle.reader.proofs.FrameSteps.{mapped_outcome, OfFrame, OfBody, frame_head_refused, frame_some, frame_body_refused}
 use Rattle.reader.proofs.FrameSteps.{frame_read}
 

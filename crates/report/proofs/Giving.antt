@@ -12,7 +12,7 @@ use Rattle.words.specs.Outcome.{Outcome}
 use Rattle.words.specs.Outcome.Outcome.{accepted, refused}
 use Rattle.words.specs.System.{System, Shape, shape}
 use Rattle.words.specs.Systems.{read_line}
-use Rattle.words.specs.LineLaws.{line_in_within, line_written_of_read}
+use Rattle.words.proofs.LineLaws.{line_in_within, line_written_of_read}
 use Rattle.words.specs.Certificate.{form_when}
 use Rattle.words.specs.Bytes.{read_line_file}
 use Rattle.truth.specs.Solution.{Answer, Answers}

@@ -12,11 +12,11 @@ use Rattle.words.specs.Systems.{systems_words, single}
 use Rattle.words.specs.System.{System}
 use Rattle.words.specs.Certificate.{certificate_words}
 use Rattle.words.specs.Certificate.Certificate.{solution}
-use Rattle.words.specs.LineLaws.{line_written_of_read}
+use Rattle.words.proofs.LineLaws.{line_written_of_read}
 use Rattle.words.specs.Bytes.{bytes_of, read_line_file}
-use Rattle.words.specs.LineFileLaws.{line_file_read}
+use Rattle.words.proofs.LineFileLaws.{line_file_read}
 use Rattle.truth.specs.Verdict.{verdict}
-use Rattle.truth.specs.Cases.{Case, CaseOutcome, cases, case_outcome, case_row, over, 𝟙, x²+x, wanted, row_true}
+use Rattle.truth.proofs.Cases.{Case, CaseOutcome, cases, case_outcome, case_row, over, 𝟙, x²+x, wanted, row_true}
 use Rattle.solve_meaning.specs.Answers.{answer_of, true_answers}
 use Rattle.report_text.specs.Ascii.{ascii}
 use Rattle.report_text.specs.Decimal.{decimal}

@@ -10,15 +10,15 @@ use Rattle.words.specs.Outcome.Outcome.{accepted}
 use Rattle.words.specs.System.{System}
 use Rattle.words.specs.Certificate.{Certificate}
 use Rattle.words.specs.Bytes.{read_line_file}
-use Rattle.words.specs.LineFileLaws.{line_file_within}
+use Rattle.words.proofs.LineFileLaws.{line_file_within}
 use Rattle.truth.specs.Solution.{RationalSolution, LeastDenominator, Answer, Answers}
 use Rattle.truth.specs.Solution.Answer.{none, least}
 use Rattle.truth.specs.Lift.{Proper}
-use Rattle.truth.specs.Truth.{answer_unique}
-use Rattle.truth.specs.Accepted.{proper}
+use Rattle.truth.proofs.Truth.{answer_unique}
+use Rattle.truth.proofs.Accepted.{proper}
 use Rattle.truth.specs.Demand.{True}
 use Rattle.truth.specs.Feedback.{TakenOut, LeastOfEither}
-use Rattle.truth.specs.FeedbackLaws.{taken_out, monic_nonzero, answer_least}
+use Rattle.truth.proofs.FeedbackLaws.{taken_out, monic_nonzero, answer_least}
 use Rattle.solve_meaning.specs.Answers.{answer_of, true_answers}
 use Rattle.report_text.specs.Ascii.{ascii}
 use Rattle.report_text.specs.Text.{solution_text, report_text}

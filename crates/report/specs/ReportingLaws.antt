@@ -16,19 +16,19 @@ use Rattle.words.specs.OutcomeLaws.{mapped_refused}
 use Rattle.words.specs.System.{System, Shape, SystemWithin, shape}
 use Rattle.words.specs.Systems.{Systems, SystemsWithin, systems_words, line, single, read_systems}
 use Rattle.words.specs.Line.{LineIn}
-use Rattle.words.specs.LineLaws.{first_line, line_in_within}
+use Rattle.words.proofs.LineLaws.{first_line, line_in_within}
 use Rattle.words.specs.Certificate.{Certificate, CertificateWithin}
 use Rattle.words.specs.Certificate.Certificate.{solution, absence}
 use Rattle.words.specs.Rows.{file_rows}
 use Rattle.words.specs.RowLaws.{numbers_between}
-use Rattle.words.specs.RefusedLaws.{file_rows_lem, file_place}
+use Rattle.words.proofs.RefusedLaws.{file_rows_lem, file_place}
 use Rattle.words.specs.Bytes.{words_of, bytes_of, broken, too_long, read_systems_file, read_line_file}
-use Rattle.words.specs.LineFileLaws.{line_file_within, line_file_read}
+use Rattle.words.proofs.LineFileLaws.{line_file_within, line_file_read}
 use Rattle.truth.specs.Solution.{Answer, Answers}
 use Rattle.truth.specs.Chosen.{chosen_right}
-use Rattle.truth.specs.Accepted.{proper}
-use Rattle.truth.specs.Truth.{answer_unique}
-use Rattle.truth.specs.Lines.{single_line}
+use Rattle.truth.proofs.Accepted.{proper}
+use Rattle.truth.proofs.Truth.{answer_unique}
+use Rattle.truth.proofs.Lines.{single_line}
 use Rattle.solve_meaning.specs.Answers.{answer_of, right_answers}
 use Rattle.solve_meaning.specs.Existence.{office_certificate_exists, office_answer_exists}
 use Rattle.report_text.specs.Text.{report_text}

@@ -6,7 +6,7 @@ use Rattle.modular.specs.LargestPrime.{largest_modulus}
 use Rattle.modular.specs.Canonical.{Canonical}
 use Rattle.modular.specs.Bits.{bound8, bound64}
 use Rattle.modular.specs.Delay.{delay, feedback}
-use Rattle.modular.specs.DelayLaws.{length_undelayed}
+use Rattle.modular.proofs.DelayLaws.{length_undelayed}
 use Rattle.words.specs.Limits.{Limits, office}
 use Rattle.words.specs.Polynomial.{Within}
 use Rattle.words.specs.Outcome.{Outcome}

@@ -11,10 +11,10 @@ use Rattle.words.specs.OutcomeLaws.{mapped_accepted}
 use Rattle.words.specs.System.{System, Shape, SystemWithin, shape, entry, side_entry}
 use Rattle.words.specs.SystemLaws.{entry_within, side_entry_within}
 use Rattle.words.specs.Systems.{read_line}
-use Rattle.words.specs.LineLaws.{line_written_of_read, line_in_within}
+use Rattle.words.proofs.LineLaws.{line_written_of_read, line_in_within}
 use Rattle.words.specs.VectorLaws.{all_at, vector_append}
 use Rattle.words.specs.Starts.{line_entries, HasEntries}
-use Rattle.words.specs.FramedLaws.{LineEntriesRead, line_entries_read}
+use Rattle.words.proofs.FramedLaws.{LineEntriesRead, line_entries_read}
 use Rattle.vector.specs.Bound.{AtMost}
 use Rattle.loader.specs.Slot.{InSlots}
 use Rattle.loader.specs.SlotLaws.{slot_before, canonical_word, line_stands}

@@ -9,9 +9,10 @@ use Rattle.truth.specs.Solution.{Answer, Answers}
 use Rattle.truth.specs.Solution.Answer.{none, least}
 use Rattle.truth.specs.Right.{Right}
 use Rattle.truth.specs.Lift.{Proper}
-use Rattle.truth.specs.Truth.{right_least, right_absent}
+use Rattle.truth.proofs.Truth.{right_least, right_absent}
 use Rattle.truth.specs.Chosen.{Chosen}
-use Rattle.truth.specs.Demand.{True, right_true}
+use Rattle.truth.specs.Demand.{True}
+use Rattle.truth.proofs.DemandTruth.{right_true}
 
 -- the least denominator, or none
 unfoldable pub answer_of : Certificate → Answer

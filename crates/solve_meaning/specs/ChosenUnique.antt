@@ -27,10 +27,11 @@ use Rattle.words.specs.System.{System, SystemWithin}
 use Rattle.words.specs.Certificate.{Certificate}
 use Rattle.words.specs.Certificate.Certificate.{solution, absence}
 use Rattle.truth.specs.Solution.{AllCanonical, Clears, Denominator, Monic}
-use Rattle.truth.specs.Truth.{ProperSolution, answer_unique}
-use Rattle.truth.specs.Accepted.{proper}
+use Rattle.truth.specs.ProperSolution.{ProperSolution}
+use Rattle.truth.proofs.Truth.{answer_unique}
+use Rattle.truth.proofs.Accepted.{proper}
 use Rattle.truth.specs.Lift.{canonical_at}
-use Rattle.truth.specs.Denominators.{denominator_divides}
+use Rattle.truth.proofs.Denominators.{denominator_divides}
 use Rattle.truth.specs.Chosen.{ChosenSolution, ChosenAbsence, Chosen, combination_of}
 use Rattle.solve_meaning.specs.Answers.{answer_of, distinct, least_same, chosen_answers}
 use Rattle.solve_meaning.specs.Lists

@@ -20,8 +20,8 @@ use Rattle.words.specs.Certificate.{Certificate, CertificateWithin}
 use Rattle.words.specs.Certificate.Certificate.{solution, absence}
 use Rattle.truth.specs.Solution.{Answer, Answers, RationalSolution, LeastDenominator}
 use Rattle.truth.specs.Right.{Right}
-use Rattle.truth.specs.Truth.{answer_unique}
-use Rattle.truth.specs.Accepted.{proper}
+use Rattle.truth.proofs.Truth.{answer_unique}
+use Rattle.truth.proofs.Accepted.{proper}
 use Rattle.truth.specs.Listed.{length_listed}
 use Rattle.truth.specs.Chosen.{Chosen, chosen_right}
 use Rattle.solve_meaning.specs.Listed.{vector_listed}

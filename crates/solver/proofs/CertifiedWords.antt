@@ -13,7 +13,7 @@ use Rattle.words.specs.Outcome.Outcome.{accepted}
 use Rattle.words.specs.OutcomeLaws.{mapped_accepted}
 use Rattle.words.specs.System.{System, Shape, SystemWithin, ShapeWithin, shape}
 use Rattle.words.specs.Systems.{read_line}
-use Rattle.words.specs.LineLaws.{line_written_of_read, line_in_within}
+use Rattle.words.proofs.LineLaws.{line_written_of_read, line_in_within}
 use Rattle.words.specs.Certificate.{form_when}
 use Rattle.truth.specs.Chosen.{chosen_right}
 use Rattle.solve_lattice.specs.Input.{ValidInput}

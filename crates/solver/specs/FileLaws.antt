@@ -10,10 +10,10 @@ use Rattle.words.specs.Outcome.Outcome.{accepted, refused}
 use Rattle.words.specs.OutcomeLaws.{refused_accepted}
 use Rattle.words.specs.System.{System, shape}
 use Rattle.words.specs.Bytes.{read_line_file, word_bytes}
-use Rattle.words.specs.BytesLaws.{length_bytes_of}
-use Rattle.words.specs.LineFileLaws.{line_file_within, line_file_place}
+use Rattle.words.proofs.BytesLaws.{length_bytes_of}
+use Rattle.words.proofs.LineFileLaws.{line_file_within, line_file_place}
 use Rattle.words.specs.Certificate.{certificate_words}
-use Rattle.words.specs.CertificateLaws.{certificate_words_most}
+use Rattle.words.proofs.CertificateLaws.{certificate_words_most}
 use Rattle.answers.specs.Packed.{AnswerMost}
 use Rattle.solver.specs.Solving.{with_room, file_to_solve, certificate_bytes, GivesRight, SolvesOr, SolvesFile}
 use Rattle.solver.specs.SolvingLaws.{room_read}

@@ -11,10 +11,10 @@ use Rattle.words.specs.Outcome.{Outcome}
 use Rattle.words.specs.Outcome.Outcome.{accepted, refused}
 use Rattle.words.specs.System.{System, SystemWithin}
 use Rattle.words.specs.Systems.{read_line}
-use Rattle.words.specs.LineLaws.{line_in_within, line_written_of_read}
+use Rattle.words.proofs.LineLaws.{line_in_within, line_written_of_read}
 use Rattle.words.specs.Bytes.{bytes_of, read_line_file, word_bytes}
-use Rattle.words.specs.BytesLaws.{length_bytes_of}
-use Rattle.words.specs.LineFileLaws.{line_file_within}
+use Rattle.words.proofs.BytesLaws.{length_bytes_of}
+use Rattle.words.proofs.LineFileLaws.{line_file_within}
 use Rattle.words.specs.Certificate.{Certificate, certificate_words}
 use Rattle.write_frame.specs.Overwriting.{overwritten}
 use Rattle.solve_meaning.specs.ChosenUnique.{chosen_unique}

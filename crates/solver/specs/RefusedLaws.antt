@@ -13,11 +13,11 @@ use Rattle.words.specs.System.{System}
 use Rattle.words.specs.Systems.{read_line}
 use Rattle.words.specs.Bytes.{words_of, bytes_of, read_line_file, word_bytes}
 use Rattle.words.specs.Line.{LineIn, LineRefused}
-use Rattle.words.specs.LineLaws.{line_accepted_iff, line_refused_iff}
-use Rattle.words.specs.LineFileLaws.{line_file_accepted_iff, line_file_refused_iff, line_file_rows_lem}
+use Rattle.words.proofs.LineLaws.{line_accepted_iff, line_refused_iff}
+use Rattle.words.proofs.LineFileLaws.{line_file_accepted_iff, line_file_refused_iff, line_file_rows_lem}
 use Rattle.words.specs.Certificate.{Certificate, certificate_words}
 use Rattle.words.specs.TenFirst.{LineFileRefused}
-use Rattle.words.specs.SourceLaws.{line_rows_lem}
+use Rattle.words.proofs.SourceLaws.{line_rows_lem}
 use Rattle.words.specs.Rows.{Row, RefusesBy, at_0, solver_rows, solver_file_rows}
 use Rattle.words.specs.RowLaws.{by_accepted, by_row, by_followed}
 use Rattle.solver.specs.Solving.{with_room, certificate_bytes, SolvesOr, Solves, SolvesFile}

@@ -9,11 +9,11 @@ use Rattle.words.specs.Outcome.{Outcome, followed_by}
 use Rattle.words.specs.Outcome.Outcome.{accepted}
 use Rattle.words.specs.System.{System, Shape, SystemWithin}
 use Rattle.words.specs.Systems.{Systems, SystemsWithin, systems_words, line, single, line_of, read_systems, read_line}
-use Rattle.words.specs.SystemsLaws.{systems_read_of_written, systems_written_of_read}
-use Rattle.words.specs.LineLaws.{line_within, line_single, single_within}
+use Rattle.words.proofs.SystemsLaws.{systems_read_of_written, systems_written_of_read}
+use Rattle.words.proofs.LineLaws.{line_within, line_single, single_within}
 use Rattle.words.specs.Bytes.{bytes_of, read_systems_file, read_line_file, word_bytes}
-use Rattle.words.specs.BytesLaws.{file_within, file_read_of_written}
-use Rattle.words.specs.LineFileLaws.{line_file, line_file_within}
+use Rattle.words.proofs.BytesLaws.{file_within, file_read_of_written}
+use Rattle.words.proofs.LineFileLaws.{line_file, line_file_within}
 use Rattle.words.specs.Certificate.{certificate_words}
 use Rattle.solver.specs.Solving.{certificate_bytes, Solves, SolvesFile}
 use Rattle.solver.specs.OneCertificate.{Call, SameWords, SameGiven, solved_same, file_solved_same, one_given, words_within}

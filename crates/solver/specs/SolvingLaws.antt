@@ -12,10 +12,10 @@ use Rattle.words.specs.OutcomeLaws.{refused_accepted, followed_by_accepted, refu
 use Rattle.words.specs.System.{System}
 use Rattle.words.specs.Systems.{Systems, SystemsWithin, systems_words, line, read_line}
 use Rattle.words.specs.Line.{LineIn}
-use Rattle.words.specs.LineLaws.{line_read_of_written, line_written_of_read}
+use Rattle.words.proofs.LineLaws.{line_read_of_written, line_written_of_read}
 use Rattle.words.specs.Certificate.{Certificate, certificate_words}
 use Rattle.truth.specs.Verdict.{verdict}
-use Rattle.truth.specs.Accepted.{accepted_of_words}
+use Rattle.truth.proofs.Accepted.{accepted_of_words}
 use Rattle.write_frame.specs.Overwriting.{overwritten}
 use Rattle.solver.specs.Solving.{with_room, system_to_solve, GivesRight, Gives, SolvesOr, Solves}
 

@@ -11,7 +11,7 @@ use Rattle.words.specs.Certificate.{Certificate}
 use Rattle.words.specs.Certificate.Certificate.{solution, absence}
 use Rattle.truth.specs.Solution.{AllCanonical, Denominator, row_of, side_of}
 use Rattle.truth.specs.Right.{RightSolution, RightAbsence, Right}
-use Rattle.truth.specs.Truth.{ProperSolution}
+use Rattle.truth.specs.ProperSolution.{ProperSolution}
 
 -- ---- N
 

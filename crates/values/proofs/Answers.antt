@@ -11,10 +11,10 @@ use Rattle.words.specs.Outcome.Outcome.{accepted, refused}
 use Rattle.words.specs.OutcomeLaws.{mapped_accepted, mapped_refused}
 use Rattle.words.specs.System.{Shape, ShapeWithin}
 use Rattle.words.specs.Systems.{Head, Systems, HeadWithin, systems_head, systems_entries, systems_due, read_systems}
-use Rattle.words.specs.SystemsLaws.{systems_written_of_read}
+use Rattle.words.proofs.SystemsLaws.{systems_written_of_read}
 use Rattle.words.specs.Certificate.{Certificate, Form, certificate_form, certificate_entries, entry_count, read_certificate}
 use Rattle.words.specs.Starts.{first_entries, HasEntries}
-use Rattle.words.specs.FramedLaws.{EntriesRead, systems_entries_read, certificate_entries_read}
+use Rattle.words.proofs.FramedLaws.{EntriesRead, systems_entries_read, certificate_entries_read}
 use Rattle.limits.specs.Counts.{system_polynomials, certificate_polynomials}
 use Rattle.answers.specs.declared.answer.Refusal.{Refusal}
 use Rattle.answers.specs.declared.shape.Head.{Head as HeadValue}

@@ -11,10 +11,10 @@ use Rattle.words.specs.Polynomial.{VectorWithin}
 use Rattle.words.specs.VectorLaws.{all_at}
 use Rattle.words.specs.System.{Shape, ShapeWithin}
 use Rattle.words.specs.Systems.{Head, Systems, SystemsWithin, systems_entries}
-use Rattle.words.specs.SystemsLaws.{systems_format, systems_laws}
+use Rattle.words.proofs.SystemsLaws.{systems_format, systems_laws}
 use Rattle.words.specs.Certificate.{Certificate, Form, CertificateWithin, certificate_form, certificate_entries, entry_count}
-use Rattle.words.specs.CertificateLaws.{certificate_format, certificate_laws, entry_count_most}
-use Rattle.words.specs.FormatLaws.{Format, FormatLaws}
+use Rattle.words.proofs.CertificateLaws.{certificate_format, certificate_laws, entry_count_most}
+use Rattle.words.proofs.FormatLaws.{Format, FormatLaws}
 use Rattle.write_frame.specs.Values.{polynomials_in}
 use Rattle.writer.specs.Values.{system_in_arrays, certificate_in, certificate_stride}
 use Rattle.writer.specs.ValuesLaws.{system_in_head, system_in_entries, certificate_in_entries, certificate_in_form, canonical_below}

@@ -11,7 +11,7 @@ use Rattle.std.proofs.Math.ListN.{length, get_or, take, drop, length-append, len
 use Rattle.std.proofs.Math.Seq.{take_at, take-append-add, drop-append-add}
 use Rattle.std.proofs.lemmas.List.{drop-append-le}
 use Rattle.words.specs.Word.{AllBelow}
-use Rattle.words.specs.WidthLaws.{below_nil, below_cons, below_append}
+use Rattle.words.proofs.WidthLaws.{below_nil, below_cons, below_append}
 use Rattle.write_frame.specs.Overwriting.{overwritten}
 use Rattle.write_frame.specs.Values.{numbers_from, polynomial_in, polynomials_in}
 use Rattle.write_frame.specs.ValuesLaws.{numbers_from_part, length_polynomials_in, get_or_polynomials_in}

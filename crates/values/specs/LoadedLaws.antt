@@ -9,9 +9,9 @@ use Rattle.words.specs.Outcome.Outcome.{accepted, refused}
 use Rattle.words.specs.OutcomeLaws.{mapped_refused}
 use Rattle.words.specs.System.{Shape, ShapeWithin}
 use Rattle.words.specs.Systems.{Systems, systems_head, systems_entries, read_systems}
-use Rattle.words.specs.SystemsLaws.{systems_written_of_read}
+use Rattle.words.proofs.SystemsLaws.{systems_written_of_read}
 use Rattle.words.specs.Certificate.{Certificate, certificate_form, certificate_entries, read_certificate}
-use Rattle.words.specs.CertificateLaws.{certificate_written_of_read}
+use Rattle.words.proofs.CertificateLaws.{certificate_written_of_read}
 use Rattle.answers.specs.declared.shape.SystemRead.{SystemRead}
 use Rattle.answers.specs.declared.shape.CertificateRead.{CertificateRead}
 use Rattle.answers.specs.Answer.{system_outcome, certificate_outcome}

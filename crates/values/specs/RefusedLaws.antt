@@ -12,7 +12,7 @@ use Rattle.words.specs.System.{Shape, ShapeWithin, one_to}
 use Rattle.words.specs.Systems.{systems_head, read_systems}
 use Rattle.words.specs.Certificate.{certificate_form, read_certificate}
 use Rattle.words.specs.Table.{ByTable, system_table, certificate_table}
-use Rattle.words.specs.RefusedLaws.{systems_refused_iff, certificate_refused_iff}
+use Rattle.words.proofs.RefusedLaws.{systems_refused_iff, certificate_refused_iff}
 use Rattle.answers.specs.declared.shape.SystemRead.{SystemRead}
 use Rattle.answers.specs.declared.shape.CertificateRead.{CertificateRead}
 use Rattle.answers.specs.Answer.{system_outcome, certificate_outcome}

@@ -9,9 +9,9 @@ use Rattle.words.specs.Outcome.Outcome.{accepted}
 use Rattle.words.specs.OutcomeLaws.{mapped_accepted}
 use Rattle.words.specs.System.{Shape, ShapeWithin}
 use Rattle.words.specs.Systems.{Head, Systems, SystemsWithin, systems_head, systems_words, read_systems}
-use Rattle.words.specs.SystemsLaws.{systems_read_of_written}
+use Rattle.words.proofs.SystemsLaws.{systems_read_of_written}
 use Rattle.words.specs.Certificate.{Certificate, Form, CertificateWithin, certificate_form, certificate_words, read_certificate}
-use Rattle.words.specs.CertificateLaws.{certificate_read_of_written}
+use Rattle.words.proofs.CertificateLaws.{certificate_read_of_written}
 use Rattle.answers.specs.declared.answer.Counted.{Counted}
 use Rattle.answers.specs.declared.answer.Counted.TheVariants.{Count}
 use Rattle.answers.specs.declared.shape.SystemRead.{SystemRead}

@@ -10,7 +10,7 @@ use Rattle.words.specs.Bytes.{words_of}
 use Rattle.files.specs.OpeningBoth.{OpensWords, OpensNone}
 use Rattle.files.specs.OpeningBothLaws.{both_refused, both_first}
 use Rattle.truth.specs.Within.{verdict_within}
-use Rattle.truth.specs.WithinLaws.{within_room}
+use Rattle.truth.proofs.WithinLaws.{within_room}
 use Rattle.verifier.specs.File.{bytes_verdict}
 use Rattle.verifier.specs.Loading.{Loads}
 use Rattle.verifier.specs.declared.loading.Loading.{Loading}

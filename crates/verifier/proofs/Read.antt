@@ -12,16 +12,16 @@ use Rattle.words.specs.LimitsLaws.{office_fits}
 use Rattle.words.specs.Polynomial.{VectorWithin}
 use Rattle.words.specs.VectorLaws.{all_at, vector_append}
 use Rattle.words.specs.Starts.{HasEntries, line_entries, length_first_entries}
-use Rattle.words.specs.FramedLaws.{EntriesRead, LineEntriesRead, line_entries_read, certificate_entries_read, certificate_framed}
+use Rattle.words.proofs.FramedLaws.{EntriesRead, LineEntriesRead, line_entries_read, certificate_entries_read, certificate_framed}
 use Rattle.words.specs.System.{System, Shape, SystemWithin, ShapeWithin, shape}
-use Rattle.words.specs.LineLaws.{line_written_of_read, line_in_within}
+use Rattle.words.proofs.LineLaws.{line_written_of_read, line_in_within}
 use Rattle.words.specs.Certificate.{Certificate, Form, CertificateWithin, certificate_form, certificate_entries, certificate_words}
 use Rattle.words.specs.Certificate.{entry_count}
 use Rattle.words.specs.Certificate.Certificate.{solution, absence}
 use Rattle.words.specs.Certificate.Form.{solving, absent}
-use Rattle.words.specs.CertificateLaws.{certificate_written_of_read}
+use Rattle.words.proofs.CertificateLaws.{certificate_written_of_read}
 use Rattle.truth.specs.Verdict.{verdict, certificate_verdict, solution_verdict, absence_verdict}
-use Rattle.truth.specs.Lines.{certificate_next}
+use Rattle.truth.proofs.Lines.{certificate_next}
 use Rattle.loader.specs.Slot.{InSlots, SlotFilled}
 use Rattle.loader.specs.SlotLaws.{stands_filled, line_stands}
 use Rattle.loader.specs.Widths.{system_width, certificate_width}

@@ -13,13 +13,13 @@ use Rattle.words.specs.Outcome.Outcome.{accepted, refused}
 use Rattle.words.specs.OutcomeLaws.{refuse_passed}
 use Rattle.words.specs.System.{Shape, ShapeWithin}
 use Rattle.words.specs.Systems.{Systems, Head, SystemsWithin, systems_head, read_systems, line}
-use Rattle.words.specs.SystemsLaws.{systems_written_of_read}
+use Rattle.words.proofs.SystemsLaws.{systems_written_of_read}
 use Rattle.words.specs.Certificate.{Certificate, Form, certificate_form, read_certificate}
 use Rattle.words.specs.Kept.{systems_exceed, certificate_exceeds}
-use Rattle.words.specs.KeptLaws.{systems_kept, sided_systems, sided_line}
+use Rattle.words.proofs.KeptLaws.{systems_kept, sided_systems, sided_line}
 use Rattle.truth.specs.Verdict.{verdict}
 use Rattle.truth.specs.Within.{both_read, limits_verdict, verdict_within, kept_verdict}
-use Rattle.truth.specs.WithinLaws.{both_of, within_limits, within_passed, line_shape}
+use Rattle.truth.proofs.WithinLaws.{both_of, within_limits, within_passed, line_shape}
 use Rattle.reader.specs.BothRead.{BothLine}
 use Rattle.loader.specs.Widths.{system_width, certificate_width, line_polynomials}
 use Rattle.limits.specs.Counts.{certificate_polynomials}

@@ -12,18 +12,18 @@ use Rattle.words.specs.Outcome.{refuse}
 use Rattle.words.specs.Outcome.Outcome.{accepted}
 use Rattle.words.specs.OutcomeLaws.{refuse_passed}
 use Rattle.words.specs.Systems.{read_line}
-use Rattle.words.specs.SystemsLaws.{systems_words_most}
-use Rattle.words.specs.LineLaws.{line_in_within}
-use Rattle.words.specs.LineFileLaws.{line_file_read}
+use Rattle.words.proofs.SystemsLaws.{systems_words_most}
+use Rattle.words.proofs.LineLaws.{line_in_within}
+use Rattle.words.proofs.LineFileLaws.{line_file_read}
 use Rattle.words.specs.Certificate.{Certificate}
 use Rattle.words.specs.Bytes.{words_of, bytes_of, broken, too_long, word_bytes, read_line_file}
-use Rattle.words.specs.BytesLaws.{words_of_bytes_of, bytes_of_words_of, length_bytes_of, or_left, or_right}
+use Rattle.words.proofs.BytesLaws.{words_of_bytes_of, bytes_of_words_of, length_bytes_of, or_left, or_right}
 use Rattle.words.specs.Pair.{Source, whole, one_line, WrittenPair, WrittenFiles}
 use Rattle.truth.specs.Verdict.{verdict}
 use Rattle.truth.specs.Certified.{Certified}
-use Rattle.truth.specs.CertifiedWords.{accepted_iff_certified}
+use Rattle.truth.proofs.CertifiedWords.{accepted_iff_certified}
 use Rattle.truth.specs.Demand.{True}
-use Rattle.truth.specs.DemandLaws.{Says, Agree, certified_true, true_says, same_agree, line_same_head}
+use Rattle.truth.proofs.DemandLaws.{Says, Agree, certified_true, true_says, same_agree, line_same_head}
 use Rattle.files.specs.OpeningBoth.{files_broken}
 use Rattle.verifier.specs.File.{file_verdict}
 

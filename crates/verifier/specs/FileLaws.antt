@@ -8,12 +8,12 @@ use Rattle.words.specs.LimitsLaws.{LimitsFit}
 use Rattle.words.specs.Outcome.{refuse}
 use Rattle.words.specs.Outcome.Outcome.{refused}
 use Rattle.words.specs.Bytes.{words_of, broken, too_long, word_bytes}
-use Rattle.words.specs.BytesLaws.{length_words_of}
+use Rattle.words.proofs.BytesLaws.{length_words_of}
 use Rattle.words.specs.Rows.{check_rows}
 use Rattle.words.specs.RowLaws.{places_below, check_below}
 use Rattle.truth.specs.Verdict.{verdict}
-use Rattle.truth.specs.RefusedWords.{words_rows}
-use Rattle.truth.specs.Prefix.{verdict_room}
+use Rattle.truth.proofs.RefusedWords.{words_rows}
+use Rattle.truth.proofs.Prefix.{verdict_room}
 use Rattle.files.specs.Opening.{first_words}
 use Rattle.files.specs.OpeningLaws.{few_words}
 use Rattle.answers.specs.Packed.{VerdictMost}

@@ -10,10 +10,10 @@ use Rattle.words.specs.Outcome.Outcome.{accepted}
 use Rattle.words.specs.OutcomeLaws.{refuse_passed}
 use Rattle.words.specs.System.{System}
 use Rattle.words.specs.Systems.{systems_words, single, read_line}
-use Rattle.words.specs.LineLaws.{line_in_within, line_written_of_read}
-use Rattle.words.specs.LineFileLaws.{line_file_read}
+use Rattle.words.proofs.LineLaws.{line_in_within, line_written_of_read}
+use Rattle.words.proofs.LineFileLaws.{line_file_read}
 use Rattle.words.specs.Bytes.{words_of, bytes_of, broken, too_long, read_line_file}
-use Rattle.truth.specs.Lines.{single_line, line_verdict}
+use Rattle.truth.proofs.Lines.{single_line, line_verdict}
 use Rattle.verifier.specs.File.{file_verdict}
 
 module _ (limits : Limits) where

@@ -6,13 +6,13 @@ use Rattle.words.specs.LimitsLaws.{LimitsFit}
 use Rattle.words.specs.Outcome.Outcome.{refused}
 use Rattle.words.specs.Bytes.{words_of}
 use Rattle.words.specs.TenFirst.{TenFirst}
-use Rattle.words.specs.RefusedLaws.{ten_first_iff}
+use Rattle.words.proofs.RefusedLaws.{ten_first_iff}
 use Rattle.words.specs.Rows.{RefusesBy, check_file_rows}
 use Rattle.words.specs.RowLaws.{by_row}
 use Rattle.words.specs.Pair.{PairRefused, one_line}
 use Rattle.truth.specs.Verdict.{verdict}
 use Rattle.truth.specs.TurnedBack.{Fault}
-use Rattle.truth.specs.RefusedWords.{words_refused_iff, words_rows}
+use Rattle.truth.proofs.RefusedWords.{words_refused_iff, words_rows}
 use Rattle.files.specs.OpeningBoth.{files_broken}
 use Rattle.verifier.specs.File.{file_verdict}
 

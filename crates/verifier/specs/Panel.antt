@@ -13,23 +13,23 @@ use Rattle.words.specs.Outcome.{Outcome, refuse, followed_by}
 use Rattle.words.specs.Outcome.Outcome.{accepted, refused}
 use Rattle.words.specs.OutcomeLaws.{refuse_passed, passed_refuse}
 use Rattle.words.specs.Systems.{head_in, read_systems}
-use Rattle.words.specs.SystemsLaws.{systems_written_of_read, systems_words_most}
+use Rattle.words.proofs.SystemsLaws.{systems_written_of_read, systems_words_most}
 use Rattle.words.specs.Certificate.{read_certificate}
-use Rattle.words.specs.CertificateLaws.{certificate_written_of_read}
+use Rattle.words.proofs.CertificateLaws.{certificate_written_of_read}
 use Rattle.words.specs.Bytes.{words_of, broken, too_long, word_bytes}
-use Rattle.words.specs.BytesLaws.{length_words_of, or_left, or_right}
+use Rattle.words.proofs.BytesLaws.{length_words_of, or_left, or_right}
 use Rattle.words.specs.TenFirst.{TenFirst}
-use Rattle.words.specs.RefusedLaws.{ten_first_iff}
+use Rattle.words.proofs.RefusedLaws.{ten_first_iff}
 use Rattle.words.specs.Rows.{Row, RefusesBy, at_0, system_rows, certificate_rows, kept_rows, check_kept_rows}
 use Rattle.words.specs.RowLaws.{by_row, places_below, check_kept_below}
 use Rattle.words.specs.Pair.{PairRefused, whole}
-use Rattle.words.specs.PairLaws.{pair_refused_iff, pair_rows}
-use Rattle.words.specs.SourceLaws.{whole_laws, whole_rows}
-use Rattle.words.specs.KeptLaws.{sided_first}
+use Rattle.words.proofs.PairLaws.{pair_refused_iff, pair_rows}
+use Rattle.words.proofs.SourceLaws.{whole_laws, whole_rows}
+use Rattle.words.proofs.KeptLaws.{sided_first}
 use Rattle.truth.specs.Verdict.{verdict}
 use Rattle.truth.specs.Within.{kept_verdict, verdict_within, Keeps, KeptFault}
-use Rattle.truth.specs.WithinLaws.{within_own, within_exactly, within_kept, within_rows, within_room}
-use Rattle.truth.specs.WithinLaws.{kept_refused_iff, fault_in_rows}
+use Rattle.truth.proofs.WithinLaws.{within_own, within_exactly, within_kept, within_rows, within_room}
+use Rattle.truth.proofs.WithinLaws.{kept_refused_iff, fault_in_rows}
 use Rattle.answers.specs.Packed.{VerdictMost}
 use Rattle.files.specs.Opening.{first_words}
 use Rattle.files.specs.OpeningLaws.{unlimited, few_words}

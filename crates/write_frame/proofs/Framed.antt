@@ -7,9 +7,9 @@ use native.Mathlib.Omega.{arith}
 use lib.ListN.{length, get_or, take, drop, set, length-append, length-take, length-drop, length-set}
 use Rattle.words.specs.Word.{AllBelow, payload_bound}
 use Rattle.words.specs.Polynomial.{polynomial_words, polynomials_words}
-use Rattle.words.specs.PolynomialLaws.{length_polynomial_words}
+use Rattle.words.proofs.PolynomialLaws.{length_polynomial_words}
 use Rattle.words.specs.Frame.{end_word, framed_words}
-use Rattle.words.specs.FrameLaws.{length_framed_words}
+use Rattle.words.proofs.FrameLaws.{length_framed_words}
 use Rattle.write_frame.specs.Overwriting.{overwritten}
 use Rattle.write_frame.specs.Framing.{Wrote}
 use Rattle.write_frame.specs.Values.{polynomial_in, polynomials_in}

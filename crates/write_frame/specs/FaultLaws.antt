@@ -16,7 +16,7 @@ use Rattle.words.specs.Outcome.{Outcome}
 use Rattle.words.specs.Outcome.Outcome.{refused}
 use Rattle.words.specs.OutcomeLaws.{refuse_refused_iff}
 use Rattle.words.specs.Polynomial.{Within, AllWithin, polynomial_words, polynomials_words}
-use Rattle.words.specs.PolynomialLaws.{length_polynomial_words, length_polynomials_words}
+use Rattle.words.proofs.PolynomialLaws.{length_polynomial_words, length_polynomials_words}
 use Rattle.words.specs.Frame.{entry_place}
 use Rattle.write_frame.specs.Trial.{last?, refuse_coefficients, refuse_polynomials}
 use Rattle.write_frame.specs.TrialLaws.{ends_passed, coefficients_within, polynomials_within}

@@ -9,8 +9,8 @@ use Rattle.words.specs.Limits.{Limits, words_for}
 use Rattle.words.specs.LimitsLaws.{LimitsFit, system_count_most, words_for_most}
 use Rattle.words.specs.System.{Shape, ShapeWithin}
 use Rattle.words.specs.Systems.{Head}
-use Rattle.words.specs.SystemsLaws.{systems_expressible}
-use Rattle.words.specs.CertificateLaws.{entry_count_most, certificate_expressible}
+use Rattle.words.proofs.SystemsLaws.{systems_expressible}
+use Rattle.words.proofs.CertificateLaws.{entry_count_most, certificate_expressible}
 use Rattle.words.specs.Word.{payload_bound}
 use Rattle.answers.specs.Answer.{form_of}
 use Rattle.write_frame.specs.declared.format.Format.{Format}

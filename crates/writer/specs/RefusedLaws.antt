@@ -14,9 +14,9 @@ use Rattle.words.specs.OutcomeLaws.{refused_accepted, refuse_refused_iff, mapped
 use Rattle.words.specs.System.{Shape, ShapeWithin, one_to}
 use Rattle.words.specs.Systems.{Systems, systems_entries, systems_words}
 use Rattle.words.specs.Certificate.{Certificate, certificate_entries, certificate_words}
-use Rattle.words.specs.BytesLaws.{or_left, or_right}
+use Rattle.words.proofs.BytesLaws.{or_left, or_right}
 use Rattle.words.specs.ReadingLaws.{and_passed}
-use Rattle.words.specs.HeadLaws.{one_to_true, one_to_from}
+use Rattle.words.proofs.HeadLaws.{one_to_true, one_to_from}
 use Rattle.answers.specs.declared.answer.Refusal.{Refusal}
 use Rattle.answers.specs.declared.answer.Counted.TheVariants.{Refused}
 use Rattle.write_frame.specs.Trial.{refuse_polynomials}

@@ -14,7 +14,7 @@ use Rattle.words.specs.System.{Shape, entry, side_entry}
 use Rattle.words.specs.Systems.{Head, systems_entries, line}
 use Rattle.words.specs.Certificate.{Form, certificate_form, certificate_entries, entry_count}
 use Rattle.words.specs.Certificate.Form.{solving, absent}
-use Rattle.words.specs.WidthLaws.{below_nil, below_cons}
+use Rattle.words.proofs.WidthLaws.{below_nil, below_cons}
 use Rattle.write_frame.specs.Values.{polynomial_in, polynomials_in}
 use Rattle.write_frame.specs.ValuesLaws.{get_or_polynomials_in, polynomials_in_append}
 use Rattle.writer.specs.Values.{system_in_arrays, certificate_in, certificate_stride}

@@ -11,9 +11,9 @@ use Rattle.words.specs.Outcome.{Outcome, refuse}
 use Rattle.words.specs.Outcome.Outcome.{accepted}
 use Rattle.words.specs.OutcomeLaws.{refuse_passed}
 use Rattle.words.specs.System.{Shape, ShapeWithin, one_to}
-use Rattle.words.specs.BytesLaws.{or_left, or_right}
+use Rattle.words.proofs.BytesLaws.{or_left, or_right}
 use Rattle.words.specs.ReadingLaws.{and_passed}
-use Rattle.words.specs.HeadLaws.{one_to_true, one_to_from}
+use Rattle.words.proofs.HeadLaws.{one_to_true, one_to_from}
 use Rattle.write_frame.specs.Trial.{passed}
 use Rattle.write_frame.specs.TrialLaws.{next_after, refuse_after}
 use Rattle.writer.specs.Writing.{refuse_sides, refuse_shape}

@@ -9,9 +9,9 @@ use Rattle.words.specs.Outcome.Outcome.{accepted}
 use Rattle.words.specs.OutcomeLaws.{refused_accepted}
 use Rattle.words.specs.System.{Shape, ShapeWithin}
 use Rattle.words.specs.Systems.{Systems, read_systems}
-use Rattle.words.specs.SystemsLaws.{systems_written_of_read}
+use Rattle.words.proofs.SystemsLaws.{systems_written_of_read}
 use Rattle.words.specs.Certificate.{Certificate, read_certificate, certificate_form}
-use Rattle.words.specs.CertificateLaws.{certificate_written_of_read}
+use Rattle.words.proofs.CertificateLaws.{certificate_written_of_read}
 use Rattle.answers.specs.declared.answer.Counted.{Counted}
 use Rattle.answers.specs.declared.answer.Counted.TheVariants as counted
 use Rattle.answers.specs.Answer.{counted_outcome}

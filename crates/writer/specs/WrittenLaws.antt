@@ -12,8 +12,8 @@ use Rattle.words.specs.Certificate.{Certificate, Form, SolutionWithin, Certifica
 use Rattle.words.specs.Certificate.{read_certificate}
 use Rattle.words.specs.Certificate.Form.{solving, absent}
 use Rattle.words.specs.LimitsLaws.{LimitsFit}
-use Rattle.words.specs.SystemsLaws.{systems_laws, systems_read_of_written}
-use Rattle.words.specs.CertificateLaws.{certificate_laws, certificate_read_of_written}
+use Rattle.words.proofs.SystemsLaws.{systems_laws, systems_read_of_written}
+use Rattle.words.proofs.CertificateLaws.{certificate_laws, certificate_read_of_written}
 use Rattle.words.specs.OutcomeLaws.{refuse_passed}
 use Rattle.answers.specs.declared.answer.Counted.TheVariants.{Count}
 use Rattle.write_frame.specs.ValuesLaws.{length_polynomials_in}

@@ -3,7 +3,7 @@ use mathlib.Core.Path.{ap, ◌∙◌}
 use Rattle.words.specs.Limits.{Limits, office}
 use Rattle.words.specs.LimitsLaws.{office_fits}
 use Rattle.truth.specs.Within.{verdict_within}
-use Rattle.truth.specs.WithinLaws.{within_own}
+use Rattle.truth.proofs.WithinLaws.{within_own}
 use Rattle.verifier.proofs.check.Goals as goal
 
 pub returns : goal.returns

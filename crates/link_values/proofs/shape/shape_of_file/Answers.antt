@@ -10,7 +10,7 @@ use Rattle.words.specs.Outcome.Outcome.{accepted}
 use Rattle.words.specs.OutcomeLaws.{mapped_accepted}
 use Rattle.words.specs.Systems.{Head, systems_head}
 use Rattle.words.specs.Bytes.{read_systems_file}
-use Rattle.words.specs.BytesLaws.{file_within}
+use Rattle.words.proofs.BytesLaws.{file_within}
 use Rattle.answers.specs.Answer.{system_outcome}
 use Rattle.answers.specs.declared.shape.SystemRead.{SystemRead}
 use Rattle.answers.specs.Packed.{packed, packed_most}

@@ -5,7 +5,7 @@ use mathlib.Core.List.{List, [], ◌∷◌, ◌++◌}
 use native.Mathlib.Omega.{arith}
 use lib.ListN.{length}
 use Rattle.modular.specs.Delay.{delay, feedback}
-use Rattle.modular.specs.DelayLaws.{length_undelayed}
+use Rattle.modular.proofs.DelayLaws.{length_undelayed}
 use Rattle.report_text.specs.Ascii.{ascii}
 use Rattle.report_text.specs.Decimal.{decimal}
 use Rattle.report_text.specs.Text.{spaced, feedback_line}

@@ -5,7 +5,7 @@ use borrow.Author.Tests.{eqb-true, eqb-false}
 use borrow.Author.Rules.{rules}
 use lib.ListN.{length, drop, get_or}
 use Rattle.modular.specs.Delay.{delay}
-use Rattle.modular.specs.DelayLaws.{delay_zero, delay_nonzero, delay_end}
+use Rattle.modular.proofs.DelayLaws.{delay_zero, delay_nonzero, delay_end}
 use Rattle.vector.proofs.delay.find_delay.Goals as goal
 
 pub loop-k-init : goal.loop-k-init

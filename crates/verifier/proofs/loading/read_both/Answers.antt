@@ -6,7 +6,7 @@ use Rattle.words.specs.Limits.{Limits, office}
 use Rattle.words.specs.Outcome.{Outcome}
 use Rattle.words.specs.Systems.{Systems, systems_head}
 use Rattle.words.specs.Kept.{read_sided}
-use Rattle.truth.specs.WithinLaws.{both_of, both_none}
+use Rattle.truth.proofs.WithinLaws.{both_of, both_none}
 use Rattle.answers.specs.Answer.{system_outcome, certificate_outcome}
 use Rattle.reader.specs.ReadLaws.{system_refused, system_read, certificate_refused, both_read}
 use Rattle.verifier.proofs.loading.read_both.Goals as goal

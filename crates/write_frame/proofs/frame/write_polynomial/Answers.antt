@@ -5,7 +5,7 @@ use native.Mathlib.Omega.{arith}
 use lib.ListN.{length, set, length-set, length-take, length-drop}
 use Rattle.words.specs.Word.{word}
 use Rattle.words.specs.Polynomial.{polynomial_words}
-use Rattle.words.specs.PolynomialLaws.{length_polynomial_words}
+use Rattle.words.proofs.PolynomialLaws.{length_polynomial_words}
 use Rattle.write_frame.proofs.Overwriting.{length_overwritten, set_written, part_written}
 use Rattle.write_frame.proofs.frame.write_polynomial.Goals as goal
 

@@ -4,7 +4,7 @@ use mathlib.Core.Bool.{true}
 use native.Mathlib.Omega.{arith}
 use Rattle.words.specs.Limits.{office}
 use Rattle.words.specs.System.{one_to}
-use Rattle.words.specs.HeadLaws.{one_to_from}
+use Rattle.words.proofs.HeadLaws.{one_to_from}
 use Rattle.writer.specs.Formats.{system_framed}
 use Rattle.writer.proofs.Answers.{writes_as, sides_refused, sides_written}
 use Rattle.writer.proofs.system.write_system.Goals as goal

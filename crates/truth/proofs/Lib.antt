@@ -1,0 +1,17 @@
+pub mod Lines
+pub mod Truth
+pub mod Accepted
+pub mod Denominators
+pub mod Cases
+pub mod RowExamples
+pub mod Prefix
+pub mod CertifiedLaws
+pub mod CertifiedWords
+pub mod TurnedBackLaws
+pub mod DemandLaws
+pub mod FeedbackLaws
+pub mod RefusedWords
+pub mod CertifiedTruth
+pub mod WithinLaws
+pub mod FractionsLaws
+pub mod DemandTruth
