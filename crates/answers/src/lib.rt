@@ -1,6 +1,7 @@
 // What calls answer, in the numbers and places of document 01's table, and what all layers share: a test on small numbers, and the
 // parts of a word.
 #![tactic(auto)]
+
 pub mod answer;
 pub mod head;
 pub mod number;

@@ -1,5 +1,6 @@
 // What bench/ times, exported to C. Each export tests what the timed function requires, so that C may call it with any words.
 #![tactic(auto)]
+
 ghost use Rattle.std.specs.Prelude.{◌≡◌};
 ghost use Rattle.bench_exports.specs.Rounds.{all_at_most, small, fit, allowed, rounds};
 

@@ -2,6 +2,7 @@
 // side SIDE, 0 where it is not given, of the sheet (a system) in the other, or the number and the place of the refusal, and nothing
 // else. Where there is no verdict, says why on standard error.
 #![tactic(auto)]
+
 mod file;
 mod line;
 mod name;

@@ -1,5 +1,6 @@
 // The limits of document 01, "Bounds", and of the panel: constants of two types, and a value to hand to functions.
 #![tactic(auto)]
+
 ghost use Rattle.std.specs.Prelude.{◌≡◌};
 ghost use Rattle.words.specs.Limits.{office, panel, longest_system, longest_certificate, words_for};
 ghost use Rattle.limits.specs.Value.{limits_of};

@@ -1,6 +1,7 @@
 // The product for other programs, exported to C: from the bytes of files and from values to one number and what is lent. A slice is
 // passed as a pointer and a count, an array as a pointer. The order of the parameters is that of the C header, include/yezsdolak.h.
 #![tactic(auto)]
+
 ghost use Rattle.std.specs.Prelude.{◌≡◌, length};
 ghost use Rattle.words.specs.Limits.{office};
 ghost use Rattle.answers.specs.Packed.{packed, packed_verdict};

@@ -1,5 +1,6 @@
 // linkreport: reads a sheet (a system's file) from standard input and prints its report on standard output, and nothing else.
 #![tactic(auto)]
+
 ghost use Rattle.std.specs.Prelude.{◌≤◌, length};
 ghost use Rattle.streams.specs.Reading.{ReadWithin};
 ghost use Rattle.streams.specs.SystemSpace.{system_space};

@@ -1,6 +1,7 @@
 // linksolve [SIDE]: reads a sheet (a system's file) from standard input and writes the card (a certificate's file) of its right
 // side SIDE, 0 where there is no argument, to standard output, and nothing else. A refusal is a line on standard error.
 #![tactic(auto)]
+
 ghost use Rattle.std.specs.Prelude.{◌≤◌, length};
 ghost use Rattle.streams.specs.Reading.{ReadWithin};
 ghost use Rattle.streams.specs.SystemSpace.{system_space};

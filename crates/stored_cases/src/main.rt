@@ -1,6 +1,7 @@
 // Tries the calls of the product on stored cases and prints a line for each. tests/reference/README.md has the form of the cases
 // and of the lines, and the number of each call.
 #![tactic(auto)]
+
 mod arithmetic;
 mod input;
 mod lookups;

@@ -1,6 +1,7 @@
 // Standard input and standard output of the programs, and how much of a file they look at. What fails is said on standard error,
 // with the system's reason. `side` reads the number of a right side.
 #![tactic(auto)]
+
 pub mod side;
 
 ghost use Rattle.std.specs.Prelude.{◌≡◌, length};

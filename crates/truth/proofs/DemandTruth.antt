@@ -17,7 +17,6 @@ use Rattle.truth.specs.Verdict.{verdict}
 use Rattle.truth.proofs.Truth.{right_solves, right_denominator, right_least, right_absent}
 use Rattle.truth.proofs.Accepted.{AcceptedWords, words_of_accepted, verdict_of_written, verdict_right}
 use Rattle.truth.proofs.Accepted.{proper, proper_solution, all_canonical}
-
 use Rattle.truth.specs.Demand.{SolutionTrue, True}
 
 module _ (limits : Limits) where

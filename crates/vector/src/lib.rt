@@ -1,5 +1,6 @@
 // Loops on ranges of 64-bit words, in rows of eight where ranges are long.
 #![tactic(auto)]
+
 pub mod delay;
 pub mod leading;
 pub mod multiple;

@@ -14,9 +14,9 @@ shape_of-h-then-not-steps_fit c = refl
 pub returns-then-not-steps_fit : goal.returns-then-not-steps_fit
 unfolding allowed rounds
 returns-then-not-steps_fit c = record {
-      count = rw (sym c.steps_fit.ensures ∙ c.if-not-steps_fit.true);
-      words = refl;
-    }
+  count = rw (sym c.steps_fit.ensures ∙ c.if-not-steps_fit.true);
+  words = refl;
+}
 
 pub loop-t-init : goal.loop-t-init
 loop-t-init c = start (fits _ _ _ _ (sym c.steps_fit.ensures ∙ c.if-not-steps_fit.false))

@@ -36,6 +36,6 @@ shape_of-s c = c.loop-j.invariant.1.same_length
 
 pub returns : goal.returns
 returns c = record {
-      hand = storing_end c.loop-j.invariant.0 c.loop-j-test.false;
-      slot = storing_end c.loop-j.invariant.1 c.loop-j-test.false;
-    }
+  hand = storing_end c.loop-j.invariant.0 c.loop-j-test.false;
+  slot = storing_end c.loop-j.invariant.1 c.loop-j-test.false;
+}

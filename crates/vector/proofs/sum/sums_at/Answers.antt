@@ -18,8 +18,8 @@ sum_at-requires-4 c = let A = c.args in each_fits A.h.now A.d A.s.now A.a 4 A.c 
 
 pub returns : goal.returns
 returns c = record {
-      first = c.sum_at.ensures;
-      second = c.sum_at-2.ensures;
-      third = c.sum_at-3.ensures;
-      fourth = c.sum_at-4.ensures;
-    }
+  first = c.sum_at.ensures;
+  second = c.sum_at-2.ensures;
+  third = c.sum_at-3.ensures;
+  fourth = c.sum_at-4.ensures;
+}
