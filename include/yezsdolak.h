@@ -29,10 +29,10 @@
 extern "C" {
 #endif
 
-#define YEZSDOLAK_VERSION "0.12.0"
+#define YEZSDOLAK_VERSION "0.11.1"
 
 enum {
-    YEZSDOLAK_VERSION_NUMBER = 1200, // 10000 × major + 100 × minor + patch
+    YEZSDOLAK_VERSION_NUMBER = 1101, // 10000 × major + 100 × minor + patch
 
     YEZSDOLAK_SYSTEM_BYTES = 8712,      // no system's file is longer: to be lent to yezsdolak_write_system
     YEZSDOLAK_CERTIFICATE_BYTES = 8792, // no certificate's file is longer: to be lent to yezsdolak_solve
@@ -45,7 +45,7 @@ enum {
 
     // bytes of stack that a call needs, more than a tenth above what was measured
     YEZSDOLAK_SOLVE_STACK = 448 * 1024, // also yezsdolak_report
-    YEZSDOLAK_CHECK_STACK = 72 * 1024,  // all others but the panel's
+    YEZSDOLAK_CHECK_STACK = 96 * 1024,  // all others but the panel's
 };
 
 // The number of a refusal, 0 where nothing is refused.

@@ -6,4 +6,4 @@ version_number major minor patch = 10000 * major + 100 * minor + patch
 
 -- what the file VERSION says
 abbrev pub version : ℕ
-version = version_number 0 12 0
+version = version_number 0 11 1

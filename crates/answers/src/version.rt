@@ -4,9 +4,9 @@ ghost use Rattle.answers.specs.Version.{version};
 
 const MAJOR: u64 = 0;
 
-const MINOR: u64 = 12;
+const MINOR: u64 = 11;
 
-const PATCH: u64 = 0;
+const PATCH: u64 = 1;
 
 // Returns the version as one number.
 pub fn library_version() -> u64

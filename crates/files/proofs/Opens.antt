@@ -10,7 +10,7 @@ use Rattle.words.specs.Bytes.{words_of, broken}
 use Rattle.files.specs.FileWords.{Unpacked}
 use Rattle.files.specs.Opening.{turned_back, Opened}
 use Rattle.files.specs.OpeningLaws.{unlimited}
-use Rattle.files.specs.OpeningBoth.{files_turned_back, OpensNone}
+use Rattle.files.specs.OpeningBoth.{files_turned_back, NoneWithin}
 
 module _ (limit : ℕ) (bytes before : List ℕ) where
   -- the words for which there is room
@@ -26,14 +26,14 @@ module _ (limit : ℕ) (bytes before : List ℕ) where
       record { count = ap accepted u.number ∙ sym (ap (λ b. refuse b 10 0 (accepted all)) h); words = u.words }
 
 module _ (limit : ℕ) (f g before before' : List ℕ) where
-  none_opened : files_turned_back limit f g ≡ true → OpensNone limit f g before before' before before' 10 0
+  none_opened : files_turned_back limit f g ≡ true → NoneWithin limit f g before before' before before' 10 0
   none_opened e = record { either_broken = e; number_ten = refl; place_zero = refl; system_stays = refl; certificate_stays = refl }
 
   pub first_refused : turned_back limit f ≡ true
-      → OpensNone limit f g before before' before before' 10 0
+      → NoneWithin limit f g before before' before before' 10 0
   first_refused h = none_opened (ap (λ b. b || broken g) h)
 
   -- a certificate's file has no limit
   pub second_refused : turned_back limit f ≡ false → turned_back (length g) g ≡ true
-      → OpensNone limit f g before before' before before' 10 0
+      → NoneWithin limit f g before before' before before' 10 0
   second_refused h e = none_opened (ap₂ ◌||◌ h (sym (unlimited g) ∙ e))

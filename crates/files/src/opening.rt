@@ -1,8 +1,9 @@
 // Opening files: number 10, or their words over the first of the lent ones.
 ghost use Rattle.std.specs.Prelude.{◌≡◌};
+ghost use Rattle.words.specs.Limits.{office};
 ghost use Rattle.answers.specs.Answer.{counted_outcome};
 ghost use Rattle.files.specs.Opening.{turned_back, Opened};
-ghost use Rattle.files.specs.OpeningBoth.{OpensBoth};
+ghost use Rattle.files.specs.OpeningBoth.{BothWithin, OpensBoth};
 
 use crate::unpacking::unpack;
 use answers::word::WORD_BYTES;
@@ -47,14 +48,14 @@ pub enum FilesOpened {
 
 // Writes the words of a system's file and of a certificate's over the first of the lent ones, as many as there is room for. Refuses
 // with number 10 either file that is not whole words, and a system's of more than `limit` bytes; all lent words then stay.
-pub fn open_both(
+pub fn open_within(
     system_words: &mut [u32],
     certificate_words: &mut [u32],
     system: &[u8],
     certificate: &[u8],
     limit: usize,
 ) -> FilesOpened
-    ensures { OpensBoth limit system.now certificate.now
+    ensures { BothWithin limit system.now certificate.now
         system_words.old certificate_words.old
         system_words.new certificate_words.new result }
 {
@@ -67,4 +68,25 @@ pub fn open_both(
     }
     let n = unpack(system_words, system);
     FilesOpened::Words(n, unpack(certificate_words, certificate))
+}
+
+// Writes the words of a system's file and of a certificate's over the first of the lent ones, as many as there is room for. Refuses
+// with number 10 either file that is not whole words, and a system's that is too long; all lent words then stay.
+pub fn open_both(
+    system_words: &mut [u32],
+    certificate_words: &mut [u32],
+    system: &[u8],
+    certificate: &[u8],
+) -> FilesOpened
+    ensures { OpensBoth office system.now certificate.now
+        system_words.old certificate_words.old
+        system_words.new certificate_words.new result }
+{
+    open_within(
+        system_words,
+        certificate_words,
+        system,
+        certificate,
+        Office::SYSTEM_BYTES,
+    )
 }

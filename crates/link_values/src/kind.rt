@@ -42,7 +42,6 @@ pub fn kind_of_files(system: &[u8], certificate: &[u8]) -> u64
         &mut certificate_words,
         system,
         certificate,
-        Office::SYSTEM_BYTES,
     );
     match opened {
         FilesOpened::Words(n, m) => {

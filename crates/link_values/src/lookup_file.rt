@@ -71,7 +71,6 @@ pub fn lookup_in_files(
         &mut certificate_words,
         system,
         certificate,
-        Office::SYSTEM_BYTES,
     );
     match opened {
         FilesOpened::Words(n, m) => pack_counted(lookup_words(

@@ -7,8 +7,8 @@ use Rattle.words.specs.Limits.{Limits, office, longest_system, longest_certifica
 use Rattle.words.specs.LimitsLaws.{office_fits}
 use Rattle.words.specs.Outcome.Outcome.{refused}
 use Rattle.words.specs.Bytes.{words_of}
-use Rattle.files.specs.OpeningBoth.{OpensWords, OpensNone}
-use Rattle.files.specs.OpeningBothLaws.{both_refused, both_first}
+use Rattle.files.specs.OpeningBoth.{WordsWithin, NoneWithin}
+use Rattle.files.specs.OpeningBothLaws.{within_refused, within_first}
 use Rattle.truth.specs.Within.{verdict_within}
 use Rattle.truth.proofs.WithinLaws.{within_room}
 use Rattle.verifier.specs.File.{bytes_verdict}
@@ -17,12 +17,12 @@ use Rattle.verifier.specs.declared.loading.Loading.{Loading}
 
 module _ (kept : Limits) (limit k : ℕ) (f g : List ℕ) where
   pub none_opened : {before before' after after' : List ℕ} {number place : ℕ}
-      → OpensNone limit f g before before' after after' number place
+      → NoneWithin limit f g before before' after after' number place
       → bytes_verdict office kept limit k f g ≡ refused number place
   unfolding bytes_verdict
-  none_opened none = both_refused limit f g none (verdict_within office kept k (words_of f) (words_of g))
+  none_opened none = within_refused limit f g none (verdict_within office kept k (words_of f) (words_of g))
 
-  pub both_opened : {before before' after after' : List ℕ} {n m : ℕ} → OpensWords limit f g before before' after after' n m
+  pub both_opened : {before before' after after' : List ℕ} {n m : ℕ} → WordsWithin limit f g before before' after after' n m
       → longest_system office < length before → longest_certificate office < length before'
       → {A C : List ℕ} {found : Loading} → Loads (verdict_within office kept k (take n after) (take m after')) A C found
       → Loads (bytes_verdict office kept limit k f g) A C found
@@ -30,7 +30,7 @@ module _ (kept : Limits) (limit k : ℕ) (f g : List ℕ) where
   both_opened {before} {before'} opens room room' loads = record {
     ready = loads.ready;
     verdict =
-        both_first limit f g opens (verdict_within office kept k)
+        within_first limit f g opens (verdict_within office kept k)
         (within_room office kept office_fits k (words_of f) (words_of g) (length before) (length before') room room')
         ∙ loads.verdict;
   }

@@ -16,7 +16,7 @@ use answers::{CertificateRead, Form, Head, Refusal, Shape, SystemRead, Verdict};
 use check_conditions::absence::check_absence;
 use check_conditions::dimensions::Dimensions;
 use check_conditions::solution::check_solution;
-use files::opening::{CERTIFICATE_SPACE, FilesOpened, SYSTEM_SPACE, open_both};
+use files::opening::{CERTIFICATE_SPACE, FilesOpened, SYSTEM_SPACE, open_within};
 use limits::{Limits, Office};
 use loader::width::CERTIFICATE_WIDTH;
 use loader::{load, load_line};
@@ -173,7 +173,7 @@ pub fn load_files(
 {
     let mut system_words = [0u32; SYSTEM_SPACE];
     let mut certificate_words = [0u32; CERTIFICATE_SPACE];
-    let opened = open_both(
+    let opened = open_within(
         &mut system_words,
         &mut certificate_words,
         system,

@@ -1,7 +1,7 @@
 -- Number 10 of either file, or what was unpacked of each.
 use mathlib.Core.Path.{sym, ◌∙◌}
 use Rattle.files.proofs.Opens.{opens_unpacked, first_refused, second_refused}
-use Rattle.files.proofs.opening.open_both.Goals as goal
+use Rattle.files.proofs.opening.open_within.Goals as goal
 
 pub returns-then-turned_back : goal.returns-then-turned_back
 returns-then-turned_back c = first_refused _ _ _ _ _ (sym c.turned_back.ensures ∙ c.if-turned_back.true)
