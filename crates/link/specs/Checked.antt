@@ -41,15 +41,18 @@ number_refused (refused n k) h number place l m e =
     ap₂ refused (omega arith) (omega arith)
 
 module _ (k : ℕ) (f g : List ℕ) where
-  pub numbered : Numbers 1 number_most (file_verdict office k f g)
-  numbered = numbers_wider 1 40 (omega arith) (omega arith) (check_numbers office office_fits k f g)
+  abbrev numbered : Numbers 1 40 (file_verdict office k f g)
+  numbered = check_numbers office office_fits k f g
+
+  pub numbered_most : Numbers 1 number_most (file_verdict office k f g)
+  numbered_most = numbers_wider 1 40 (omega arith) (omega arith) numbered
 
   -- each number of the table under its condition only, 10 before all others
   pub checked_refused_iff : (number place : ℕ) → 1 ≤ number → number ≤ number_most
       → (check_gives k f g ≡ place_unit * place + number) ↔ FilesRefused office k f g number place
   checked_refused_iff number place l m =
       let iff = files_refused_iff office office_fits k f g number place in (
-        λ e. iff.0 (number_refused (file_verdict office k f g) numbered number place l m e),
+        λ e. iff.0 (number_refused (file_verdict office k f g) numbered_most number place l m e),
         λ a. ap packed_verdict (iff.1 a),
       )
 
@@ -64,14 +67,14 @@ module _ (k : ℕ) (f g : List ℕ) where
     -- 0 exactly when the conditions hold
     pub checked_iff : (check_gives k f g ≡ 0) ↔ CertifiedFiles office k f g
     checked_iff = (
-      λ e. (files_iff_certified office office_fits k f g small_f small_g).0 (zero_accepted (file_verdict office k f g) numbered e),
+      λ e. (files_iff_certified office office_fits k f g small_f small_g).0 (zero_accepted (file_verdict office k f g) numbered_most e),
       λ a. ap packed_verdict ((files_iff_certified office office_fits k f g small_f small_g).1 a),
     )
 
     -- then what the certificate says of the line is true
     pub checked_says : check_gives k f g ≡ 0
         → (a : CertifiedFiles office k f g) × Says a.written.system a.written.certificate
-    checked_says e = files_say office office_fits k f g small_f small_g (zero_accepted (file_verdict office k f g) numbered e)
+    checked_says e = files_say office office_fits k f g small_f small_g (zero_accepted (file_verdict office k f g) numbered_most e)
 
 -- lines with one system, of one file or of two: no certificates' files of both kinds, and all state the same denominator
 module _ (k j : ℕ) (f e : List ℕ) (same : read_line_file office k f ≡ read_line_file office j e) where

@@ -41,7 +41,7 @@ use Rattle.link_values.specs.Refusals.{Numbers, numbers_wider}
 use Rattle.link.specs.NumberLaws.{by_rows}
 use Rattle.link.specs.Packed.{SolvesPacked}
 use Rattle.link.specs.PackedLaws.{unpacked_verdict, unpacked_packed_verdict}
-use Rattle.link.specs.Checked.{check_gives, zero_accepted, number_refused, numbered}
+use Rattle.link.specs.Checked.{check_gives, zero_accepted, number_refused, numbered_most}
 use Rattle.link.specs.Together.{line_certificate, CertificateBytesIn, every_system_checked, every_system_certificate}
 
 -- no place is greater: a number of words, one more than the longest certificate has
@@ -120,7 +120,7 @@ module _ (f g : List ℕ) where
             let t = exactly.0 (zero_accepted (panel_verdict f g) numbers_fit e) in
             (ap packed_verdict t.0, t.1),
         λ h.
-            ap packed_verdict (exactly.1 (zero_accepted (file_verdict office 0 f g) (numbered 0 f g) h.0, h.1)),
+            ap packed_verdict (exactly.1 (zero_accepted (file_verdict office 0 f g) (numbered_most 0 f g) h.0, h.1)),
       )
 
   -- no sheet and no card that is accepted has more bytes than so many words of the panel's
