@@ -42,4 +42,6 @@ abbrev pub OpensNone : Limits → (f g before before' after after' : List ℕ) �
 OpensNone limits = NoneWithin (word_bytes * longest_system limits)
 
 abbrev pub OpensBoth : Limits → (f g before before' after after' : List ℕ) → FilesOpened → Type 0
-OpensBoth limits = BothWithin (word_bytes * longest_system limits)
+OpensBoth limits f g before before' after after' (Words n m) = OpensWords limits f g before before' after after' n m
+OpensBoth limits f g before before' after after' (Refused r) =
+    OpensNone limits f g before before' after after' r.number r.place

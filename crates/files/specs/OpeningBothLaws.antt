@@ -50,13 +50,19 @@ module _ (limit : ℕ) (f g : List ℕ) {A : Type 0} where
         within_first (ap (λ (ws : List ℕ). tell ws (first_words (length before') (words_of g))) all ∙ decide)
 
 -- the same by limits
+pub by_limits : (limits : Limits) (f g before before' after after' : List ℕ) (found : FilesOpened)
+    → BothWithin (word_bytes * longest_system limits) f g before before' after after' found
+    → OpensBoth limits f g before before' after after' found
+by_limits limits f g before before' after after' (Words n m) opens = opens
+by_limits limits f g before before' after after' (Refused r) opens = opens
+
 module _ (limits : Limits) (f g before before' after after' : List ℕ) (found : FilesOpened)
     (opens : OpensBoth limits f g before before' after after' found) where
   pub both_are : {n m : ℕ} → found ≡ Words n m → OpensWords limits f g before before' after after' n m
-  both_are = within_are (word_bytes * longest_system limits) f g before before' after after' found opens
+  both_are e = subst (OpensBoth limits f g before before' after after') e opens
 
   pub none_is : {r : Refusal} → found ≡ Refused r → OpensNone limits f g before before' after after' r.number r.place
-  none_is = none_within (word_bytes * longest_system limits) f g before before' after after' found opens
+  none_is e = subst (OpensBoth limits f g before before' after after') e opens
 
 module _ (limits : Limits) (f g : List ℕ) {A : Type 0} where
   -- 10, before anything else
