@@ -1,3 +1,4 @@
+pub mod WalkLaws
 pub mod Summing
 pub mod Terms
 pub mod Refusals

@@ -42,46 +42,6 @@ unfolding take_along mul modulo
 carried_after s w Z j zero = []
 carried_after s w Z j (suc i) = take_along s.modulus w (carried_after s w Z j i) (column_term s Z j i)
 
--- ---- "What is carried is shown to be, after every row, the remainder by w of the sum of products so far."
-
-module _ (s : System) (prime : Prime s.modulus) (w : List ℕ) (canonical : Canonical s.modulus w) (some : 0 < length w)
-    (Z : List (List ℕ)) (j : ℕ) where
-  abbrev p : ℕ
-  p = s.modulus
-
-  positive : 0 < p
-  positive = omega (arith, prime.large)
-
-  canonical_so_far : (n : ℕ) → Canonical p (column_so_far s Z j n)
-  unfolding column_so_far total_modulo
-  canonical_so_far zero = canonical_nil p
-  canonical_so_far (suc n) =
-      canonical_add p positive (column_so_far s Z j n) (column_term s Z j n) (canonical_so_far n)
-      (canonical_mul p positive (get_or Z n []) (entry s n j))
-
-  -- one row more
-  pub carried_on : (n : ℕ) (r : List ℕ) → r ≡ remainder (modulo p) (column_so_far s Z j n) w
-      → take_along p w r (column_term s Z j n) ≡ remainder (modulo p) (column_so_far s Z j (suc n)) w
-  unfolding column_so_far total_modulo take_along
-  carried_on n r is =
-      let S = column_so_far s Z j n in
-      let f = column_term s Z j n in
-      let h_S = canonical_so_far n in
-      let hf = canonical_mul p positive (get_or Z n []) (entry s n j) in
-      let rest = remainder (modulo p) S w in
-      let hr = canonical_remainder p positive S w h_S in
-      ap (λ c. remainder (modulo p) (add (modulo p) c f) w) is
-      ∙ remainder_add p prime rest f w hr hf canonical some
-      ∙ ap (λ c. add (modulo p) c (remainder (modulo p) f w))
-      (remainder_short p prime rest w hr canonical (length_remainder p prime S w h_S canonical some))
-      ∙ sym (remainder_add p prime S f w h_S hf canonical some)
-
-  -- any number of rows
-  pub carried_remainder : (n : ℕ) → carried_after s w Z j n ≡ remainder (modulo p) (column_so_far s Z j n) w
-  unfolding column_so_far total_modulo carried_after divide
-  carried_remainder zero = refl
-  carried_remainder (suc n) = carried_on n (carried_after s w Z j n) (carried_remainder n)
-
 -- all rows: the column of Z·A
 pub column_so_far_lem : (s : System) (Z : List (List ℕ)) (j : ℕ) → column_so_far s Z j s.rows ≡ column_of s Z j
 unfolding column_so_far column_of
@@ -115,18 +75,6 @@ pub record Carries (s : System) (w : List ℕ) (Z : List (List ℕ)) (n : ℕ) (
   pub remainders : (j : ℕ) → j < s.columns
       → carried_in s.modulus (degree w) carried j ≡ remainder (modulo s.modulus) (column_so_far s Z j n) w
   pub sums : CarriedSums s.modulus (n * office.system_coefficients) carried
-
--- so it is after every row, if it was before
-pub carries_on : (s : System) → Prime s.modulus → (w : List ℕ) → Canonical s.modulus w → 0 < length w
-    → (Z : List (List ℕ)) (i : ℕ) (before after : List ℕ) → Carries s w Z i before → TakesRow s w Z i before after
-    → Carries s w Z (i + 1) after
-carries_on s prime w canonical some Z i before after so_far takes = record {
-  remainders = λ j lt.
-      takes.along j lt
-      ∙ carried_on s prime w canonical some Z j i _ (so_far.remainders j lt)
-      ∙ ap (λ n. remainder (modulo s.modulus) (column_so_far s Z j n) w) (sym (add-one i));
-  sums = takes.sums;
-}
 
 -- the words of x^k·Z_i modulo w, for k up to the most coefficients of a system's polynomial: a remainder, and a place for each k
 abbrev pub window_words : ℕ

@@ -15,7 +15,7 @@ use Rattle.write_frame.specs.Overwriting.{overwritten}
 use Rattle.solve_meaning.specs.Existence.{Suffices, chosen_certificate}
 use Rattle.solver.specs.Solving.{certificate_bytes, SolvesFile}
 use Rattle.solver.specs.RefusedLaws.{RoomLast, solve_file_refused_iff}
-use Rattle.solver.specs.OneCertificate.{Call, file_solves_unique, file_solved_same, file_solved_certificate}
+use Rattle.solver.proofs.OneCertificate.{Call, file_solves_unique, file_solved_same, file_solved_certificate}
 use Rattle.verifier.specs.File.{file_verdict}
 use Rattle.answers.specs.Packed.{packed, packed_verdict, place_unit, number_most}
 use Rattle.link_values.specs.Refusals.{Numbers, numbers_wider}

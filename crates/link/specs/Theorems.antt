@@ -68,33 +68,33 @@ use Rattle.answers.specs.Packed.{packed, packed_verdict, place_unit, number_most
 use Rattle.writer.specs.Writing.{write_systems, write_certificate, Writes}
 use Rattle.writer.specs.Values.{system_in_arrays, certificate_in, certificate_stride}
 use Rattle.writer.specs.Refused.{SystemFault, CertificateFault}
-use Rattle.writer.specs.RefusedLaws.{system_refused_iff_fault, certificate_refused_iff_fault, refused_lent}
+use Rattle.writer.proofs.RefusedLaws.{system_refused_iff_fault, certificate_refused_iff_fault, refused_lent}
 use Rattle.writer.specs.WrittenBackLaws.{WritesBack}
 use Rattle.values.specs.Loading.{LoadsSystem, LoadsCertificate}
-use Rattle.values.specs.LoadedLaws.{system_load_refused, certificate_load_refused}
+use Rattle.values.proofs.LoadedLaws.{system_load_refused, certificate_load_refused}
 use Rattle.values.specs.RefusedLaws.{ShapeFirst, system_load_refused_iff, certificate_load_refused_iff}
 use Rattle.values.specs.HeldLaws.{InArrays, system_held, certificate_held}
-use Rattle.values.specs.RoundTrip.{SystemRoom, CertificateRoom, WritesSystem, WritesCertificate}
-use Rattle.values.specs.RoundTrip.{system_writes_form, certificate_writes_form}
-use Rattle.values.specs.RoundTrip.{system_reads_back, system_loads_back, certificate_reads_back, certificate_loads_back}
+use Rattle.values.proofs.RoundTrip.{SystemRoom, CertificateRoom, WritesSystem, WritesCertificate}
+use Rattle.values.proofs.RoundTrip.{system_writes_form, certificate_writes_form}
+use Rattle.values.proofs.RoundTrip.{system_reads_back, system_loads_back, certificate_reads_back, certificate_loads_back}
 use Rattle.solve_meaning.specs.Answers.{answer_of}
 use Rattle.solve_meaning.specs.Existence.{office_certificate, office_suffices, chosen_certificate_chosen, chosen_certificate_same}
 use Rattle.solver.specs.Solving.{Solves, system_to_solve, with_room, SolvesOr, certificate_bytes}
 use Rattle.solver.specs.SolvingLaws.{line_of_written, every_system_solved, refused_unchanged as words_unchanged}
 use Rattle.solver.specs.RefusedLaws.{RoomLast, solve_refused_iff}
-use Rattle.solver.specs.OneCertificate.{GivesWords, Call, SameGiven, solved_certificate}
-use Rattle.solver.specs.SameLine.{SameLine, same_line_given, alone_given}
+use Rattle.solver.proofs.OneCertificate.{GivesWords, Call, SameGiven, solved_certificate}
+use Rattle.solver.proofs.SameLine.{SameLine, same_line_given, alone_given}
 use Rattle.report_text.specs.Text.{solution_text, report_text}
 use Rattle.report_text.specs.TextLaws.{text_apart}
 use Rattle.report_text.specs.Longest.{report_space}
 use Rattle.report.specs.ReportingLaws.{reports_text}
 use Rattle.report.specs.Reporting.{Reports, ReportOf}
-use Rattle.report.specs.LeastReported.{ReportSays, report_of_certificate, file_says}
+use Rattle.report.proofs.LeastReported.{ReportSays, report_of_certificate, file_says}
 use Rattle.link.specs.Packed.{SolvesPacked, ReportsPacked}
 use Rattle.link_values.specs.Files.{file_shape, file_kind, file_lookup, write_systems_file}
 use Rattle.link_values.specs.Giving.{GivesPacked}
-use Rattle.link_values.specs.RefusedLaws.{FilesRefusedBy, NothingTried, shape_gives_iff, kind_gives_iff, lookup_gives_iff}
-use Rattle.link_values.specs.RefusedLaws.{write_gives_iff, unchanged_lookup, unchanged_write}
+use Rattle.link_values.proofs.RefusedLaws.{FilesRefusedBy, NothingTried, shape_gives_iff, kind_gives_iff, lookup_gives_iff}
+use Rattle.link_values.proofs.RefusedLaws.{write_gives_iff, unchanged_lookup, unchanged_write}
 use Rattle.link.specs.PackedLaws.{solver_refused_iff, packed_same, packed_unique, report_unpacked}
 use Rattle.link.specs.Checked.{check_gives, checked_iff, checked_says, checked_refused_iff, checked_agree, checked_same}
 use Rattle.link.specs.Checked.{checked_alone, checked_no_side}

@@ -17,8 +17,8 @@ use Rattle.solve_meaning.specs.Existence.{office_suffices, office_certificate}
 use Rattle.verifier.specs.File.{file_verdict}
 use Rattle.solver.specs.Solving.{with_room, file_to_solve, certificate_bytes, SolvesOr, SolvesFile}
 use Rattle.solver.specs.SolvingLaws as solver
-use Rattle.solver.specs.OneCertificate.{Call, SameGiven}
-use Rattle.solver.specs.SameLine.{SameLine, file_same_line_given, file_alone_given}
+use Rattle.solver.proofs.OneCertificate.{Call, SameGiven}
+use Rattle.solver.proofs.SameLine.{SameLine, file_same_line_given, file_alone_given}
 use Rattle.link.specs.FileLaws.{bytes_are, solved_file_accepted, line_of_file, every_file_solved}
 use Rattle.answers.specs.Packed.{packed, packed_verdict, place_unit}
 use Rattle.link.specs.Packed.{SolvesPacked}

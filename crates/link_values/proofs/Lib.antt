@@ -1,3 +1,4 @@
+pub mod RefusedLaws
 pub mod Opens
 pub mod Reading
 pub mod Looking

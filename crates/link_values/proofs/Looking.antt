@@ -20,7 +20,7 @@ use Rattle.words.specs.Systems.{Systems, read_systems}
 use Rattle.words.proofs.SystemsLaws.{systems_written_of_read}
 use Rattle.words.specs.Certificate.{Certificate, read_certificate}
 use Rattle.lookup.specs.Lookup.{Of, Part, entries_on, shown, polynomial_lookup, words_shown, companion}
-use Rattle.lookup.specs.LookupLaws.{Shows, lookup_shown}
+use Rattle.lookup.proofs.LookupLaws.{Shows, lookup_shown}
 use Rattle.vector.specs.Stored.{stored}
 use Rattle.loader.specs.StoredLaws.{stored_list}
 use Rattle.link_values.specs.Files.{Pair, read_both, lookup_of}

@@ -1,18 +1,14 @@
--- interface, what contracts, other crates and documents cite: Files, Giving, Refusals, Unpacked, RefusedLaws, ToldLaws, FilesLaws,
+-- interface, what contracts, other crates and documents cite: Files, Giving, Refusals, Unpacked, ToldLaws, FilesLaws,
 --   WritingLaws, Examples
--- inside: GivingLaws
--- what is told of files and values, and what calls leave of it
+-- inside: GivingLaws what is told of files and values, and what calls leave of it an answer as one number, taken apart what they
+--   refuse; what is told in the terms of the words; numbers and places of refusals; what is written a case that PROVED.md cites
+--   what a call leaves, case by case
 pub mod Files
 pub mod Giving
--- an answer as one number, taken apart
 pub mod Refusals
 pub mod Unpacked
--- what they refuse; what is told in the terms of the words; numbers and places of refusals; what is written
-pub mod RefusedLaws
 pub mod ToldLaws
 pub mod FilesLaws
 pub mod WritingLaws
--- a case that PROVED.md cites
 pub mod Examples
--- what a call leaves, case by case
 pub mod GivingLaws

@@ -26,7 +26,7 @@ use Rattle.write_frame.specs.ValuesLaws.{length_polynomials_in}
 use Rattle.writer.specs.Writing.{refuse_sides, refuse_shape, refuse_room, write_systems}
 use Rattle.writer.specs.WritingLaws.{shape_first, shape_passed}
 use Rattle.writer.specs.WrittenLaws.{system_accepted}
-use Rattle.writer.specs.RefusedLaws.{sides_iff}
+use Rattle.writer.proofs.RefusedLaws.{sides_iff}
 use Rattle.writer.specs.Values.{system_in_arrays}
 use Rattle.answers.specs.Heads.{head_number}
 use Rattle.link_values.specs.Files.{Pair, file_shape, read_files, write_systems_file}

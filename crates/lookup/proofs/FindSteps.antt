@@ -16,7 +16,7 @@ use Rattle.lookup.specs.Standing.{StartsInside, part_in}
 use Rattle.lookup.specs.StandingLaws.{part_framed}
 use Rattle.words.specs.OutcomeLaws.{mapped_accepted, mapped_refused}
 use Rattle.words.proofs.FramedLaws.{systems_framed, certificate_framed, start_inside}
-use Rattle.lookup.specs.LookupLaws.{lookup_system_refused, lookup_certificate_refused, lookup_read}
+use Rattle.lookup.proofs.LookupLaws.{lookup_system_refused, lookup_certificate_refused, lookup_read}
 use Rattle.lookup.specs.declared.part.Part.{Part as PartValue}
 use Rattle.lookup.specs.declared.part.Part.TheVariants.{Refused}
 use Rattle.answers.specs.declared.answer.Refusal.{Refusal}

@@ -11,7 +11,7 @@ use Rattle.words.specs.OutcomeLaws.{mapped_accepted, mapped_refused}
 use Rattle.words.specs.Bytes.{word_bytes}
 use Rattle.lookup.specs.Lookup.{Of, Part, on, polynomial_lookup, words_shown, place_shown, companion, bounds, bounds_shown}
 use Rattle.lookup.specs.Lookup.{Address, word_address}
-use Rattle.lookup.specs.LookupLaws.{Shows, lookup_shown}
+use Rattle.lookup.proofs.LookupLaws.{Shows, lookup_shown}
 
 module _ (told : Outcome Part) where
   pub found_companion : (b : ℕ × ℕ) → accepted b ≡ bounds_shown told → accepted tt ≡ companion told

@@ -1,3 +1,4 @@
+pub mod LookupLaws
 pub mod Walk
 pub mod FindSteps
 pub mod Findings

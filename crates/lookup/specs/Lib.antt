@@ -1,9 +1,8 @@
--- interface, what contracts, other crates and documents cite: Lookup, Answer, Examples, Standing, LookupLaws, RefusedLaws
+-- interface, what contracts, other crates and documents cite: Lookup, Answer, Examples, Standing, RefusedLaws
 -- inside: StandingLaws
 pub mod Lookup
 pub mod Answer
 pub mod Examples
 pub mod Standing
 pub mod StandingLaws
-pub mod LookupLaws
 pub mod RefusedLaws

@@ -1,1 +1,2 @@
+pub mod LeastReported
 mod Giving

@@ -1,5 +1,4 @@
--- interface, what contracts, other crates and documents cite: Reporting, ReportingLaws, Cases, LeastReported
+-- interface, what contracts, other crates and documents cite: Reporting, ReportingLaws, Cases
 pub mod Reporting
 pub mod ReportingLaws
 pub mod Cases
-pub mod LeastReported

@@ -32,7 +32,8 @@ use Rattle.truth.proofs.Lines.{single_line}
 use Rattle.solve_meaning.specs.Answers.{answer_of, right_answers}
 use Rattle.solve_meaning.specs.Existence.{office_certificate_exists, office_answer_exists}
 use Rattle.report_text.specs.Text.{report_text}
-use Rattle.report_text.specs.Longest.{ReportWithin, report_space, report_fits}
+use Rattle.report_text.specs.Longest.{ReportWithin, report_space}
+use Rattle.report_text.proofs.LongestLaws.{report_fits}
 use Rattle.solver.specs.SolvingLaws.{line_of_written}
 use Rattle.report.specs.Reporting.{Reports, ReportOf, ReportGiven, GivenUnless, ReportsFile}
 

@@ -1,3 +1,4 @@
+pub mod LongestLaws
 mod Digits
 mod Due
 mod Lines

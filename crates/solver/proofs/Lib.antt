@@ -1,3 +1,5 @@
+pub mod OneCertificate
+pub mod SameLine
 pub mod Reading
 mod CertifiedWords
 mod Writing

@@ -1,2 +1,4 @@
+pub mod LoadedLaws
+pub mod RoundTrip
 pub mod Turns
 pub mod Answers

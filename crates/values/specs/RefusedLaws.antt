@@ -19,7 +19,7 @@ use Rattle.answers.specs.Answer.{system_outcome, certificate_outcome}
 use Rattle.writer.specs.Writing.{refuse_shape}
 use Rattle.writer.specs.WritingLaws.{shape_within}
 use Rattle.writer.specs.Refused.{MayBeModulus, MayBeSizes}
-use Rattle.writer.specs.RefusedLaws.{failed_iff, modulus_iff, sizes_iff, shape_of}
+use Rattle.writer.proofs.RefusedLaws.{failed_iff, modulus_iff, sizes_iff, shape_of}
 use Rattle.values.specs.Loading.{LoadsSystem, certificate_to_load, LoadsCertificate}
 
 -- ---- p, n and m, tried first

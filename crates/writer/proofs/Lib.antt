@@ -1,2 +1,3 @@
+pub mod RefusedLaws
 pub mod Answers
 pub mod Ready

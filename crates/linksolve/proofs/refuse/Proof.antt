@@ -2,7 +2,8 @@
 use native.Mathlib.Omega.{arith}
 use borrow.Author.Rules.{rules}
 use Rattle.answers.specs.Answer.{refused_by}
-use Rattle.report_text.specs.Longest.{ReportWithin, report_fits}
+use Rattle.report_text.specs.Longest.{ReportWithin}
+use Rattle.report_text.proofs.LongestLaws.{report_fits}
 use Rattle.linksolve.proofs.refuse.Statement.{statement}
 use Rattle.linksolve.proofs.refuse.Tie as tie
 

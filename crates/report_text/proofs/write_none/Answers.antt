@@ -5,7 +5,8 @@ use mathlib.Core.List.{List}
 use lib.ListN.{length}
 use Rattle.words.specs.Outcome.Outcome.{accepted}
 use Rattle.truth.specs.Solution.Answer.{none}
-use Rattle.report_text.specs.Longest.{report_space, ReportWithin, report_fits}
+use Rattle.report_text.specs.Longest.{report_space, ReportWithin}
+use Rattle.report_text.proofs.LongestLaws.{report_fits}
 use Rattle.report_text.specs.Text.{report_text}
 use Rattle.report_text.specs.WrittenLaws.{appended_whole}
 use Rattle.report_text.proofs.write_none.Goals as goal

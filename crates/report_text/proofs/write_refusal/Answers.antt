@@ -9,7 +9,8 @@ use Rattle.words.specs.Outcome.Outcome.{refused}
 use Rattle.report_text.specs.Ascii.{ascii}
 use Rattle.report_text.specs.Decimal.{decimal}
 use Rattle.report_text.specs.Text.{spaced, report_text}
-use Rattle.report_text.specs.Longest.{report_space, ReportWithin, report_fits}
+use Rattle.report_text.specs.Longest.{report_space, ReportWithin}
+use Rattle.report_text.proofs.LongestLaws.{report_fits}
 use Rattle.report_text.specs.WrittenLaws.{appended_whole}
 use Rattle.report_text.proofs.Due.{joined, Due, due_all, due_room, due_next, due_none}
 use Rattle.report_text.proofs.Lines.{line_three}

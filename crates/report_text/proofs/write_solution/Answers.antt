@@ -10,7 +10,8 @@ use Rattle.words.specs.Outcome.Outcome.{accepted}
 use Rattle.truth.specs.Solution.Answer.{least}
 use Rattle.report_text.specs.Ascii.{ascii}
 use Rattle.report_text.specs.Text.{denominator_line, feedback_line, solution_text, report_text}
-use Rattle.report_text.specs.Longest.{DenominatorWithin, report_space, ReportWithin, report_fits}
+use Rattle.report_text.specs.Longest.{DenominatorWithin, report_space, ReportWithin}
+use Rattle.report_text.proofs.LongestLaws.{report_fits}
 use Rattle.report_text.specs.WrittenLaws.{appended_whole}
 use Rattle.report_text.proofs.Due.{joined, Due, due_all, due_room, due_next, due_none}
 use Rattle.report_text.proofs.write_solution.Goals as goal

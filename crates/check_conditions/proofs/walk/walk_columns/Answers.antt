@@ -12,7 +12,8 @@ use Rattle.truth.specs.Solution.{total_modulo}
 use Rattle.polynomial_words.proofs.Rest.{polynomial_zero}
 use Rattle.loader.specs.SlotLaws.{taken_canonical, canonical_word}
 use Rattle.check_conditions.specs.Areas.{system_in_slots, certifying_denominator_in, certifying_numerators_in}
-use Rattle.check_conditions.specs.Walk.{carried_width, column_so_far, carries_on}
+use Rattle.check_conditions.specs.Walk.{carried_width, column_so_far}
+use Rattle.check_conditions.proofs.WalkLaws.{carries_on}
 use Rattle.check_conditions.proofs.Monic.{last_leading}
 use Rattle.check_conditions.proofs.Walking.{counted, reduced_below, reduced_sums, reduced_carried}
 use Rattle.check_conditions.proofs.walk.walk_columns.Goals as goal

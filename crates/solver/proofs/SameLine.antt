@@ -16,7 +16,7 @@ use Rattle.words.proofs.BytesLaws.{file_within, file_read_of_written}
 use Rattle.words.proofs.LineFileLaws.{line_file, line_file_within}
 use Rattle.words.specs.Certificate.{certificate_words}
 use Rattle.solver.specs.Solving.{certificate_bytes, Solves, SolvesFile}
-use Rattle.solver.specs.OneCertificate.{Call, SameWords, SameGiven, solved_same, file_solved_same, one_given, words_within}
+use Rattle.solver.proofs.OneCertificate.{Call, SameWords, SameGiven, solved_same, file_solved_same, one_given, words_within}
 
 -- two sheets agree in p, A and one line's right side, which is number k of one and number k₁ of the other. That they agree in A is
 -- that they have as many rows, as many columns and the same polynomials.

@@ -24,7 +24,7 @@ use Rattle.writer.specs.WritingLaws.{shape_passed}
 use Rattle.writer.specs.WrittenLaws.{count_words, certificate_accepted, system_call_is_read, certificate_call_is_read}
 use Rattle.writer.specs.WrittenBackLaws.{WritesBack, system_written_back, certificate_written_back}
 use Rattle.values.specs.Loading.{LoadsSystem, certificate_to_load, LoadsCertificate}
-use Rattle.values.specs.LoadedLaws.{system_loaded, certificate_loaded}
+use Rattle.values.proofs.LoadedLaws.{system_loaded, certificate_loaded}
 
 module _ (limits : Limits) (fit : LimitsFit limits) where
   -- ---- systems

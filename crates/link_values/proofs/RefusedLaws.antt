@@ -22,7 +22,7 @@ use Rattle.answers.specs.Packed.{packed, place_unit, number_most}
 use Rattle.writer.specs.Writing.{write_systems}
 use Rattle.writer.specs.Values.{system_in_arrays}
 use Rattle.writer.specs.Refused.{SystemFault}
-use Rattle.writer.specs.RefusedLaws.{system_refused_iff_fault}
+use Rattle.writer.proofs.RefusedLaws.{system_refused_iff_fault}
 use Rattle.answers.specs.Heads.{head_number, kind_number}
 use Rattle.link_values.specs.Files.{Pair, file_shape, read_files, file_kind, polynomial_looked}
 use Rattle.link_values.specs.Files.{file_lookup, write_systems_file}
