@@ -89,7 +89,8 @@ use Rattle.report_text.specs.TextLaws.{text_apart}
 use Rattle.report_text.specs.Longest.{report_space}
 use Rattle.report.specs.ReportingLaws.{reports_text}
 use Rattle.report.specs.Reporting.{Reports, ReportOf}
-use Rattle.report.proofs.LeastReported.{ReportSays, report_of_certificate, file_says}
+use Rattle.report.specs.LeastReported.{ReportSays}
+use Rattle.report.proofs.LeastReportedLaws.{report_of_certificate, file_says}
 use Rattle.link.specs.Packed.{SolvesPacked, ReportsPacked}
 use Rattle.link_values.specs.Files.{file_shape, file_kind, file_lookup, write_systems_file}
 use Rattle.link_values.specs.Giving.{GivesPacked}

@@ -1,2 +1,2 @@
-pub mod LeastReported
+pub mod LeastReportedLaws
 mod Giving

@@ -1,5 +1,4 @@
--- What the report says of a system that is read: that there is no solution; or the least denominator, and a feedback and a delay
--- of which no rational solution has less (document 02, item 2).
+-- The report says the least denominator, and the least feedback and delay, of every system that is read.
 use Rattle.std.specs.Prelude.{ℕ, ◌≡◌, List}
 use Rattle.std.proofs.Math.Path.{ap}
 use Rattle.std.proofs.Common.{◌∙◌, subst}
@@ -23,22 +22,7 @@ use Rattle.solve_meaning.specs.Answers.{answer_of, true_answers}
 use Rattle.report_text.specs.Ascii.{ascii}
 use Rattle.report_text.specs.Text.{solution_text, report_text}
 use Rattle.report.specs.Reporting.{Reports, ReportOf}
-
--- the text is a solution's report: the denominator in it is the least one, the delay is the number of its factors x, the feedback
--- is the degree of what is left of it, and no rational solution has less of either
-pub record LeastReported (s : System) (text : List ℕ) : Type 0 where
-  pub denominator : List ℕ
-  pub factors : ℕ
-  pub left : List ℕ
-  pub says : text ≡ solution_text denominator (degree left) factors
-  pub least_denominator : LeastDenominator s denominator
-  pub taken : TakenOut s.modulus denominator factors left
-  pub least_both : LeastOfEither s (degree left) factors
-
--- one of two: there is such a report, or "For none it prints the first line only"
-pub data ReportSays (s : System) (text : List ℕ) : Type 0 where
-  solved : LeastReported s text → ReportSays s text
-  unsolved : text ≡ ascii "answer none\n" → ((M : List (List ℕ)) (e : List ℕ) → ¬ RationalSolution s M e) → ReportSays s text
+use Rattle.report.specs.LeastReported.{LeastReported, ReportSays}
 
 module _ (s : System) (P : Proper s) (text : List ℕ) (reports : Reports (accepted s) text) where
   by_answer : (a : Answer) → Answers s a → text ≡ report_text (accepted a) → ReportSays s text
