@@ -1,5 +1,5 @@
 -- How the end of a file is found.
-use Rattle.std.specs.Prelude.{ℕ, ℤ, pos, negsuc}
+use Rattle.std.specs.Prelude.{ℕ, Result, Ok, Err}
 
 -- the bytes that one turn reads
 abbrev pub turn_bytes : ℕ
@@ -10,6 +10,6 @@ abbrev pub most_bytes : ℕ
 most_bytes = 16777216
 
 -- a length that the system tells; 0 where it tells none
-abbrev pub length_told : ℤ → ℕ
-length_told (pos n) = n
-length_told (negsuc n) = 0
+abbrev pub length_told : {E : Type 0} → Result ℕ E → ℕ
+length_told (Ok length) = length
+length_told (Err reason) = 0

@@ -8,57 +8,70 @@ mod line;
 mod name;
 
 use file::{File, read_file};
-use libc::STDERR_FILENO;
 use line::judge;
 use report_text::SPACE;
-use streams::side::{SideAsked, side_asked};
-use streams::{FILE_SPACE, print};
+use std::env::Env;
+use std::io::{Error, Write};
+use std::rt::Files;
+use streams::side::{ARGUMENT_SPACE, SideAsked, has_argument, side_asked};
+use streams::{FILE_SPACE, fail, print, say};
+
+// What the system says of a name that is too long: `File name too long`.
+const ENAMETOOLONG: i32 = 36;
 
 // Reads the file that an argument names. Where the name has more than 4,096 bytes, says so of `what`.
-fn read_named(bytes: &mut [u8], argument: usize, what: &[u8]) -> File {
-    let mut name = io::buffer();
-    let n = os::arg(argument, &mut name);
-    if os::errno() != 0 {
-        os::fail(what);
-        return File::Unread;
+fn read_named<R: Env + Files, E: Write>(
+    rt: &R,
+    errors: &mut E,
+    bytes: &mut [u8],
+    argument: usize,
+    what: &[u8],
+) -> File {
+    let mut name = [0u8; ARGUMENT_SPACE];
+    match rt.arg(argument, &mut name) {
+        Ok(n) => read_file(rt, errors, bytes, &mut name[..n]),
+        Err(_) => {
+            fail(errors, what, &Error::from_raw_os_error(ENAMETOOLONG));
+            File::Unread
+        }
     }
-    read_file(bytes, &mut name[..n])
 }
 
 // Says how the program is used.
-fn tell_usage() {
-    io::write_all(
-        STDERR_FILENO,
+fn tell_usage<E: Write>(errors: &mut E) {
+    say(
+        errors,
         b"usage: cardcheck SHEET CARD [SIDE] (SIDE: a right side's number, from 0)\n",
     );
 }
 
-fn main() {
-    let count = os::arg_count();
-    if count < 3 {
-        tell_usage();
+fn main(rt: HostRuntime) {
+    let mut errors = rt.stderr();
+    if !has_argument(&rt, 2) || has_argument(&rt, 4) {
+        tell_usage(&mut errors);
         return;
     }
-    if 4 < count {
-        tell_usage();
-        return;
-    }
-    let asked = side_asked(3);
+    let asked = side_asked(&rt, 3);
     let SideAsked::Number(side) = asked else {
-        tell_usage();
+        tell_usage(&mut errors);
         return;
     };
     let mut system = [0u8; FILE_SPACE];
-    let first = read_named(&mut system, 1, b"cardcheck: SHEET");
+    let first = read_named(&rt, &mut errors, &mut system, 1, b"cardcheck: SHEET");
     let File::Length(n) = first else {
         return;
     };
     let mut certificate = [0u8; FILE_SPACE];
-    let second = read_named(&mut certificate, 2, b"cardcheck: CARD");
+    let second = read_named(&rt, &mut errors, &mut certificate, 2, b"cardcheck: CARD");
     let File::Length(m) = second else {
         return;
     };
     let mut line = [0u8; SPACE];
     let count = judge(&mut line, &system, &certificate, n, m, side);
-    print(&line[0..count], b"cardcheck: standard output");
+    print(
+        &mut rt.stdout(),
+        &mut errors,
+        &line[0..count],
+        b"cardcheck: standard output",
+    );
 }

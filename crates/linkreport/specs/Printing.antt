@@ -9,4 +9,4 @@ use Rattle.report.specs.Reporting.{ReportGiven}
 -- the report of the bytes read; nothing where they could not be read, which is no refusal
 unfoldable pub Prints : StreamRead → (file entry exit : List ℕ) → ℕ → Type 0
 Prints (input.Bytes n) file entry exit count = ReportGiven (read_line_file office 0 (take n file)) entry exit count
-Prints input.Failed file entry exit count = (count ≡ 0) × (exit ≡ entry)
+Prints (input.Failed reason) file entry exit count = (count ≡ 0) × (exit ≡ entry)

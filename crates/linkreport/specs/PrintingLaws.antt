@@ -13,8 +13,7 @@ use Rattle.words.specs.Bytes.{read_line_file}
 use Rattle.report_text.specs.Longest.{report_space}
 use Rattle.report.specs.Reporting.{GivenUnless, ReportsFile}
 use Rattle.report.specs.ReportingLaws.{given_text}
-use Rattle.report.specs.LeastReported.{ReportSays}
-use Rattle.report.proofs.LeastReportedLaws.{file_says}
+use Rattle.report.specs.LeastReported.{ReportSays, file_says}
 use Rattle.linkreport.specs.Printing.{Prints}
 
 module _ (file entry exit : List ℕ) (count : ℕ) where
@@ -29,7 +28,7 @@ module _ (file entry exit : List ℕ) (count : ℕ) where
       (le-ltb (length entry) report_space room)
       report)
 
-  pub prints_nothing : {i : StreamRead} → i ≡ input.Failed → count ≡ 0 → exit ≡ entry → Prints i file entry exit count
+  pub prints_nothing : {i : StreamRead} {reason : _} → i ≡ input.Failed reason → count ≡ 0 → exit ≡ entry → Prints i file entry exit count
   unfolding Prints
   prints_nothing e none same = subst (λ read. Prints read file entry exit count) (sym e) (none, same)
 
@@ -39,7 +38,7 @@ module _ (file entry exit : List ℕ) (count : ℕ) where
   prints_most (input.Bytes n) given =
       let length_of = length-append given.text (drop (length given.text) entry) in
       omega (arith, given.written.count, ap length given.written.bytes, length_of)
-  prints_most input.Failed nothing = omega (arith, nothing.0)
+  prints_most (input.Failed reason) nothing = omega (arith, nothing.0)
 
   -- what is printed of bytes that read as a system: that there is no solution, or d, and a feedback and a delay of which no
   -- rational solution has less

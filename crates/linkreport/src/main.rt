@@ -7,9 +7,9 @@ ghost use Rattle.streams.specs.SystemSpace.{system_space};
 ghost use Rattle.report_text.specs.Longest.{report_space};
 ghost use Rattle.linkreport.specs.Printing.{Prints};
 
-use libc::STDERR_FILENO;
 use report::{SPACE, write_report};
-use streams::{SYSTEM_SPACE, StreamRead, print, read_input};
+use streams::side::has_argument;
+use streams::{SYSTEM_SPACE, StreamRead, print, read_input, say};
 
 // Writes what is to be printed: the report of the bytes read, or nothing where they could not be read. Returns the number of its
 // bytes.
@@ -19,18 +19,29 @@ fn reply(text: &mut [u8], file: &[u8], input: StreamRead) -> usize
 {
     match input {
         StreamRead::Bytes(n) => write_report(text, &file[..n]),
-        StreamRead::Failed => 0,
+        StreamRead::Failed(_) => 0,
     }
 }
 
-fn main() {
-    if os::arg_count() > 1 {
-        io::write_all(STDERR_FILENO, b"usage: linkreport < SHEET\n");
+fn main(rt: HostRuntime) {
+    let mut errors = rt.stderr();
+    if has_argument(&rt, 1) {
+        say(&mut errors, b"usage: linkreport < SHEET\n");
         return;
     }
     let mut file = [0u8; SYSTEM_SPACE];
-    let input = read_input(&mut file, b"linkreport: standard input");
+    let input = read_input(
+        &mut rt.stdin(),
+        &mut errors,
+        &mut file,
+        b"linkreport: standard input",
+    );
     let mut text = [0u8; SPACE];
     let n = reply(&mut text, &file, input);
-    print(&text[0..n], b"linkreport: standard output");
+    print(
+        &mut rt.stdout(),
+        &mut errors,
+        &text[0..n],
+        b"linkreport: standard output",
+    );
 }

@@ -17,6 +17,6 @@ Replies k (input.Bytes n) file entry exit (replied.Certificate count) =
 Replies k (input.Bytes n) file entry exit (replied.Refused refusal) =
     SolvesOr office certificate_bytes (read_line_file office k (take n file)) entry exit (refused_by refusal)
 Replies k (input.Bytes n) file entry exit replied.Nothing = ⊥
-Replies k input.Failed file entry exit (replied.Certificate count) = ⊥
-Replies k input.Failed file entry exit (replied.Refused refusal) = ⊥
-Replies k input.Failed file entry exit replied.Nothing = exit ≡ entry
+Replies k (input.Failed reason) file entry exit (replied.Certificate count) = ⊥
+Replies k (input.Failed reason) file entry exit (replied.Refused refusal) = ⊥
+Replies k (input.Failed reason) file entry exit replied.Nothing = exit ≡ entry

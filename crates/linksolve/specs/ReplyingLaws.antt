@@ -26,7 +26,7 @@ room_enough lent h (accepted s) = ap (λ b. refuse b 11 0 (accepted s)) (le-ltb 
 room_enough lent h (refused number place) = refl
 
 module _ (k : ℕ) (file entry exit : List ℕ) where
-  pub replies_nothing : {i : StreamRead} → i ≡ input.Failed → exit ≡ entry → Replies k i file entry exit replied.Nothing
+  pub replies_nothing : {i : StreamRead} {reason : _} → i ≡ input.Failed reason → exit ≡ entry → Replies k i file entry exit replied.Nothing
   unfolding Replies
   replies_nothing e same = subst (λ read. Replies k read file entry exit replied.Nothing) (sym e) same
 
@@ -64,7 +64,7 @@ module _ (k : ℕ) (file entry exit : List ℕ) where
   by_input : (i : StreamRead) (count : ℕ) → Replies k i file entry exit (replied.Certificate count) → count ≤ length exit
   unfolding Replies
   by_input (input.Bytes n) count solved = solves_fits office _ _ entry exit (accepted count) solved count refl
-  by_input input.Failed count none = absurd none
+  by_input (input.Failed reason) count none = absurd none
 
   pub certificate_most : (i : StreamRead) (r : Replied) {count : ℕ} → Replies k i file entry exit r → r ≡ replied.Certificate count
       → count ≤ length exit

@@ -9,12 +9,12 @@ ghost use Rattle.streams.specs.Seen.{certificate_file_bytes};
 ghost use Rattle.linksolve.specs.Replying.{Replies};
 
 use answers::{Counted, Refusal};
-use libc::{STDERR_FILENO, STDOUT_FILENO};
 use limits::Office;
 use report_text::{SPACE, write_refusal};
 use solver::file::solve_file;
-use streams::side::{SideAsked, side_asked};
-use streams::{SYSTEM_SPACE, StreamRead, print, read_input};
+use std::io::{IsTerminal, Write};
+use streams::side::{SideAsked, has_argument, side_asked};
+use streams::{SYSTEM_SPACE, StreamRead, print, read_input, say};
 
 // What is to be handed on of a system.
 #[derive(Clone, Copy)]
@@ -27,22 +27,22 @@ enum Replied {
 }
 
 // Prints a refusal on standard error, as the report does.
-fn refuse(refusal: Refusal) {
+fn refuse<E: Write>(errors: &mut E, refusal: Refusal) {
     let mut line = [0u8; SPACE];
     let n = write_refusal(&mut line, refusal);
-    io::write_all(STDERR_FILENO, &line[0..n]);
+    say(errors, &line[0..n]);
 }
 
 // Writes a certificate to standard output, but to no terminal.
-fn deliver(certificate: &[u8]) {
-    if libc::isatty(STDOUT_FILENO) == 1 {
-        io::write_all(
-            STDERR_FILENO,
+fn deliver<O: Write + IsTerminal, E: Write>(output: &mut O, errors: &mut E, certificate: &[u8]) {
+    if output.is_terminal() {
+        say(
+            errors,
             b"linksolve: standard output is a terminal; write the card to a file: linksolve [SIDE] < SHEET > CARD\n",
         );
         return;
     }
-    print(certificate, b"linksolve: standard output");
+    print(output, errors, certificate, b"linksolve: standard output");
 }
 
 // Solves a line of the system in the bytes read, and writes its certificate over the first of the lent bytes.
@@ -62,30 +62,36 @@ fn reply(certificate: &mut [u8], file: &[u8], input: StreamRead, side: usize) ->
 }
 
 // Says how the program is used.
-fn tell_usage() {
-    io::write_all(
-        STDERR_FILENO,
+fn tell_usage<E: Write>(errors: &mut E) {
+    say(
+        errors,
         b"usage: linksolve [SIDE] < SHEET > CARD (SIDE: a right side's number, from 0)\n",
     );
 }
 
-fn main() {
-    if os::arg_count() > 2 {
-        tell_usage();
+fn main(rt: HostRuntime) {
+    let mut errors = rt.stderr();
+    if has_argument(&rt, 2) {
+        tell_usage(&mut errors);
         return;
     }
-    let asked = side_asked(1);
+    let asked = side_asked(&rt, 1);
     let SideAsked::Number(side) = asked else {
-        tell_usage();
+        tell_usage(&mut errors);
         return;
     };
     let mut file = [0u8; SYSTEM_SPACE];
-    let input = read_input(&mut file, b"linksolve: standard input");
+    let input = read_input(
+        &mut rt.stdin(),
+        &mut errors,
+        &mut file,
+        b"linksolve: standard input",
+    );
     let mut certificate = [0u8; Office::CERTIFICATE_BYTES];
     let replied = reply(&mut certificate, &file, input, side);
     match replied {
-        Replied::Certificate(n) => deliver(&certificate[0..n]),
-        Replied::Refused(refusal) => refuse(refusal),
+        Replied::Certificate(n) => deliver(&mut rt.stdout(), &mut errors, &certificate[0..n]),
+        Replied::Refused(refusal) => refuse(&mut errors, refusal),
         Replied::Nothing => {}
     }
 }

@@ -4,13 +4,19 @@ ghost use Rattle.std.specs.Prelude.{◌≡◌, cond, ℕ, ◌<◌, ◌≤◌, lt
 ghost use Rattle.stored_cases.specs.Places.{case_words};
 
 use files::unpacking::unpack;
-use libc::STDIN_FILENO;
+use std::io::{BufReader, Read, Stdin};
+
+// Standard input, behind a buffer.
+pub type Input = BufReader<Stdin>;
 
 // No stored set has more cases.
 pub const CASES: usize = 65536;
 
 // No list has more words.
 pub const WORDS: usize = 16384;
+
+// No list has more bytes.
+pub const LIST_BYTES: usize = 65536;
 
 // Gives the word at a place, 0 behind the last.
 pub fn word(words: &[u32; WORDS], place: usize) -> u32
@@ -48,31 +54,45 @@ pub fn unpack_coefficients(f: &mut [u64], words: &[u32; WORDS], place: usize, bo
     }
 }
 
+// Reads until `bytes` are full, the input ends or a read fails, and returns how many bytes it put at their start.
+fn read_full(input: &mut Input, bytes: &mut [u8]) -> usize
+    ensures { result ≤ length bytes.new }
+{
+    let mut done: usize = 0;
+    while done < bytes.len() {
+        match input.read(&mut bytes[done..]) {
+            Ok(0) | Err(_) => return done,
+            Ok(more) => done += more,
+        }
+    }
+    done
+}
+
 // Reads a number; 0 where the input has ended.
-pub fn read_number() -> u32 {
+pub fn read_number(input: &mut Input) -> u32 {
     let mut bytes = [0u8; 4];
     let mut words = [0u32; 1];
-    io::read_full(STDIN_FILENO, &mut bytes);
+    read_full(input, &mut bytes);
     unpack(&mut words, &bytes);
     words[0]
 }
 
 // Reads a list to the first of the lent bytes and gives their number; 0 where too few are lent.
-pub fn read_bytes(bytes: &mut [u8]) -> usize
+pub fn read_bytes(input: &mut Input, bytes: &mut [u8]) -> usize
     ensures { result ≤ length bytes.new }
 {
-    let count = read_number() as usize;
+    let count = read_number(input) as usize;
     if bytes.len() < count {
         return 0;
     }
-    io::read_full(STDIN_FILENO, &mut bytes[0..count])
+    read_full(input, &mut bytes[0..count])
 }
 
 // Reads a list to the first of the lent words and gives their number.
-pub fn read_words(words: &mut [u32]) -> usize
+pub fn read_words(input: &mut Input, words: &mut [u32]) -> usize
     ensures { result ≤ length words.new }
 {
-    let mut bytes = io::large_buffer();
-    let count = read_bytes(&mut bytes);
+    let mut bytes = [0u8; LIST_BYTES];
+    let count = read_bytes(input, &mut bytes);
     unpack(words, &bytes[0..count])
 }

@@ -1,7 +1,7 @@
 // The writers. A case is its kind, p, n, m, the number of right sides, that of lent words, and the polynomials. Of one that lends
 // too many there is no line.
 use crate::input::{WORDS, word};
-use crate::output::{print, refused, text, words};
+use crate::output::{Output, print, refused, text, words};
 use crate::polynomials::unpack;
 use answers::{Counted, Form};
 use limits::Office;
@@ -13,21 +13,21 @@ use writer::system::write_system;
 const MOST: usize = 4096;
 
 // Lends as many words as the case says, and has them written.
-pub fn answer(case: &[u32; WORDS]) {
+pub fn answer(output: &mut Output, case: &[u32; WORDS]) {
     let lent = word(case, 5) as usize;
     if MOST < lent {
         return;
     }
     let mut words = [0u32; MOST];
-    answer_lent(&mut words[0..lent], case);
+    answer_lent(output, &mut words[0..lent], case);
 }
 
 // Writes to the lent words what the case is of, and prints it.
-fn answer_lent(words: &mut [u32], case: &[u32; WORDS]) {
+fn answer_lent(output: &mut Output, words: &mut [u32], case: &[u32; WORDS]) {
     let answer = write(words, case);
     match answer {
-        Counted::Count(count) => show(words, count),
-        Counted::Refused(refusal) => refused(refusal),
+        Counted::Count(count) => show(output, words, count),
+        Counted::Refused(refusal) => refused(output, refusal),
     }
 }
 
@@ -75,10 +75,10 @@ fn certificate(words: &mut [u32], case: &[u32; WORDS], form: Form) -> Counted {
 }
 
 // Prints what was written: so many of the words lent.
-fn show(lent: &[u32], count: usize) {
+fn show(output: &mut Output, lent: &[u32], count: usize) {
     if count <= lent.len() {
-        print(b"wrote 0 ", [count as u64, 0, 0, 0]);
-        words(&lent[0..count]);
-        text(b"\n");
+        print(output, b"wrote 0 ", [count as u64, 0, 0, 0]);
+        words(output, &lent[0..count]);
+        text(output, b"\n");
     }
 }

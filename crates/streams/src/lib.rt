@@ -2,15 +2,19 @@
 // with the system's reason. `side` reads the number of a right side.
 #![tactic(auto)]
 
+mod reason;
 pub mod side;
 
-ghost use Rattle.std.specs.Prelude.{◌≡◌, length};
-ghost use Rattle.streams.specs.Reading.{ReadWithin};
+ghost use Rattle.std.specs.Prelude.{◌≡◌, length, OnOk};
+ghost use Rattle.std.specs.Io.KnownBytes.{Appends};
+ghost use Rattle.streams.specs.Reading.{ReadWithin, ReadsStart};
 ghost use Rattle.streams.specs.Seen.{bytes_seen};
 
 use answers::word::WORD_BYTES;
-use libc::{STDIN_FILENO, STDOUT_FILENO};
 use limits::Office;
+pub use reason::{fail, say};
+use std::io;
+use std::io::{Error, Read, Write};
 
 // The bytes that are read of a sheet (a system's file): one more than the longest has. All that is longer is refused as these are.
 pub const SYSTEM_SPACE: usize = Office::SYSTEM_BYTES + 1;
@@ -23,8 +27,8 @@ pub const FILE_SPACE: usize = WORD_BYTES * (Office::CERTIFICATE_WORDS + 2);
 pub enum StreamRead {
     // The number of bytes read, which stand at the start of the space lent.
     Bytes(usize),
-    // A read failed, and errno says why.
-    Failed,
+    // A read failed, for this reason.
+    Failed(Error),
 }
 
 // Returns how many bytes of a file of so many are looked at: all, or, where they would fill the space, fewer, but as many modulo
@@ -40,45 +44,52 @@ pub fn bytes_seen(length: usize) -> usize
 }
 
 // Reads until `bytes` are full or the input ends.
-pub fn read_start(bytes: &mut [u8], fd: i32) -> StreamRead
-    ensures { ReadWithin (length bytes.new) result }
+pub fn read_start<R: Read>(bytes: &mut [u8], input: &mut R) -> StreamRead
+    ensures within { ReadWithin (length bytes.new) result }
+    ensures start { ReadsStart (R.remaining input.old) (R.remaining input.new) bytes.new result }
 {
     let mut done: usize = 0;
     while done < bytes.len() {
-        let got = libc::read(fd, &mut bytes[done..]);
-        if got < 0 {
-            return StreamRead::Failed;
+        match input.read(&mut bytes[done..]) {
+            Ok(0) => return StreamRead::Bytes(done),
+            Ok(more) => done += more,
+            Err(reason) => return StreamRead::Failed(reason),
         }
-        let more = io::count(got, &bytes[done..]);
-        if more == 0 {
-            return StreamRead::Bytes(done);
-        }
-        done += more;
     }
     StreamRead::Bytes(done)
 }
 
-// Reads standard input until `bytes` are full or it ends. Where a read fails, says so of `what`.
-pub fn read_input(bytes: &mut [u8], what: &[u8]) -> StreamRead
-    ensures { ReadWithin (length bytes.new) result }
+// Reads the input until `bytes` are full or it ends. Where a read fails, says so of `what`.
+pub fn read_input<R: Read, E: Write>(
+    input: &mut R,
+    errors: &mut E,
+    bytes: &mut [u8],
+    what: &[u8],
+) -> StreamRead
+    ensures within { ReadWithin (length bytes.new) result }
+    ensures start { ReadsStart (R.remaining input.old) (R.remaining input.new) bytes.new result }
 {
-    let input = read_start(bytes, STDIN_FILENO);
-    if let StreamRead::Failed = input {
-        os::fail(what);
+    let start = read_start(bytes, input);
+    if let StreamRead::Failed(reason) = start {
+        fail(errors, what, &reason);
     }
-    input
+    start
 }
 
-// Writes `bytes`, if there are any, to standard output and closes it. Where either fails, says so of `what`.
-pub fn print(bytes: &[u8], what: &[u8]) {
+// Hands `bytes` to the output, all of them.
+fn hand_over<O: Write>(output: &mut O, bytes: &[u8]) -> io::Result<()>
+    ensures { OnOk result (Appends (O.contents output.old) (O.contents output.new) bytes.now) }
+{
+    output.write_all(bytes)?;
+    output.flush()
+}
+
+// Writes `bytes`, if there are any, to the output. Where that fails, says so of `what`.
+pub fn print<O: Write, E: Write>(output: &mut O, errors: &mut E, bytes: &[u8], what: &[u8]) {
     if bytes.len() == 0 {
         return;
     }
-    if !io::write_all(STDOUT_FILENO, bytes) {
-        os::fail(what);
-        return;
-    }
-    if libc::close(STDOUT_FILENO) < 0 {
-        os::fail(what);
+    if let Err(reason) = hand_over(output, bytes) {
+        fail(errors, what, &reason);
     }
 }

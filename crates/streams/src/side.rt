@@ -2,8 +2,13 @@
 ghost use Rattle.std.specs.Prelude.{◌+◌, ◌-◌, ◌*◌, ◌≤◌, min, ◌≡◌};
 ghost use Rattle.streams.specs.Side.{zero_digit, number_written, most_side, at_most, side_said, SideWithin};
 
+use std::env::{Env, FillError};
+
 // Numbers from this one on are taken for it: no sheet has as many right sides.
 const MOST_SIDE: usize = 65535;
+
+// The greatest digit.
+const LAST_DIGIT: u8 = b'9';
 
 // What an argument says.
 #[derive(Clone, Copy)]
@@ -37,7 +42,7 @@ pub fn read_side(argument: &[u8]) -> SideAsked
         if digit < b'0' {
             return SideAsked::NoNumber;
         }
-        if b'9' < digit {
+        if LAST_DIGIT < digit {
             return SideAsked::NoNumber;
         }
         value = next_value(value, digit);
@@ -46,18 +51,24 @@ pub fn read_side(argument: &[u8]) -> SideAsked
     SideAsked::Number(value)
 }
 
+// The bytes of the longest argument that is read.
+pub const ARGUMENT_SPACE: usize = 4096;
+
+// Whether the program was started with an argument `index`, its own name being the first, 0.
+pub fn has_argument<P: Env>(program: &P, index: usize) -> bool {
+    let mut start = [0u8; 1];
+    !matches!(program.arg(index, &mut start), Err(FillError::NotPresent))
+}
+
 // Reads the right side that argument `index` asks for: 0 where there are not as many arguments, none where it has more than 4,096
 // bytes.
-pub fn side_asked(index: usize) -> SideAsked
+pub fn side_asked<P: Env>(program: &P, index: usize) -> SideAsked
     ensures { SideWithin result }
 {
-    if os::arg_count() <= index {
-        return SideAsked::Number(0);
+    let mut bytes = [0u8; ARGUMENT_SPACE];
+    match program.arg(index, &mut bytes) {
+        Ok(n) => read_side(&bytes[..n]),
+        Err(FillError::NotPresent) => SideAsked::Number(0),
+        Err(FillError::TooLong) => SideAsked::NoNumber,
     }
-    let mut bytes = io::buffer();
-    let n = os::arg(index, &mut bytes);
-    if os::errno() != 0 {
-        return SideAsked::NoNumber;
-    }
-    read_side(&bytes[..n])
 }
