@@ -1,6 +1,6 @@
 -- Polynomials over a field: canonical lists of coefficients. They are a commutative ring, by their coefficients inside the power
 -- series, and its operations are the executable ones of `Coefficients`.
-use Prim.Native.Nat.{ℕ, zero}
+use Prim.Native.Nat.{ℕ}
 use Rattle.std.specs.Prelude.{◌≡◌, List, []}
 use Rattle.std.proofs.Math.Path.{refl, ap, fun_ext}
 use Rattle.std.proofs.Common.{◌∙◌}

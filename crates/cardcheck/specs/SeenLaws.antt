@@ -11,11 +11,11 @@ use Rattle.words.specs.LimitsLaws.{office_fits}
 use Rattle.words.specs.Outcome.{refuse}
 use Rattle.words.specs.Outcome.Outcome.{refused}
 use Rattle.words.specs.Bytes.{words_of, broken, too_long, word_bytes}
-use Rattle.words.specs.BytesLaws.{length_words_of, words_of_at}
+use Rattle.words.proofs.BytesLaws.{length_words_of, words_of_at}
 use Rattle.truth.specs.Verdict.{verdict}
-use Rattle.truth.specs.Prefix.{verdict_prefix}
+use Rattle.truth.proofs.Prefix.{verdict_prefix}
 use Rattle.verifier.specs.File.{file_verdict}
-use Rattle.truth.specs.Lines.{line_verdict}
+use Rattle.truth.proofs.Lines.{line_verdict}
 use Rattle.files.specs.OpeningBoth.{files_broken}
 use Rattle.streams.specs.Side.{most_side}
 use Rattle.streams.specs.SideLaws.{capped_line}

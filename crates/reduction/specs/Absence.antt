@@ -1,6 +1,6 @@
 -- L9, the certificate of absence is right: b was inserted into the last level U and got stuck at the empty slot h. The second
 -- system is that of the last level, with coordinate h of the blocks for its right side.
-use Rattle.std.specs.Prelude.{ℕ, zero, suc, ◌<◌, ◌≤◌, ◌*◌ as ◌*ₙ◌, ◌≡◌, refl, [], ◌∷◌}
+use Rattle.std.specs.Prelude.{ℕ, suc, ◌<◌, ◌≤◌, ◌*◌ as ◌*ₙ◌, ◌≡◌, refl, [], ◌∷◌}
 use Rattle.std.proofs.Common.{sym, ◌∙◌, ap₂, subst, subst₂, arith}
 use Rattle.std.proofs.Math.Path.{ap}
 use Rattle.std.proofs.Math.Decide.{ℕ_discrete}

@@ -1,6 +1,6 @@
 -- Which w and Z: of all z = Z/w with z·A integral and z·b = 1/d modulo polynomials, the one that is short against the vectors of
 -- the span of A and b, in lowest terms. There is only one.
-use Rattle.std.specs.Prelude.{ℕ, zero, suc, ◌<◌, ◌≤◌, ◌+◌ as ◌+ₙ◌, ◌≡◌, ◌⊎◌, [], ◌∷◌}
+use Rattle.std.specs.Prelude.{ℕ, suc, ◌<◌, ◌≤◌, ◌+◌ as ◌+ₙ◌, ◌≡◌, ◌⊎◌, [], ◌∷◌}
 use Rattle.std.proofs.Math.Path.{refl, ap}
 use Rattle.std.proofs.Common.{sym, ◌∙◌, ap₂, inl, inr, arith}
 use Rattle.std.proofs.Math.Decide.{dec_le}

@@ -1,6 +1,6 @@
 -- A block in one flat array of W lanes (section 5 of mathematics.md): coefficient k of coordinate i is at (k + ω i)·W + (W-1-i),
 -- with zeros below. So weights need no code, the last index that is not zero is the pivot, and a step is a loop over one range.
-use Rattle.std.specs.Prelude.{ℕ, zero, suc, ◌<◌, ◌≤◌, ◌/◌, ◌%◌, ◌+◌ as ◌+ₙ◌, ◌-◌ as ◌-ₙ◌, ◌*◌ as ◌*ₙ◌, ◌≡◌, refl, [], ◌∷◌}
+use Rattle.std.specs.Prelude.{ℕ, suc, ◌<◌, ◌≤◌, ◌/◌, ◌%◌, ◌+◌ as ◌+ₙ◌, ◌-◌ as ◌-ₙ◌, ◌*◌ as ◌*ₙ◌, ◌≡◌, refl, [], ◌∷◌}
 use Rattle.std.proofs.Common.{sym, ◌∙◌, ap, ap₂, subst, arith, mul-le-mul_right, div-add-mod', mod-lt}
 use Rattle.std.proofs.Math.Decide.{ℕ_discrete, dec_lt, dec_le}
 use Rattle.ring.specs.Ring.{one_mul, mul_zero}

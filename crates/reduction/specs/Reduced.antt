@@ -1,5 +1,5 @@
 -- The numerators of the way down are the reduced ones: a relation of the columns up to j puts v j·A_j in the span of level j.
-use Rattle.std.specs.Prelude.{ℕ, zero, suc, ◌<◌, ◌≡◌, refl, [], ◌∷◌}
+use Rattle.std.specs.Prelude.{ℕ, suc, ◌<◌, ◌≡◌, refl, [], ◌∷◌}
 use Rattle.std.proofs.Common.{sym, ◌∙◌, ap, arith}
 use Rattle.ring.specs.Ring.{Ring, mul_zero}
 use Rattle.ring.specs.Sum.{sum, sum_beyond}

@@ -1,6 +1,6 @@
 -- The span of slots: the combinations of their vectors, over the first l coordinates; l = n for blocks alone, l = n + 1 with
 -- tails. The coefficients are data.
-use Rattle.std.specs.Prelude.{ℕ, zero, suc, ◌<◌, ◌≤◌, ◌≡◌, [], ◌∷◌}
+use Rattle.std.specs.Prelude.{ℕ, suc, ◌<◌, ◌≤◌, ◌≡◌, [], ◌∷◌}
 use Rattle.std.proofs.Math.Path.{refl}
 use Rattle.std.proofs.Common.{sym, ◌∙◌, ap, ap₂, arith}
 use Rattle.std.proofs.Math.Decide.{ℕ_discrete}

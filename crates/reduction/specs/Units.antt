@@ -1,7 +1,7 @@
 -- Independent rows: the unit columns have one denominator e in common, no longer than suc (n·δ); and h divides e wherever h divides
 -- U·A for a row of fractions U / f in lowest terms whose f is a multiple of h. That bounds the w of certificates that are found one
 -- by one.
-use Rattle.std.specs.Prelude.{ℕ, zero, suc, ◌<◌, ◌≤◌, min, ◌*◌ as ◌*ₙ◌, ◌≡◌, refl, ◌⊎◌, [], ◌∷◌}
+use Rattle.std.specs.Prelude.{ℕ, suc, ◌<◌, ◌≤◌, min, ◌*◌ as ◌*ₙ◌, ◌≡◌, refl, ◌⊎◌, [], ◌∷◌}
 use Rattle.std.proofs.Common.{sym, ◌∙◌, ap, inl, inr, arith}
 use Rattle.ring.specs.Ring.{Ring, zero_mul}
 use Rattle.ring.specs.Sum.{sum, sum_ext, sum_none, sum_single, sum_assoc}

@@ -1,5 +1,5 @@
 -- The solver on identities of two to nine variables, and an equation from two others.
-use Rattle.std.specs.Prelude.{zero, ◌≡◌, refl, [], ◌∷◌}
+use Rattle.std.specs.Prelude.{◌≡◌, refl, [], ◌∷◌}
 use Rattle.ring.specs.Ring.{Ring}
 use Rattle.ring.specs.Identity.{quotes, identity}
 use Rattle.ring.specs.Combination.{given, combination}

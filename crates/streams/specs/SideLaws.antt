@@ -12,7 +12,7 @@ use Rattle.words.specs.Outcome.{Outcome, refuse, followed_by}
 use Rattle.words.specs.Outcome.Outcome.{accepted, refused}
 use Rattle.words.specs.Systems.{Systems, read_systems, line_of, read_line}
 use Rattle.words.specs.Bytes.{words_of, broken, too_long, read_line_file}
-use Rattle.words.specs.SystemsLaws.{systems_written_of_read}
+use Rattle.words.proofs.SystemsLaws.{systems_written_of_read}
 use Rattle.streams.specs.Side.{zero_digit, nine_digit, digit?, digits_from, number_written, most_side, at_most, side_said, SideWithin}
 use Rattle.streams.specs.declared.side.SideAsked.{SideAsked}
 use Rattle.streams.specs.declared.side.SideAsked.TheVariants as side

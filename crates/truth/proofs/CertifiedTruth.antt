@@ -19,7 +19,7 @@ use Rattle.modular.specs.SizeLaws.{sized}
 use Rattle.modular.specs.DivisionLaws.{division_laws}
 use Rattle.modular.specs.Numbers.{numbers}
 use Rattle.words.specs.System.{System}
-use Rattle.truth.specs.Solution.{AllCanonical, RationalSolution, DividesModulo, Clears, LeastDenominator, column_of, side_of}
+use Rattle.truth.specs.Solution.{AllCanonical, RationalSolution, DividesModulo, Clears, LeastDenominator, side_of}
 use Rattle.truth.specs.Lift.{Proper, ring_of, equations, vector, column_list, side_list, divides_list, divides_lift}
 use Rattle.truth.proofs.Truth.{solves, right_absent}
 use Rattle.truth.proofs.Denominators.{denominator_divides}

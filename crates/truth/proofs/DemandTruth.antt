@@ -11,13 +11,12 @@ use Rattle.words.specs.Certificate.{Certificate, CertificateWithin, certificate_
 use Rattle.words.proofs.CertificateLaws.{certificate_written_of_read}
 use Rattle.words.specs.Certificate.Certificate.{solution, absence}
 use Rattle.words.specs.Pair.{WrittenPair, one_line}
-use Rattle.truth.specs.Solution.{RationalSolution, Denominator, LeastDenominator}
 use Rattle.truth.specs.Right.{Right}
 use Rattle.truth.specs.Verdict.{verdict}
 use Rattle.truth.proofs.Truth.{right_solves, right_denominator, right_least, right_absent}
 use Rattle.truth.proofs.Accepted.{AcceptedWords, words_of_accepted, verdict_of_written, verdict_right}
 use Rattle.truth.proofs.Accepted.{proper, proper_solution, all_canonical}
-use Rattle.truth.specs.Demand.{SolutionTrue, True}
+use Rattle.truth.specs.Demand.{True}
 
 module _ (limits : Limits) where
   pub right_true : (s : System) → SystemWithin limits s → (c : Certificate) → CertificateWithin limits (shape s) c → Right s c

@@ -24,7 +24,7 @@ use Rattle.words.specs.System.{System}
 use Rattle.truth.specs.Solution.{AllCanonical, RationalSolution, Clears, Denominator}
 use Rattle.truth.specs.Lift.{Proper, canonical_at, ring_of, equations, vector, row_list, divides_list, divides_lift}
 use Rattle.truth.specs.Witness
-use Rattle.truth.specs.Fractions.{SameFractions, times_each, LeavesPolynomials}
+use Rattle.truth.specs.Fractions.{SameFractions, LeavesPolynomials}
 
 length_map : (f : List ℕ → List ℕ) (M : List (List ℕ)) → length (map f M) ≡ length M
 length_map f [] = refl

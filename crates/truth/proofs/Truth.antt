@@ -1,7 +1,7 @@
 -- Demand 3's truth, of the definitions, for every prime, every number of rows and columns and every degree: a right solution
 -- certificate gives the least denominator, with a right absence certificate there is no solution, and no system has both.
 use Prim.Native.Nat.{ℕ, ◌<◌}
-use Rattle.std.specs.Prelude.{◌≡◌, length}
+use Rattle.std.specs.Prelude.{◌≡◌}
 use Rattle.std.proofs.Math.Path.{refl, sym, ap}
 use Rattle.std.proofs.Common.{◌∙◌, subst, arith}
 use mathlib.Core.List.{List, [], ◌∷◌}
@@ -9,7 +9,7 @@ use Rattle.std.proofs.Math.ListN.{get_or}
 use Rattle.ring.specs.Ring.{Ring}
 use Rattle.ring.specs.Identity.{quotes, identity}
 use Rattle.ring.specs.Combination.{given, combination}
-use Rattle.algebra.specs.Coefficients.{mul, monic, quotient, gcd}
+use Rattle.algebra.specs.Coefficients.{monic, quotient, gcd}
 use Rattle.algebra.specs.Sized.{Sized, Cancels, cancel_mul, mul_cancel}
 use Rattle.algebra.specs.Divides.{Divides as DividesIn, divides_size}
 use Rattle.algebra.specs.Bezout.{Greatest}
@@ -26,7 +26,7 @@ use Rattle.modular.specs.GcdLaws.{gcd_laws}
 use Rattle.modular.specs.Numbers.{numbers}
 use Rattle.words.specs.System.{System}
 use Rattle.truth.specs.Solution.{AllCanonical, RationalSolution, DividesModulo, Clears, Monic}
-use Rattle.truth.specs.Solution.{Denominator, LeastDenominator, Answer, Answers, column_of, side_of}
+use Rattle.truth.specs.Solution.{Denominator, LeastDenominator, Answer, Answers}
 use Rattle.truth.specs.Solution.Answer.{none, least}
 use Rattle.truth.specs.Right.{RightSolution, RightAbsence, certified}
 use Rattle.truth.specs.Lift.{Proper, canonical_at, ring_of, equations, vector, row_list, column_list, side_list, divides_list}

@@ -2,7 +2,7 @@
 -- verdict accepts and keeps the limits, and that is what the verdict by the narrower limits accepts; its refusals, each under its
 -- condition only; and that the first words decide.
 use Prim.Native.Nat.{ℕ, ◌≤◌, ◌<◌, min}
-use Rattle.std.specs.Prelude.{◌≡◌, ◌↔◌, ◌⊎◌, Bool, length, take, leb}
+use Rattle.std.specs.Prelude.{◌≡◌, ◌↔◌, Bool, length, take, leb}
 use Rattle.std.proofs.Math.Path.{refl, sym, ap}
 use Rattle.std.proofs.Common.{◌∙◌, subst, subst₂, arith, leb-true, leb-false}
 use Rattle.std.proofs.Math.Logic.{inl, inr, ⊎_elim}

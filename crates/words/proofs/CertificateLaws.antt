@@ -12,7 +12,7 @@ use Rattle.words.specs.Word.{kind, payload}
 use Rattle.words.specs.Outcome.Outcome.{accepted}
 use Rattle.words.specs.Reading.{outcome}
 use Rattle.words.specs.Reading.Reading.{read}
-use Rattle.words.specs.Polynomial.{Within, VectorWithin}
+use Rattle.words.specs.Polynomial.{VectorWithin}
 use Rattle.words.specs.System.{Shape, ShapeWithin}
 use Rattle.words.specs.Certificate.{Certificate, Form, CertificateWithin, certificate_form}
 use Rattle.words.specs.Certificate.{certificate_entries, form_word, certificate_words, form_when, certificate_head_from, entry_count}

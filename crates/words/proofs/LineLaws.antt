@@ -13,7 +13,7 @@ use Rattle.words.specs.Limits.{Limits}
 use Rattle.words.specs.Outcome.{Outcome, followed_by, mapped}
 use Rattle.words.specs.Outcome.Outcome.{accepted, refused}
 use Rattle.words.specs.Polynomial.{VectorWithin}
-use Rattle.words.specs.System.{System, shape, SystemWithin, side_entry}
+use Rattle.words.specs.System.{System, SystemWithin, side_entry}
 use Rattle.words.specs.Systems.{Systems, SystemsWithin, systems_entries, read_systems, line, single, line_of, read_line}
 use Rattle.words.specs.Line.{LineIn, LineRefused}
 use Rattle.words.specs.Line.LineRefused.{by_words, no_side}

@@ -1,5 +1,5 @@
 -- Rows of what is put together: of one outcome after another, of a row before another, of what is handed out.
-use Rattle.std.specs.Prelude.{ℕ, suc, ◌≤◌, ◌<◌, ◌≡◌, refl, ◌⊎◌, Bool, true, false, ◌&&◌, length, get_or, leb}
+use Rattle.std.specs.Prelude.{ℕ, suc, ◌≤◌, ◌<◌, ◌≡◌, refl, Bool, true, false, ◌&&◌, length, get_or, leb}
 use Rattle.std.proofs.Common.{sym, ap, ap₂, arith, leb-true}
 use Rattle.std.proofs.Math.Logic.{inl, inr, ⊎_elim}
 use Rattle.std.proofs.Math.Bool.{not}

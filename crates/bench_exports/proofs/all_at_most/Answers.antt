@@ -1,8 +1,5 @@
-use mathlib.Core.Path.{◌≡◌, refl, sym, ◌∙◌}
-use Prim.Native.Nat.{◌-◌, ◌≤◌}
+use mathlib.Core.Path.{refl, sym, ◌∙◌}
 use native.Mathlib.Omega.{arith}
-use lib.ListN.{length, drop}
-use Rattle.bench_exports.specs.Rounds.{all_at_most}
 use Rattle.bench_exports.proofs.Tests.{at_most_turn, at_most_stop, at_most_end}
 use Rattle.bench_exports.proofs.all_at_most.Goals as goal
 

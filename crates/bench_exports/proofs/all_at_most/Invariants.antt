@@ -1,10 +1,8 @@
 -- `bench_exports::all_at_most` meets its contract: what is left to look at decides. Assumes nothing.
-use mathlib.Core.Path.{◌≡◌, refl, sym, ◌∙◌}
+use mathlib.Core.Path.{◌≡◌}
 use Prim.Native.Nat.{◌-◌, ◌≤◌}
-use native.Mathlib.Omega.{arith}
 use lib.ListN.{length, drop}
 use Rattle.bench_exports.specs.Rounds.{all_at_most}
-use Rattle.bench_exports.proofs.Tests.{at_most_turn, at_most_stop, at_most_end}
 use Rattle.bench_exports.proofs.all_at_most.Given as goal
 
 abbrev pub invariant-loop-i : goal.invariant-loop-i

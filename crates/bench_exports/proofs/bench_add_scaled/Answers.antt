@@ -1,11 +1,8 @@
 use mathlib.Core.Path.{refl, sym, ◌∙◌}
-use Prim.Native.Nat.{◌+◌, ◌-◌}
+use Prim.Native.Nat.{◌+◌}
 use native.Mathlib.Omega.{arith}
-use borrow.Author.Rules.{rules}
-use borrow.Author.Tests.{not-true, not-false}
-use lib.ListN.{length}
 use Rattle.bench_exports.specs.Rounds.{allowed, rounds}
-use Rattle.bench_exports.proofs.Rounding.{Rounding, fits, start, sums_fit, turn, end}
+use Rattle.bench_exports.proofs.Rounding.{fits, start, sums_fit, turn, end}
 use Rattle.bench_exports.proofs.bench_add_scaled.Goals as goal
 
 pub shape_of-h-then-not-steps_fit : goal.shape_of-h-then-not-steps_fit

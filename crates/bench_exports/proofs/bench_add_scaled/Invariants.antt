@@ -1,12 +1,7 @@
 -- `bench_exports::bench_add_scaled` meets its contract: before turn t the words have had t steps. Assumes nothing.
-use mathlib.Core.Path.{refl, sym, ◌∙◌}
-use Prim.Native.Nat.{◌+◌, ◌-◌}
-use native.Mathlib.Omega.{arith}
-use borrow.Author.Rules.{rules}
-use borrow.Author.Tests.{not-true, not-false}
+use Prim.Native.Nat.{◌-◌}
 use lib.ListN.{length}
-use Rattle.bench_exports.specs.Rounds.{allowed, rounds}
-use Rattle.bench_exports.proofs.Rounding.{Rounding, fits, start, sums_fit, turn, end}
+use Rattle.bench_exports.proofs.Rounding.{Rounding}
 use Rattle.bench_exports.proofs.bench_add_scaled.Given as goal
 
 abbrev pub invariant-loop-t : goal.invariant-loop-t

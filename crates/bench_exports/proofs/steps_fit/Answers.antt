@@ -1,7 +1,6 @@
 -- `bench_exports::steps_fit` meets its contract: the tests in their order. Assumes nothing.
 use mathlib.Core.Path.{sym, ◌∙◌}
-use borrow.Author.Rules.{rules}
-use borrow.Author.Tests.{lt-leb, le-leb, le-ltb, lt-ltb, not-true, not-false}
+use borrow.Author.Tests.{lt-leb, le-leb, le-ltb, lt-ltb}
 use Rattle.bench_exports.specs.Rounds.{fit}
 use Rattle.bench_exports.proofs.steps_fit.Goals as goal
 

@@ -1,7 +1,5 @@
 -- `bench_exports::words_small` meets its contract: the tests in their order. Assumes nothing.
 use mathlib.Core.Path.{sym, ◌∙◌}
-use borrow.Author.Rules.{rules}
-use borrow.Author.Tests.{not-true, not-false}
 use Rattle.bench_exports.specs.Rounds.{small}
 use Rattle.bench_exports.proofs.words_small.Goals as goal
 

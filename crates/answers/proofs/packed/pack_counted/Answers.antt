@@ -1,7 +1,6 @@
 -- A count or a refusal is packed; what it is read from is the answer.
 use mathlib.Core.Path.{sym, ap, ◌∙◌}
 use native.Mathlib.Omega.{arith}
-use borrow.Author.Rules.{rules}
 use Rattle.answers.specs.Answer.{counted_outcome}
 use Rattle.answers.specs.Packed.{packed}
 use Rattle.answers.proofs.packed.pack_counted.Goals as goal

@@ -3,7 +3,6 @@ use mathlib.Core.Path.{sym, ap, ◌∙◌}
 use native.Mathlib.Omega.{arith}
 use Rattle.answers.specs.Answer.{verdict_outcome}
 use Rattle.answers.specs.Packed.{packed_verdict}
-use borrow.Author.Rules.{rules}
 use Rattle.answers.proofs.packed.pack_verdict.Goals as goal
 
 pub pack-requires : goal.pack-requires

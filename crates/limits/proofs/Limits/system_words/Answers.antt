@@ -3,7 +3,6 @@
 use Prim.Native.Nat.{◌*◌, ◌≤◌}
 use native.Mathlib.Nat.{mul-le-mul}
 use native.Mathlib.Omega.{arith}
-use borrow.Author.Rules.{rules}
 use Rattle.modular.specs.Bits.{most8}
 use Rattle.words.specs.Limits.{Limits}
 use Rattle.limits.specs.Value.{limits_of}

@@ -1,11 +1,7 @@
 -- The loop keeps: all words before i are the same.
 use mathlib.Core.Path.{◌≡◌}
 use Prim.Native.Nat.{ℕ, ◌-◌, ◌<◌, ◌≤◌}
-use native.Mathlib.Omega.{arith}
 use lib.ListN.{get_or}
-use borrow.Author.Count.{below_more}
-use borrow.Author.Rules.{rules}
-use Rattle.polynomial_words.proofs.Compared.{compared_differ, compared_same}
 use Rattle.polynomial_words.proofs.compare.same_words.Given as goal
 
 abbrev pub invariant-loop-i : goal.invariant-loop-i

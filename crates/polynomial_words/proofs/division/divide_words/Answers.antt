@@ -4,7 +4,6 @@ use Prim.Native.Nat.{ℕ, ◌+◌, ◌-◌, ◌<◌, ◌≤◌}
 use native.Mathlib.Nat.{mod-lt, mul-le-mul, mul-le-mul_right}
 use native.Mathlib.Omega.{arith}
 use lib.ListN.{length, get_or, take}
-use borrow.Author.Rules.{rules}
 use Rattle.modular.specs.Canonical.{Canonical}
 use Rattle.modular.specs.LargestPrime.{largest_modulus}
 use Rattle.residue.specs.declared.modulus.Modulus.{Modulus}

@@ -1,6 +1,5 @@
-use Prim.Native.Nat.{◌+◌, ◌-◌}
+use Prim.Native.Nat.{◌+◌}
 use native.Mathlib.Omega.{arith}
-use borrow.Author.Rules.{rules}
 use Rattle.polynomial_words.proofs.Adding.{Adding, adding_start, adding_fits, adding_turn, adding_end}
 use Rattle.polynomial_words.proofs.product.add_rows.Goals as goal
 

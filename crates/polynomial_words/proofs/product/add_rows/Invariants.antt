@@ -1,8 +1,6 @@
 -- The loop keeps an `Adding`: the rows before i are added.
-use Prim.Native.Nat.{◌+◌, ◌-◌}
-use native.Mathlib.Omega.{arith}
-use borrow.Author.Rules.{rules}
-use Rattle.polynomial_words.proofs.Adding.{Adding, adding_start, adding_fits, adding_turn, adding_end}
+use Prim.Native.Nat.{◌-◌}
+use Rattle.polynomial_words.proofs.Adding.{Adding}
 use Rattle.polynomial_words.proofs.product.add_rows.Given as goal
 
 abbrev pub invariant-loop-i : goal.invariant-loop-i

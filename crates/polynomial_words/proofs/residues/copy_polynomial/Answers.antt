@@ -5,7 +5,6 @@ use Prim.Native.Nat.{ℕ, ◌+◌, ◌%◌, ◌≤◌, ◌<◌}
 use native.Mathlib.Nat.{mod-lt, mod-mod}
 use native.Mathlib.Omega.{arith}
 use lib.ListN.{length, get_or}
-use borrow.Author.Rules.{rules}
 use Rattle.residue.specs.Sum.{residue_small}
 use Rattle.vector.specs.Bound.{Reducible}
 use Rattle.vector.specs.Moved.{polynomial_stored}

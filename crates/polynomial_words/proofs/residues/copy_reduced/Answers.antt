@@ -1,9 +1,6 @@
 use mathlib.Core.Path.{sym}
-use Prim.Native.Nat.{◌+◌, ◌-◌, ◌%◌}
 use native.Mathlib.Nat.{zero-add}
-use native.Mathlib.Omega.{arith}
-use lib.ListN.{get_or}
-use Rattle.vector.proofs.Storing.{Storing, storing_start, storing_turn_at, storing_end}
+use Rattle.vector.proofs.Storing.{storing_start, storing_turn_at, storing_end}
 use Rattle.polynomial_words.proofs.residues.copy_reduced.Goals as goal
 
 pub loop-j-init : goal.loop-j-init

@@ -1,11 +1,10 @@
 use mathlib.Core.Path.{sym}
-use Prim.Native.Nat.{ℕ, ◌-◌, ◌*◌, ◌≤◌}
+use Prim.Native.Nat.{ℕ, ◌*◌, ◌≤◌}
 use native.Mathlib.Nat.{mul-le-mul}
 use native.Mathlib.Omega.{arith}
-use borrow.Author.Rules.{rules}
 use Rattle.modular.specs.Primality.{true_of_prime}
 use Rattle.modular.specs.Bits.{bound8, most8, most16}
-use Rattle.residue.specs.Primality.{Undivided, undivided_suc, false_of_composite, prime_of_root, composite_of_root}
+use Rattle.residue.specs.Primality.{undivided_suc, false_of_composite, prime_of_root, composite_of_root}
 use Rattle.residue.proofs.prime.is_prime.Goals as goal
 
 -- the square root of a number of 16 bits has 8

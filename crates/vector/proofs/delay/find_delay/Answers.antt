@@ -1,9 +1,7 @@
 use mathlib.Core.Path.{◌≡◌, ◌∙◌}
-use Prim.Native.Nat.{◌+◌, ◌-◌, ◌≤◌}
+use Prim.Native.Nat.{◌+◌}
 use native.Mathlib.Omega.{arith}
-use borrow.Author.Tests.{eqb-true, eqb-false}
-use borrow.Author.Rules.{rules}
-use lib.ListN.{length, drop, get_or}
+use lib.ListN.{drop}
 use Rattle.modular.specs.Delay.{delay}
 use Rattle.modular.proofs.DelayLaws.{delay_zero, delay_nonzero, delay_end}
 use Rattle.vector.proofs.delay.find_delay.Goals as goal

@@ -1,13 +1,9 @@
 -- `vector::delay::find_delay` meets its contract: in the loop, the factors x are the k that were counted and those from place k on.
 -- Assumes nothing.
-use mathlib.Core.Path.{◌≡◌, ◌∙◌}
+use mathlib.Core.Path.{◌≡◌}
 use Prim.Native.Nat.{◌+◌, ◌-◌, ◌≤◌}
-use native.Mathlib.Omega.{arith}
-use borrow.Author.Tests.{eqb-true, eqb-false}
-use borrow.Author.Rules.{rules}
-use lib.ListN.{length, drop, get_or}
+use lib.ListN.{length, drop}
 use Rattle.modular.specs.Delay.{delay}
-use Rattle.modular.proofs.DelayLaws.{delay_zero, delay_nonzero, delay_end}
 use Rattle.vector.proofs.delay.find_delay.Given as goal
 
 abbrev pub invariant-loop-k : goal.invariant-loop-k

@@ -1,10 +1,8 @@
 use mathlib.Core.Path.{◌≡◌, refl, sym, ap, ◌∙◌}
-use Prim.Native.Nat.{◌+◌, ◌-◌, ◌≤◌}
+use Prim.Native.Nat.{◌+◌, ◌-◌}
 use native.Mathlib.Omega.{arith}
-use borrow.Author.Tests.{eqb-true}
 use lib.ListN.{length}
 use Rattle.algebra.specs.Coefficients.{leading}
-use Rattle.vector.specs.Reduced.{polynomial}
 use Rattle.vector.specs.Row.{reduced_take_row}
 use Rattle.vector.specs.RowStored.{row_words}
 use Rattle.vector.proofs.leading.find_leading.Goals as goal

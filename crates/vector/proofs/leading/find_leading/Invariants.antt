@@ -1,13 +1,7 @@
 -- `vector::leading::find_leading` meets its contract: in the loop, what lies from k on is 0 modulo p. Assumes nothing.
-use mathlib.Core.Path.{◌≡◌, refl, sym, ap, ◌∙◌}
-use Prim.Native.Nat.{◌+◌, ◌-◌, ◌≤◌}
-use native.Mathlib.Omega.{arith}
-use borrow.Author.Tests.{eqb-true}
-use lib.ListN.{length}
-use Rattle.algebra.specs.Coefficients.{leading}
+use mathlib.Core.Path.{◌≡◌}
+use Prim.Native.Nat.{◌≤◌}
 use Rattle.vector.specs.Reduced.{polynomial}
-use Rattle.vector.specs.Row.{reduced_take_row}
-use Rattle.vector.specs.RowStored.{row_words}
 use Rattle.vector.proofs.leading.find_leading.Given as goal
 
 abbrev pub invariant-loop-k : goal.invariant-loop-k

@@ -4,7 +4,6 @@ use native.Mathlib.Omega.{arith}
 use lib.ListN.{length, get_or}
 use Rattle.algebra.specs.Coefficients.{leading}
 use Rattle.modular.specs.Modulo.{modulo}
-use Rattle.vector.specs.Reduced.{polynomial}
 use Rattle.vector.specs.Size.{reduced_take_none, reduced_take_zero, size_take, leading_take}
 use Rattle.vector.proofs.leading.find_leading_near.Goals as goal
 

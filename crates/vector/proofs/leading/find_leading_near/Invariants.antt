@@ -1,12 +1,7 @@
 -- `vector::leading::find_leading_near` meets its contract: what lies from k on is 0 modulo p. Assumes nothing.
-use mathlib.Core.Path.{◌≡◌, refl, sym, ap, ◌∙◌}
-use Prim.Native.Nat.{◌+◌, ◌-◌, ◌%◌, ◌≤◌}
-use native.Mathlib.Omega.{arith}
-use lib.ListN.{length, get_or}
-use Rattle.algebra.specs.Coefficients.{leading}
-use Rattle.modular.specs.Modulo.{modulo}
+use mathlib.Core.Path.{◌≡◌}
+use Prim.Native.Nat.{◌≤◌}
 use Rattle.vector.specs.Reduced.{polynomial}
-use Rattle.vector.specs.Size.{reduced_take_none, reduced_take_zero, size_take, leading_take}
 use Rattle.vector.proofs.leading.find_leading_near.Given as goal
 
 abbrev pub invariant-loop-k : goal.invariant-loop-k

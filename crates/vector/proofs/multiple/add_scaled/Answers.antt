@@ -1,9 +1,7 @@
-use mathlib.Core.List.{List}
-use Prim.Native.Nat.{ℕ, ◌-◌}
 use native.Mathlib.Omega.{arith}
-use Rattle.vector.specs.Multiple.{sum_at, gains_multiple}
+use Rattle.vector.specs.Multiple.{gains_multiple}
 use Rattle.vector.specs.RowStored.{row_words}
-use Rattle.vector.proofs.Storing.{Storing, storing_start, storing_turn, storing_end}
+use Rattle.vector.proofs.Storing.{storing_start, storing_turn, storing_end}
 use Rattle.vector.proofs.Sums.{next_sum, next_fits, row_fits, row_stored_lem}
 use Rattle.vector.proofs.multiple.add_scaled.Goals as goal
 

@@ -1,11 +1,8 @@
 -- `vector::multiple::add_scaled` meets its contract: before turn j the first j sums are stored. Assumes nothing.
 use mathlib.Core.List.{List}
 use Prim.Native.Nat.{ℕ, ◌-◌}
-use native.Mathlib.Omega.{arith}
-use Rattle.vector.specs.Multiple.{sum_at, gains_multiple}
-use Rattle.vector.specs.RowStored.{row_words}
-use Rattle.vector.proofs.Storing.{Storing, storing_start, storing_turn, storing_end}
-use Rattle.vector.proofs.Sums.{next_sum, next_fits, row_fits, row_stored_lem}
+use Rattle.vector.specs.Multiple.{sum_at}
+use Rattle.vector.proofs.Storing.{Storing}
 use Rattle.vector.proofs.multiple.add_scaled.Given as goal
 
 abbrev pub invariant-loop-j : goal.invariant-loop-j

@@ -1,6 +1,5 @@
 -- `vector::or::or_of_row` meets its contract. Assumes nothing.
 use mathlib.Core.Path.{ap₂}
-use native.Mathlib.Omega.{arith}
 use lib.Bits.{bit_or}
 use Rattle.vector.proofs.or.or_of_row.Goals as goal
 

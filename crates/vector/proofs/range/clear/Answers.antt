@@ -1,7 +1,5 @@
 use mathlib.Core.Path.{refl}
-use Prim.Native.Nat.{◌-◌}
-use native.Mathlib.Omega.{arith}
-use Rattle.vector.proofs.Storing.{Storing, storing_start, storing_turn, storing_end}
+use Rattle.vector.proofs.Storing.{storing_start, storing_turn, storing_end}
 use Rattle.vector.proofs.range.clear.Goals as goal
 
 pub loop-j-init : goal.loop-j-init

@@ -1,8 +1,6 @@
 -- `vector::range::clear` meets its contract: before turn j the first j words are 0. Assumes nothing.
-use mathlib.Core.Path.{refl}
 use Prim.Native.Nat.{◌-◌}
-use native.Mathlib.Omega.{arith}
-use Rattle.vector.proofs.Storing.{Storing, storing_start, storing_turn, storing_end}
+use Rattle.vector.proofs.Storing.{Storing}
 use Rattle.vector.proofs.range.clear.Given as goal
 
 abbrev pub invariant-loop-j : goal.invariant-loop-j

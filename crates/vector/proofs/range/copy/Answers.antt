@@ -1,8 +1,5 @@
 use mathlib.Core.Path.{refl}
-use Prim.Native.Nat.{◌+◌, ◌-◌}
-use native.Mathlib.Omega.{arith}
-use lib.ListN.{get_or}
-use Rattle.vector.proofs.Storing.{Storing, storing_start, storing_turn, storing_end}
+use Rattle.vector.proofs.Storing.{storing_start, storing_turn, storing_end}
 use Rattle.vector.proofs.range.copy.Goals as goal
 
 pub loop-j-init : goal.loop-j-init

@@ -1,9 +1,7 @@
 -- `vector::range::copy` meets its contract: before turn j the first j words are copied. Assumes nothing.
-use mathlib.Core.Path.{refl}
 use Prim.Native.Nat.{◌+◌, ◌-◌}
-use native.Mathlib.Omega.{arith}
 use lib.ListN.{get_or}
-use Rattle.vector.proofs.Storing.{Storing, storing_start, storing_turn, storing_end}
+use Rattle.vector.proofs.Storing.{Storing}
 use Rattle.vector.proofs.range.copy.Given as goal
 
 abbrev pub invariant-loop-j : goal.invariant-loop-j

@@ -1,9 +1,7 @@
 use mathlib.Core.Path.{sym, ap, ◌∙◌}
-use Prim.Native.Nat.{ℕ, ◌+◌, ◌-◌, ◌%◌}
+use Prim.Native.Nat.{ℕ, ◌%◌}
 use native.Mathlib.Nat.{zero-add}
-use native.Mathlib.Omega.{arith}
-use lib.ListN.{get_or}
-use Rattle.vector.proofs.Storing.{Storing, storing_start, storing_end}
+use Rattle.vector.proofs.Storing.{storing_start, storing_end}
 use Rattle.vector.proofs.Storing.{storing_reads, storing_reads_at, storing_turn, storing_turn_at}
 use Rattle.vector.proofs.range.exchange.Goals as goal
 

@@ -1,11 +1,7 @@
 -- `vector::range::exchange` meets its contract: before turn j the first j words have changed places. Assumes nothing.
-use mathlib.Core.Path.{sym, ap, ◌∙◌}
-use Prim.Native.Nat.{ℕ, ◌+◌, ◌-◌, ◌%◌}
-use native.Mathlib.Nat.{zero-add}
-use native.Mathlib.Omega.{arith}
+use Prim.Native.Nat.{◌+◌, ◌-◌, ◌%◌}
 use lib.ListN.{get_or}
-use Rattle.vector.proofs.Storing.{Storing, storing_start, storing_end}
-use Rattle.vector.proofs.Storing.{storing_reads, storing_reads_at, storing_turn, storing_turn_at}
+use Rattle.vector.proofs.Storing.{Storing}
 use Rattle.vector.proofs.range.exchange.Given as goal
 
 abbrev pub invariant-loop-j : goal.invariant-loop-j

@@ -1,9 +1,7 @@
 use mathlib.Core.Path.{sym, ap, ◌∙◌}
-use Prim.Native.Nat.{ℕ, ◌-◌, ◌%◌}
+use Prim.Native.Nat.{ℕ, ◌%◌}
 use native.Mathlib.Nat.{zero-add}
-use native.Mathlib.Omega.{arith}
-use lib.ListN.{get_or}
-use Rattle.vector.proofs.Storing.{Storing, storing_start, storing_reads_at, storing_turn_at, storing_end}
+use Rattle.vector.proofs.Storing.{storing_start, storing_reads_at, storing_turn_at, storing_end}
 use Rattle.vector.proofs.range.reduce_range.Goals as goal
 
 pub loop-j-init : goal.loop-j-init

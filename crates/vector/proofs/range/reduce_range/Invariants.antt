@@ -1,10 +1,7 @@
 -- `vector::range::reduce_range` meets its contract: before turn j the first j words are reduced. Assumes nothing.
-use mathlib.Core.Path.{sym, ap, ◌∙◌}
-use Prim.Native.Nat.{ℕ, ◌-◌, ◌%◌}
-use native.Mathlib.Nat.{zero-add}
-use native.Mathlib.Omega.{arith}
+use Prim.Native.Nat.{◌-◌, ◌%◌}
 use lib.ListN.{get_or}
-use Rattle.vector.proofs.Storing.{Storing, storing_start, storing_reads_at, storing_turn_at, storing_end}
+use Rattle.vector.proofs.Storing.{Storing}
 use Rattle.vector.proofs.range.reduce_range.Given as goal
 
 abbrev pub invariant-loop-j : goal.invariant-loop-j

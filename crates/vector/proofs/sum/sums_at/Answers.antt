@@ -1,7 +1,6 @@
 -- `vector::sum::sums_at` meets its contract. Assumes nothing.
-use Prim.Native.Nat.{ℕ, ◌<◌}
 use native.Mathlib.Omega.{arith}
-use Rattle.vector.specs.Sum.{SumFits, each_fits}
+use Rattle.vector.specs.Sum.{each_fits}
 use Rattle.vector.proofs.sum.sums_at.Goals as goal
 
 pub sum_at-requires : goal.sum_at-requires

@@ -1,7 +1,6 @@
 -- 1 times g is g.
 use mathlib.Core.Path.{ap}
 use native.Mathlib.Omega.{arith}
-use borrow.Author.Rules.{rules}
 use Rattle.algebra.specs.Coefficients.{add}
 use Rattle.modular.specs.Modulo.{modulo}
 use Rattle.polynomial.specs.Value.{represents_is}

@@ -1,6 +1,5 @@
 -- The words are copied to zeros and reduced; `Residues` says that this gives the value.
 use native.Mathlib.Omega.{arith}
-use borrow.Author.Rules.{rules}
 use Rattle.polynomial.proofs.Residues.{represents_words}
 use Rattle.polynomial.proofs.value.Polynomial.from_words.Goals as goal
 

@@ -1,5 +1,4 @@
 -- The coefficient 1, zeros behind it.
-use borrow.Author.Rules.{rules}
 use Rattle.polynomial.proofs.Made.{represents_one}
 use Rattle.polynomial.proofs.value.Polynomial.one.Goals as goal
 

@@ -3,7 +3,6 @@ use mathlib.Core.Path.{ap}
 use mathlib.Core.List.{List}
 use Prim.Native.Nat.{ℕ}
 use native.Mathlib.Omega.{arith}
-use borrow.Author.Rules.{rules}
 use Rattle.algebra.specs.Coefficients.{add, scale}
 use Rattle.modular.specs.Modulo.{modulo}
 use Rattle.polynomial.specs.Value.{coefficients_of, represents_is}

@@ -1,6 +1,5 @@
 -- p - 1 times g is -g.
 use native.Mathlib.Omega.{arith}
-use borrow.Author.Rules.{rules}
 use Rattle.polynomial.specs.Value.{represents_is}
 use Rattle.polynomial.proofs.Multiple.{subtract_is}
 use Rattle.polynomial.proofs.value.Polynomial.subtract.Goals as goal

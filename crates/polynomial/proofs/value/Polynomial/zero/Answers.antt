@@ -1,5 +1,4 @@
 -- No coefficients, zeros behind them.
-use borrow.Author.Rules.{rules}
 use Rattle.polynomial.proofs.Made.{represents_zero}
 use Rattle.polynomial.proofs.value.Polynomial.zero.Goals as goal
 

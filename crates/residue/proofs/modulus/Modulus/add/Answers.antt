@@ -1,5 +1,4 @@
 -- The sum is below 2p.
-use borrow.Author.Rules.{rules}
 use Rattle.modular.specs.Modulo.{modulo}
 use Rattle.residue.proofs.modulus.Modulus.add.Goals as goal
 

@@ -1,6 +1,5 @@
 -- The needs are laws of Barrett's step at x.
 use native.Mathlib.Omega.{arith}
-use borrow.Author.Rules.{rules}
 use Rattle.residue.proofs.Barrett.{shift_short, multiple_low, barrett_step}
 use Rattle.residue.proofs.Remainder.{product_short}
 use Rattle.residue.proofs.modulus.Modulus.barrett_step.Goals as goal

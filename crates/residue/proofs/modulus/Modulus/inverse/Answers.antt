@@ -1,7 +1,7 @@
 use native.Mathlib.Nat.{mod-lt, div-le_self}
 use native.Mathlib.Omega.{arith}
 use Rattle.modular.specs.Modulo.{modulo}
-use Rattle.residue.proofs.Descent.{Descent, descent_start, cofactor_below, descent_turn, descent_end}
+use Rattle.residue.proofs.Descent.{descent_start, cofactor_below, descent_turn, descent_end}
 use Rattle.residue.proofs.modulus.Modulus.inverse.Goals as goal
 
 pub loop-rest-init : goal.loop-rest-init

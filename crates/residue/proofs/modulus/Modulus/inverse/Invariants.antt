@@ -1,8 +1,5 @@
 -- The invariant: the inverse of a is `factor` times the inverse of `rest`.
-use native.Mathlib.Nat.{mod-lt, div-le_self}
-use native.Mathlib.Omega.{arith}
-use Rattle.modular.specs.Modulo.{modulo}
-use Rattle.residue.proofs.Descent.{Descent, descent_start, cofactor_below, descent_turn, descent_end}
+use Rattle.residue.proofs.Descent.{Descent}
 use Rattle.residue.proofs.modulus.Modulus.inverse.Given as goal
 
 abbrev pub invariant-loop-rest : goal.invariant-loop-rest

@@ -1,10 +1,6 @@
 -- The invariant: scale is 2^shift, and its double at most p.
-use mathlib.Core.Path.{◌≡◌, refl, ap}
-use Prim.Native.Nat.{ℕ, ◌-◌, ◌*◌, ◌/◌, ◌^◌, ◌≤◌}
-use native.Mathlib.Omega.{arith}
-use lib.Pow.{pow_pos, pow-add}
-use Rattle.modular.specs.Bits.{bound32}
-use Rattle.residue.proofs.Barrett.{shift_limit}
+use mathlib.Core.Path.{◌≡◌}
+use Prim.Native.Nat.{◌-◌, ◌*◌, ◌^◌, ◌≤◌}
 use Rattle.residue.proofs.modulus.Modulus.new.Given as goal
 
 abbrev pub invariant-loop-scale : goal.invariant-loop-scale

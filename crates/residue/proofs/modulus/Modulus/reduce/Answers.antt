@@ -1,6 +1,5 @@
 -- What is left of x, wrapped.
 use mathlib.Core.Path.{◌∙◌}
-use borrow.Author.Rules.{rules}
 use Rattle.residue.proofs.modulus.Modulus.reduce.Goals as goal
 
 pub wrap-requires : goal.wrap-requires

@@ -1,6 +1,5 @@
 -- The needs are laws of the number that is wrapped.
 use native.Mathlib.Omega.{arith}
-use borrow.Author.Rules.{rules}
 use Rattle.residue.proofs.Remainder.{product_short}
 use Rattle.residue.proofs.Wrap.{wrapped}
 use Rattle.residue.proofs.modulus.Modulus.wrap.Goals as goal
