@@ -2,22 +2,15 @@
 use Rattle.std.specs.Prelude.{◌≡◌, List, [], length, get_or}
 use Rattle.std.proofs.Math.Path.{refl, sym, ap}
 use Rattle.std.proofs.Common.{◌∙◌, add-one, arith}
-use Prim.Native.Nat.{ℕ, zero, suc, ◌+◌, ◌-◌, ◌*◌, ◌<◌}
-use Rattle.algebra.specs.Coefficients.{add, mul, divide, remainder}
+use Prim.Native.Nat.{ℕ, zero, suc, ◌+◌, ◌<◌}
+use Rattle.algebra.specs.Coefficients.{add, divide, remainder}
 use Rattle.modular.specs.Prime.{Prime}
 use Rattle.modular.specs.Modulo.{modulo}
 use Rattle.modular.specs.Canonical.{Canonical}
-use Rattle.modular.specs.Delay.{degree}
 use Rattle.modular.specs.Closed.{canonical_nil, canonical_add, canonical_mul, canonical_remainder}
 use Rattle.modular.specs.Lists.{length_remainder, remainder_short, remainder_add}
-use Rattle.words.specs.Limits.{office}
 use Rattle.words.specs.System.{System, entry}
-use Rattle.vector.specs.Bound.{AtMost}
-use Rattle.vector.specs.Reduced.{polynomial}
-use Rattle.truth.specs.Solution.{total_modulo, column_of}
-use Rattle.loader.specs.Slot.{SlotFilled}
-use Rattle.loader.specs.Widths.{system_width}
-use Rattle.check_conditions.specs.declared.dimensions.Dimensions.{Dimensions}
+use Rattle.truth.specs.Solution.{total_modulo}
 use Rattle.check_conditions.specs.Walk.{column_term, column_so_far, take_along, carried_after, TakesRow, Carries}
 
 -- ---- "What is carried is shown to be, after every row, the remainder by w of the sum of products so far."

@@ -1,16 +1,11 @@
 -- One walk over a product (document 02, item 3): "one pass down each column, taking the remainder along as the sum grows". What is
 -- carried of a column of Z·A, that it is the remainder by w of the sum of products so far, and the words that it stands in.
 use Rattle.std.specs.Prelude.{◌≡◌, List, [], length, get_or}
-use Rattle.std.proofs.Math.Path.{refl, sym, ap}
-use Rattle.std.proofs.Common.{◌∙◌, add-one, arith}
+use Rattle.std.proofs.Math.Path.{refl}
 use Prim.Native.Nat.{ℕ, zero, suc, ◌+◌, ◌-◌, ◌*◌, ◌<◌}
 use Rattle.algebra.specs.Coefficients.{add, mul, divide, remainder}
-use Rattle.modular.specs.Prime.{Prime}
 use Rattle.modular.specs.Modulo.{modulo}
-use Rattle.modular.specs.Canonical.{Canonical}
 use Rattle.modular.specs.Delay.{degree}
-use Rattle.modular.specs.Closed.{canonical_nil, canonical_add, canonical_mul, canonical_remainder}
-use Rattle.modular.specs.Lists.{length_remainder, remainder_short, remainder_add}
 use Rattle.words.specs.Limits.{office}
 use Rattle.words.specs.System.{System, entry}
 use Rattle.vector.specs.Bound.{AtMost}

@@ -2,7 +2,7 @@
 use Rattle.std.specs.Prelude.{ℕ, ◌≡◌, List}
 use Rattle.std.proofs.Math.Path.{ap}
 use Rattle.std.proofs.Common.{◌∙◌, subst}
-use Rattle.modular.specs.Delay.{degree, delay, undelayed, feedback}
+use Rattle.modular.specs.Delay.{delay, undelayed, feedback}
 use Rattle.words.specs.Limits.{Limits}
 use Rattle.words.specs.LimitsLaws.{LimitsFit}
 use Rattle.words.specs.Outcome.Outcome.{accepted}
@@ -10,19 +10,17 @@ use Rattle.words.specs.System.{System}
 use Rattle.words.specs.Certificate.{Certificate}
 use Rattle.words.specs.Bytes.{read_line_file}
 use Rattle.words.proofs.LineFileLaws.{line_file_within}
-use Rattle.truth.specs.Solution.{RationalSolution, LeastDenominator, Answer, Answers}
+use Rattle.truth.specs.Solution.{Answer, Answers}
 use Rattle.truth.specs.Solution.Answer.{none, least}
 use Rattle.truth.specs.Lift.{Proper}
 use Rattle.truth.proofs.Truth.{answer_unique}
 use Rattle.truth.proofs.Accepted.{proper}
 use Rattle.truth.specs.Demand.{True}
-use Rattle.truth.specs.Feedback.{TakenOut, LeastOfEither}
 use Rattle.truth.proofs.FeedbackLaws.{taken_out, monic_nonzero, answer_least}
 use Rattle.solve_meaning.specs.Answers.{answer_of, true_answers}
-use Rattle.report_text.specs.Ascii.{ascii}
-use Rattle.report_text.specs.Text.{solution_text, report_text}
+use Rattle.report_text.specs.Text.{report_text}
 use Rattle.report.specs.Reporting.{Reports, ReportOf}
-use Rattle.report.specs.LeastReported.{LeastReported, ReportSays}
+use Rattle.report.specs.LeastReported.{ReportSays}
 
 module _ (s : System) (P : Proper s) (text : List ℕ) (reports : Reports (accepted s) text) where
   by_answer : (a : Answer) → Answers s a → text ≡ report_text (accepted a) → ReportSays s text

@@ -4,11 +4,9 @@ use Rattle.std.proofs.Common.{arith, length-append}
 use Rattle.std.proofs.Math.Decide.{dec_lt}
 use Rattle.modular.specs.LargestPrime.{largest_modulus}
 use Rattle.modular.specs.Canonical.{Canonical}
-use Rattle.modular.specs.Bits.{bound8, bound64}
 use Rattle.modular.specs.Delay.{delay, feedback}
 use Rattle.modular.proofs.DelayLaws.{length_undelayed}
 use Rattle.words.specs.Limits.{Limits, office}
-use Rattle.words.specs.Polynomial.{Within}
 use Rattle.words.specs.Outcome.{Outcome}
 use Rattle.words.specs.Outcome.Outcome.{accepted, refused}
 use Rattle.truth.specs.Solution.{Answer}

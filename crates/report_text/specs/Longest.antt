@@ -1,21 +1,13 @@
 -- How long a report can be, so that whoever lends bytes for one knows how many suffice.
-use Rattle.std.specs.Prelude.{ℕ, zero, suc, ◌+◌, ◌-◌, ◌*◌, ◌≤◌, ◌<◌, ◌≡◌, refl, List, [], ◌∷◌, map, length, replicate}
-use Rattle.std.proofs.Common.{arith, length-append}
-use Rattle.std.proofs.Math.Decide.{dec_lt}
+use Rattle.std.specs.Prelude.{ℕ, ◌+◌, ◌*◌, ◌≤◌, ◌<◌, List}
 use Rattle.modular.specs.LargestPrime.{largest_modulus}
-use Rattle.modular.specs.Canonical.{Canonical}
 use Rattle.modular.specs.Bits.{bound8, bound64}
-use Rattle.modular.specs.Delay.{delay, feedback}
-use Rattle.modular.proofs.DelayLaws.{length_undelayed}
-use Rattle.words.specs.Limits.{Limits, office}
+use Rattle.words.specs.Limits.{Limits}
 use Rattle.words.specs.Polynomial.{Within}
 use Rattle.words.specs.Outcome.{Outcome}
 use Rattle.words.specs.Outcome.Outcome.{accepted, refused}
 use Rattle.truth.specs.Solution.{Answer}
 use Rattle.truth.specs.Solution.Answer.{none, least}
-use Rattle.report_text.specs.Decimal.{decimal}
-use Rattle.report_text.specs.DecimalLaws.{decimal_length}
-use Rattle.report_text.specs.Text.{all_spaced, denominator_line, feedback_line, solution_text, report_text}
 
 -- a denominator modulo some p up to the largest
 pub record DenominatorWithin (limits : Limits) (d : List ℕ) : Type 0 where

@@ -28,7 +28,6 @@ use Rattle.solve_lattice.specs.Range.{words_upper, words_lower, zero_word}
 use Rattle.residue.specs.Sum.{SmallSum, sum_fits}
 use Rattle.solve_lattice.specs.Room.{product_words, block_words, tail_words}
 use Rattle.solve_lattice.proofs.Stepping.{cancelled}
-use Rattle.solve_descent.specs.Product.{less}
 use Rattle.solve_descent.specs.Kernel.{ValidKernel, Lessened, TakesKernel}
 use Rattle.solve_descent.proofs.Products.{product_most}
 

@@ -1,6 +1,6 @@
 -- A level copied with tails 0, in the terms of `solve_lattice` and `reduction`: it is in order, and holds the same slots with tails
 -- 0.
-use Rattle.std.specs.Prelude.{ℕ, ◌+◌, ◌-◌, ◌*◌, ◌/◌, ◌%◌, ◌<◌, ◌≤◌, ◌≡◌, ◌⊎◌, length, get_or}
+use Rattle.std.specs.Prelude.{ℕ, ◌+◌, ◌*◌, ◌/◌, ◌%◌, ◌<◌, ◌≤◌, ◌≡◌, ◌⊎◌, length, get_or}
 use Rattle.std.proofs.Common.{sym, ◌∙◌, ap, subst, inl, inr, ⊎_elim, mod-eq_of_lt, arith}
 use Rattle.std.proofs.Math.Nat.{zero-mod}
 use Rattle.algebra.specs.Polynomial.{Polynomial, polynomials, coefficients_zero}

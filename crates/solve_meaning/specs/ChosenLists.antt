@@ -27,7 +27,6 @@ use Rattle.reduction.specs.Polynomials.{euclidean}
 use Rattle.reduction.specs.Certificate.{RightSolutionIn, RightAbsenceIn}
 use Rattle.reduction.specs.Numerators.{ReducedNumerators}
 use Rattle.reduction.specs.Certifying.{Certifying}
-use Rattle.reduction.specs.Certifying
 use Rattle.reduction.specs.Killing.{Killing}
 use Rattle.words.specs.Limits.{Limits}
 use Rattle.words.specs.System.{System, SystemWithin}

@@ -1,9 +1,8 @@
-use Prim.Native.Nat.{◌+◌, ◌-◌, ◌*◌, ◌≤◌}
+use Prim.Native.Nat.{◌+◌, ◌*◌}
 use mathlib.Core.Path.{◌≡◌}
 use native.Mathlib.Nat.{mul-le-mul}
 use native.Mathlib.Omega.{arith}
-use borrow.Author.Rules.{rules}
-use Rattle.solve_layout.specs.Matrix.{matrix_slot, ColumnsStored, columns_start, columns_turn, columns_end}
+use Rattle.solve_layout.specs.Matrix.{matrix_slot, columns_start, columns_turn, columns_end}
 use Rattle.solve_layout.proofs.lay_area.Goals as goal
 
 pub loop-j-init : goal.loop-j-init

@@ -1,10 +1,6 @@
 -- The loop keeps a `ColumnsStored`: the columns before j are laid out.
-use Prim.Native.Nat.{◌+◌, ◌-◌, ◌*◌, ◌≤◌}
-use mathlib.Core.Path.{◌≡◌}
-use native.Mathlib.Nat.{mul-le-mul}
-use native.Mathlib.Omega.{arith}
-use borrow.Author.Rules.{rules}
-use Rattle.solve_layout.specs.Matrix.{matrix_slot, ColumnsStored, columns_start, columns_turn, columns_end}
+use Prim.Native.Nat.{◌-◌, ◌≤◌}
+use Rattle.solve_layout.specs.Matrix.{ColumnsStored}
 use Rattle.solve_layout.proofs.lay_area.Given as goal
 
 abbrev pub invariant-loop-j : goal.invariant-loop-j

@@ -1,6 +1,5 @@
 use native.Mathlib.Omega.{arith}
-use borrow.Author.Rules.{rules}
-use Rattle.division.proofs.Remainders.{Descending, descending_start, descending_turn, descending_less, descending_end}
+use Rattle.division.proofs.Remainders.{descending_start, descending_turn, descending_less, descending_end}
 use Rattle.division.proofs.euclid.gcd.Goals as goal
 
 pub loop-b-init : goal.loop-b-init

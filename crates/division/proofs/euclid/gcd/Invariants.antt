@@ -1,7 +1,5 @@
 -- The loop keeps a `Descending`; its measure is the size of the second polynomial.
-use native.Mathlib.Omega.{arith}
-use borrow.Author.Rules.{rules}
-use Rattle.division.proofs.Remainders.{Descending, descending_start, descending_turn, descending_less, descending_end}
+use Rattle.division.proofs.Remainders.{Descending}
 use Rattle.division.proofs.euclid.gcd.Given as goal
 
 abbrev pub invariant-loop-b : goal.invariant-loop-b

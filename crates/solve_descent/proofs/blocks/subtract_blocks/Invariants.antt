@@ -1,16 +1,9 @@
 -- The loop keeps a `TakesCombination`: the slots before q are done.
-use Prim.Native.Nat.{◌+◌, ◌-◌, ◌*◌, ◌≤◌}
-use mathlib.Core.Path.{◌≡◌, sym, subst}
-use native.Mathlib.Nat.{le_of_eq}
-use native.Mathlib.Omega.{arith}
-use borrow.Author.Rules.{rules}
-use lib.ListN.{length}
+use Prim.Native.Nat.{◌-◌, ◌*◌, ◌≤◌}
 use Rattle.solve_lattice.specs.Memory.{slot_size}
 use Rattle.solve_lattice.specs.Room.{product_words, slot_words, lanes}
 use Rattle.solve_descent.specs.Combination.{TakesCombination}
 use Rattle.solve_descent.specs.Blocks.{block_terms}
-use Rattle.solve_descent.proofs.Combinations.{combination_start, combination_small, combination_turn}
-use Rattle.solve_descent.proofs.TermLaws.{terms_are, terms_room, terms_fit}
 use Rattle.solve_descent.proofs.blocks.subtract_blocks.Given as goal
 
 abbrev pub invariant-loop-q : goal.invariant-loop-q

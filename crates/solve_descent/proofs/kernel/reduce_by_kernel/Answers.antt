@@ -11,7 +11,7 @@ use Rattle.residue.specs.Modulus.{ValidModulus}
 use Rattle.residue.specs.Below.{inverse_below}
 use Rattle.solve_lattice.specs.Room.{block_words, tail_words}
 use Rattle.solve_descent.specs.Kernel.{ValidKernel}
-use Rattle.solve_descent.proofs.Kernels.{Reducing, kernel_start, kernel_none, kernel_end}
+use Rattle.solve_descent.proofs.Kernels.{kernel_start, kernel_none, kernel_end}
 use Rattle.solve_descent.proofs.Kernels.{kernel_room, factor_below, kernel_sum, kernel_turn, kernel_skip, kernel_zero}
 use Rattle.solve_descent.proofs.kernel.reduce_by_kernel.Goals as goal
 

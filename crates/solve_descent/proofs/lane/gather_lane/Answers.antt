@@ -1,9 +1,5 @@
 use mathlib.Core.Path.{refl}
-use Prim.Native.Nat.{◌+◌, ◌-◌, ◌*◌}
-use native.Mathlib.Omega.{arith}
-use lib.ListN.{get_or}
-use Rattle.vector.proofs.Storing.{Storing, storing_start, storing_turn, storing_end}
-use Rattle.solve_lattice.specs.Room.{lanes, block_words}
+use Rattle.vector.proofs.Storing.{storing_start, storing_turn, storing_end}
 use Rattle.solve_descent.proofs.lane.gather_lane.Goals as goal
 
 pub loop-e-init : goal.loop-e-init

@@ -1,9 +1,7 @@
 -- The loop keeps a `Storing`: one word a turn.
-use mathlib.Core.Path.{refl}
 use Prim.Native.Nat.{◌+◌, ◌-◌, ◌*◌}
-use native.Mathlib.Omega.{arith}
 use lib.ListN.{get_or}
-use Rattle.vector.proofs.Storing.{Storing, storing_start, storing_turn, storing_end}
+use Rattle.vector.proofs.Storing.{Storing}
 use Rattle.solve_lattice.specs.Room.{lanes, block_words}
 use Rattle.solve_descent.proofs.lane.gather_lane.Given as goal
 

@@ -1,10 +1,9 @@
-use Prim.Native.Nat.{◌-◌, ◌<◌}
+use Prim.Native.Nat.{◌<◌}
 use mathlib.Core.Path.{sym, ◌∙◌, ap, subst}
 use native.Mathlib.Nat.{zero-add}
 use native.Mathlib.Omega.{arith}
-use lib.ListN.{get_or}
 use Rattle.modular.specs.Modulo.{modulo}
-use Rattle.vector.proofs.Storing.{Storing, storing_start, storing_reads_at, storing_turn_at, storing_end}
+use Rattle.vector.proofs.Storing.{storing_start, storing_reads_at, storing_turn_at, storing_end}
 use Rattle.solve_descent.proofs.negated.negate.Goals as goal
 
 pub loop-j-init : goal.loop-j-init

@@ -1,12 +1,8 @@
 -- The loop keeps a `Storing`: one word a turn.
-use Prim.Native.Nat.{◌-◌, ◌%◌, ◌<◌}
-use mathlib.Core.Path.{sym, ◌∙◌, ap, subst}
-use native.Mathlib.Nat.{mod-lt}
-use native.Mathlib.Omega.{arith}
+use Prim.Native.Nat.{◌-◌, ◌%◌}
 use lib.ListN.{get_or}
 use Rattle.modular.specs.Modulo.{modulo}
-use Rattle.residue.specs.Modulus.{ValidModulus}
-use Rattle.vector.proofs.Storing.{Storing, storing_start, storing_turn, storing_end}
+use Rattle.vector.proofs.Storing.{Storing}
 use Rattle.solve_descent.proofs.negated.store_negated.Given as goal
 
 abbrev pub invariant-loop-j : goal.invariant-loop-j

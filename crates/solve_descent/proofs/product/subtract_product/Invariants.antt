@@ -1,13 +1,6 @@
 -- The loop keeps a `TakesProduct`: the coefficients of f before k are done.
-use Prim.Native.Nat.{◌+◌, ◌-◌, ◌*◌, ◌≤◌}
-use mathlib.Core.Path.{◌≡◌, sym, ◌∙◌, subst}
-use mathlib.Core.Logic.{⊎_elim}
-use native.Mathlib.Omega.{arith}
-use borrow.Author.Rules.{rules}
-use Rattle.modular.specs.LargestPrime.{largest_modulus}
+use Prim.Native.Nat.{◌-◌, ◌≤◌}
 use Rattle.solve_descent.specs.Product.{TakesProduct}
-use Rattle.solve_descent.proofs.Products.{next_multiple, product_start, product_none, product_sum, product_turn}
-use Rattle.solve_descent.proofs.Products.{product_skip}
 use Rattle.solve_descent.proofs.product.subtract_product.Given as goal
 
 abbrev pub invariant-loop-k : goal.invariant-loop-k

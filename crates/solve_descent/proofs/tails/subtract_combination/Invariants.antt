@@ -1,12 +1,7 @@
 -- The loop keeps a `TakesCombination`: the slots before q are done.
 use Prim.Native.Nat.{◌+◌, ◌-◌, ◌*◌, ◌≤◌}
-use mathlib.Core.Path.{◌≡◌, refl, subst}
-use native.Mathlib.Omega.{arith}
-use borrow.Author.Rules.{rules}
-use lib.ListN.{length}
-use Rattle.solve_lattice.specs.Room.{product_words, block_words, slot_words, tail_words}
+use Rattle.solve_lattice.specs.Room.{block_words, slot_words, tail_words}
 use Rattle.solve_descent.specs.Combination.{TakesCombination}
-use Rattle.solve_descent.proofs.Combinations.{combination_start, combination_small, combination_turn}
 use Rattle.solve_descent.proofs.tails.subtract_combination.Given as goal
 
 abbrev pub invariant-loop-q : goal.invariant-loop-q

@@ -1,7 +1,5 @@
-use Prim.Native.Nat.{◌-◌, ◌≤◌}
 use mathlib.Core.Path.{◌≡◌, subst}
 use native.Mathlib.Omega.{arith}
-use borrow.Author.Rules.{rules}
 use Rattle.solve_layout.specs.Column.{ColumnStored, column_start, column_turn}
 use Rattle.solve_layout.proofs.column.store_column.Goals as goal
 

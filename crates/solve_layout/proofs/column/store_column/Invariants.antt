@@ -1,9 +1,6 @@
 -- The loop keeps a `ColumnStored`: the rows before i are in their lanes.
 use Prim.Native.Nat.{◌-◌, ◌≤◌}
-use mathlib.Core.Path.{◌≡◌, subst}
-use native.Mathlib.Omega.{arith}
-use borrow.Author.Rules.{rules}
-use Rattle.solve_layout.specs.Column.{ColumnStored, column_start, column_turn}
+use Rattle.solve_layout.specs.Column.{ColumnStored}
 use Rattle.solve_layout.proofs.column.store_column.Given as goal
 
 abbrev pub invariant-loop-i : goal.invariant-loop-i

@@ -1,7 +1,6 @@
 -- Behind the last word there is 0.
 use mathlib.Core.Path.{sym}
 use lib.ListN.{get_or-eq_default}
-use borrow.Author.Rules.{rules}
 use Rattle.solve_layout.proofs.lane.coefficient.Goals as goal
 
 pub returns-else-e-f : goal.returns-else-e-f

@@ -1,11 +1,9 @@
 -- The loop keeps what is stored as far as it has come.
-use Prim.Native.Nat.{ℕ, ◌+◌, ◌-◌, ◌≤◌}
-use mathlib.Core.Path.{◌≡◌, refl, ◌∙◌, ap}
-use native.Mathlib.Omega.{arith}
-use borrow.Author.Rules.{rules}
+use Prim.Native.Nat.{◌-◌, ◌≤◌}
+use mathlib.Core.Path.{◌≡◌}
 use lib.ListN.{length, get_or}
 use Rattle.solve_lattice.specs.Room.{block_degrees}
-use Rattle.solve_lattice.specs.LaneStored.{lane, length_lane, lane_none, lane_more}
+use Rattle.solve_lattice.specs.LaneStored.{lane}
 use Rattle.solve_layout.proofs.lane.store_lane.Given as goal
 
 abbrev pub invariant-loop-e : goal.invariant-loop-e

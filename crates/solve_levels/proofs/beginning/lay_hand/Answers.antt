@@ -3,7 +3,6 @@ use mathlib.Core.Path.{refl, ◌∙◌, ap}
 use Prim.Native.Nat.{ℕ, ◌%◌}
 use native.Mathlib.Omega.{arith}
 use lib.ListN.{get_or}
-use borrow.Author.Rules.{rules}
 use Rattle.solve_levels.proofs.beginning.lay_hand.Goals as goal
 
 pub reduce-requires : goal.reduce-requires

@@ -1,11 +1,7 @@
 -- The loop keeps a `Copied`: the slots before q are copied.
 use Prim.Native.Nat.{◌-◌, ◌≤◌}
-use mathlib.Core.Path.{◌≡◌, subst}
-use native.Mathlib.Omega.{arith}
-use lib.ListN.{length}
-use borrow.Author.Rules.{rules}
-use Rattle.solve_lattice.specs.Room.{level_words, lanes}
-use Rattle.solve_levels.specs.Copied.{Copied, copied_start, copied_turn}
+use Rattle.solve_lattice.specs.Room.{lanes}
+use Rattle.solve_levels.specs.Copied.{Copied}
 use Rattle.solve_levels.proofs.copying.copy_level.Given as goal
 
 abbrev pub invariant-loop-q : goal.invariant-loop-q

@@ -1,6 +1,5 @@
 -- `empty_slot` meets its contract: a block cleared, and two stores.
 use mathlib.Core.Path.{ap}
-use borrow.Author.Rules.{rules}
 use Rattle.solve_levels.specs.Filled.{renumbered}
 use Rattle.solve_levels.proofs.slot.empty_slot.Goals as goal
 

@@ -1,7 +1,5 @@
-use Prim.Native.Nat.{◌-◌, ◌≤◌}
 use native.Mathlib.Nat.{pos_of_ne-zero}
 use native.Mathlib.Omega.{arith}
-use Rattle.solve_popov.specs.Rework.{SlotsReworked}
 use Rattle.solve_popov.specs.Short.{slots_none, slots_skip, slots_more, slots_end}
 use Rattle.solve_popov.proofs.popov.reduce_slots.Goals as goal
 

@@ -1,9 +1,6 @@
 -- The loop keeps that the slots before i are reduced; its measure is the number of slots left.
 use Prim.Native.Nat.{◌-◌, ◌≤◌}
-use native.Mathlib.Nat.{pos_of_ne-zero}
-use native.Mathlib.Omega.{arith}
 use Rattle.solve_popov.specs.Rework.{SlotsReworked}
-use Rattle.solve_popov.specs.Short.{slots_none, slots_skip, slots_more, slots_end}
 use Rattle.solve_popov.proofs.popov.reduce_slots.Given as goal
 
 abbrev pub invariant-loop-i : goal.invariant-loop-i

@@ -1,7 +1,6 @@
 -- `find_reduced` meets its contract: the law is `reduced-found`.
 use Prim.Native.Nat.{◌+◌, ◌*◌}
 use native.Mathlib.Omega.{arith}
-use borrow.Author.Rules.{rules}
 use Rattle.solve_lattice.specs.Room.{block_words, slot_words}
 use Rattle.solve_popov.specs.Reduced.{copied_most, reduced_sums, reduced_found}
 use Rattle.solve_popov.proofs.slot.find_reduced.Goals as goal

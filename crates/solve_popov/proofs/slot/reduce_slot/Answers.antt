@@ -1,7 +1,6 @@
 -- `reduce_slot` meets its contract: the law is `slot-reworked`.
 use mathlib.Core.Path.{refl, sym, subst}
 use native.Mathlib.Omega.{arith}
-use borrow.Author.Rules.{rules}
 use Rattle.vector.specs.Bound.{zeros_none}
 use Rattle.solve_lattice.specs.Room.{block_words, tail_words}
 use Rattle.solve_popov.specs.Rework.{SlotReworked}

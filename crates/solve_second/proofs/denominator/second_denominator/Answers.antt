@@ -1,6 +1,5 @@
 -- The insertion's contract, and that a tail of at most 121 coefficients can be made monic.
 use Rattle.solve_second.specs.Denominator.{tail_reducible}
-use borrow.Author.Rules.{rules}
 use Rattle.solve_second.proofs.denominator.second_denominator.Goals as goal
 
 pub make_monic-requires : goal.make_monic-requires

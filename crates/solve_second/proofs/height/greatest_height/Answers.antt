@@ -1,5 +1,4 @@
-use mathlib.Core.Path.{◌≡◌, sym, ◌∙◌, ap}
-use Prim.Native.Nat.{◌-◌, ◌≤◌}
+use mathlib.Core.Path.{sym, ◌∙◌, ap}
 use native.Mathlib.Omega.{arith}
 use Rattle.solve_second.specs.Greatest.{greatest, greatest_none, greatest_turn}
 use Rattle.solve_second.proofs.height.greatest_height.Goals as goal

@@ -1,6 +1,5 @@
 -- A block has at most 128 words.
 use native.Mathlib.Omega.{arith}
-use borrow.Author.Rules.{rules}
 use Rattle.solve_second.proofs.height.slot_height.Goals as goal
 
 pub overflow_add-result-2 : goal.overflow_add-result-2

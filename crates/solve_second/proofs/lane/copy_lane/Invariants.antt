@@ -1,9 +1,8 @@
 -- The loop keeps what is stored as far as it has come.
-use mathlib.Core.Path.{◌≡◌, refl, ◌∙◌, ap}
-use Prim.Native.Nat.{ℕ, ◌+◌, ◌-◌, ◌*◌, ◌≤◌}
-use native.Mathlib.Omega.{arith}
+use mathlib.Core.Path.{◌≡◌}
+use Prim.Native.Nat.{◌+◌, ◌-◌, ◌*◌, ◌≤◌}
 use lib.ListN.{length, get_or}
-use Rattle.solve_lattice.specs.LaneStored.{lane, length_lane, lane_none, lane_more}
+use Rattle.solve_lattice.specs.LaneStored.{lane}
 use Rattle.solve_second.proofs.lane.copy_lane.Given as goal
 
 abbrev pub invariant-loop-e : goal.invariant-loop-e

@@ -8,7 +8,6 @@ use Rattle.solve_lattice.specs.Memory.{height, Level, slot_size}
 use Rattle.solve_lattice.specs.LaneStored.{lane, lane_same}
 use Rattle.solve_lattice.specs.Room.{slot_words, lanes, last_lane}
 use Rattle.solve_second.specs.Words.{block_word}
-use borrow.Author.Rules.{rules}
 use Rattle.solve_second.proofs.lane.transpose_lane.Goals as goal
 
 -- the words as those of the block, and the height as what it is

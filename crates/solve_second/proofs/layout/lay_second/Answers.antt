@@ -1,5 +1,4 @@
 -- The slots are those of the level with the side's tails; the right side is laid out as such.
-use borrow.Author.Rules.{rules}
 use Rattle.solve_second.specs.Same.{same_laid}
 use Rattle.solve_second.specs.Side.{side_blocks}
 use Rattle.solve_second.proofs.layout.lay_second.Goals as goal

@@ -1,11 +1,11 @@
-use Prim.Native.Nat.{◌-◌, ◌%◌, ◌<◌}
+use Prim.Native.Nat.{◌<◌}
 use mathlib.Core.Path.{sym, ◌∙◌, ap, subst}
 use native.Mathlib.Nat.{mod-lt, zero-add}
 use native.Mathlib.Omega.{arith}
 use lib.ListN.{get_or}
 use Rattle.modular.specs.Modulo.{modulo}
 use Rattle.residue.specs.Modulus.{ValidModulus}
-use Rattle.vector.proofs.Storing.{Storing, storing_start, storing_turn_at, storing_end}
+use Rattle.vector.proofs.Storing.{storing_start, storing_turn_at, storing_end}
 use Rattle.solve_second.proofs.monic.store_scaled.Goals as goal
 
 pub loop-j-init : goal.loop-j-init

@@ -1,15 +1,8 @@
 -- The loop keeps a `Storing`: one row a turn. Behind the n rows come zeros.
-use Prim.Native.Nat.{ℕ, ◌+◌, ◌-◌, ◌*◌, ◌<◌, ◌≤◌}
-use mathlib.Core.Path.{◌≡◌, sym, ◌∙◌, ap, subst}
-use mathlib.Core.List.{List}
-use native.Mathlib.Nat.{zero-add}
-use native.Mathlib.Omega.{arith}
-use lib.ListN.{get_or}
-use Rattle.vector.specs.Stored.{stored}
-use Rattle.vector.proofs.Storing.{Storing, storing_start, storing_row, storing_end}
-use Rattle.solve_lattice.specs.Room.{rows_words, block_words, lanes, last_lane}
-use Rattle.solve_second.specs.Words.{reversed}
-use Rattle.solve_second.specs.QuotientRows.{quotient_word, lane_row, no_row}
+use Prim.Native.Nat.{◌-◌, ◌*◌, ◌≤◌}
+use Rattle.vector.proofs.Storing.{Storing}
+use Rattle.solve_lattice.specs.Room.{rows_words, block_words}
+use Rattle.solve_second.specs.QuotientRows.{quotient_word}
 use Rattle.solve_second.proofs.rows.store_rows.Given as goal
 
 abbrev pub invariant-loop-k : goal.invariant-loop-k

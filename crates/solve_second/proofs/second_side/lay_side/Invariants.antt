@@ -1,9 +1,6 @@
 -- The loop keeps what `SideFilling` says of the lanes so far.
-use mathlib.Core.Path.{◌∙◌}
 use Prim.Native.Nat.{◌-◌, ◌≤◌}
-use native.Mathlib.Omega.{arith}
-use Rattle.solve_second.specs.Filling.{filling_here, filling_on, filling_same}
-use Rattle.solve_second.specs.SideFilling.{SideFilling, side_filling_start, side_filling_end}
+use Rattle.solve_second.specs.SideFilling.{SideFilling}
 use Rattle.solve_second.specs.Side.{sided}
 use Rattle.solve_second.proofs.second_side.lay_side.Given as goal
 

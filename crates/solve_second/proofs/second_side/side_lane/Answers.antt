@@ -8,7 +8,6 @@ use Rattle.solve_second.specs.SideFilling.{TailsEnd, side_filling_same}
 use Rattle.solve_second.specs.RowLaid.{side_filling_row}
 use Rattle.solve_second.specs.Side.{sided, side_row}
 use Rattle.solve_second.specs.declared.second_side.Side.{Side}
-use borrow.Author.Rules.{rules}
 use Rattle.solve_lattice.specs.Room.{lanes}
 use Rattle.solve_second.proofs.second_side.side_lane.Goals as goal
 

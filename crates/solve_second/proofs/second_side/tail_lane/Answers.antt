@@ -8,7 +8,6 @@ use Rattle.solve_second.specs.Greatest.{greatest_high, greatest_small}
 use Rattle.solve_second.specs.Words.{reversed, tail_word}
 use Rattle.solve_second.specs.Spread.{lane_spread, spread_same}
 use Rattle.solve_second.specs.SideFilling.{side_filling_empty, side_filling_lane}
-use borrow.Author.Rules.{rules}
 use Rattle.solve_lattice.specs.Room.{lanes, last_lane}
 use Rattle.solve_second.proofs.second_side.tail_lane.Goals as goal
 

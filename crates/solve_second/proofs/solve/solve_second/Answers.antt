@@ -15,7 +15,6 @@ use Rattle.solve_second.specs.Denominator.{laid_denominator}
 use Rattle.solve_second.specs.Scaled.{side_within, product_room, side_scaled}
 use Rattle.solve_second.specs.DividedSecond.{laid_valid, laid_divided}
 use Rattle.solve_second.specs.SecondEnds.{second_solved}
-use borrow.Author.Rules.{rules}
 use Rattle.solve_second.proofs.solve.solve_second.Goals as goal
 
 pub lay_second-requires : goal.lay_second-requires

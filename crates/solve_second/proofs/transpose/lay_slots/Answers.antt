@@ -1,5 +1,4 @@
 use mathlib.Core.Path.{subst}
-use Prim.Native.Nat.{◌-◌, ◌≤◌}
 use native.Mathlib.Omega.{arith}
 use Rattle.solve_second.specs.TransposeFilling.{SlotsSoFar, slots_start, slots_end}
 use Rattle.solve_second.proofs.transpose.lay_slots.Goals as goal

@@ -1,8 +1,6 @@
 -- The loop keeps what `SlotsSoFar` says.
-use mathlib.Core.Path.{subst}
 use Prim.Native.Nat.{◌-◌, ◌≤◌}
-use native.Mathlib.Omega.{arith}
-use Rattle.solve_second.specs.TransposeFilling.{SlotsSoFar, slots_start, slots_end}
+use Rattle.solve_second.specs.TransposeFilling.{SlotsSoFar}
 use Rattle.solve_second.proofs.transpose.lay_slots.Given as goal
 
 abbrev pub invariant-loop-k : goal.invariant-loop-k
