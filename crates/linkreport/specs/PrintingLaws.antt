@@ -13,7 +13,8 @@ use Rattle.words.specs.Bytes.{read_line_file}
 use Rattle.report_text.specs.Longest.{report_space}
 use Rattle.report.specs.Reporting.{GivenUnless, ReportsFile}
 use Rattle.report.specs.ReportingLaws.{given_text}
-use Rattle.report.proofs.LeastReported.{ReportSays, file_says}
+use Rattle.report.specs.LeastReported.{ReportSays}
+use Rattle.report.proofs.LeastReportedLaws.{file_says}
 use Rattle.linkreport.specs.Printing.{Prints}
 
 module _ (file entry exit : List ℕ) (count : ℕ) where
