@@ -6,6 +6,8 @@ PREFIX = /usr/local
 DESTDIR =
 VERSION := $(shell cat VERSION)
 programs = linkreport linksolve cardcheck
+# where rt run leaves them
+built = $(foreach program,$(programs),crates/$(program)/out/$(program))
 archive = target/lib/libyezsdolak.a
 # where tools/sheet/run builds
 sheet = $${YEZSDOLAK_BUILD:-target}/tools/sheet
@@ -15,7 +17,7 @@ links3 = $(calls:%="$(to)/share/man/man3/yezsdolak_%.3")
 to = $(DESTDIR)$(PREFIX)
 
 all:
-	rt check $(programs)
+	for program in $(programs); do (cd crates/$$program && rt run </dev/null >/dev/null) || exit; done
 	examples/archive
 	tools/sheet/run --help >/dev/null
 
@@ -23,13 +25,13 @@ check:
 	.ci/run
 
 install:
-	@for file in $(programs:%=target/bin/%) "$(sheet)" $(archive); do \
+	@for file in $(built) "$(sheet)" $(archive); do \
 	    test -e "$$file" || { echo "make install: $$file is not there; run make first" >&2; exit 2; }; \
 	done
-	@newer=$$(find VERSION crates.txt crates -type f -newer $(archive) | head -n 1); \
+	@newer=$$(find VERSION crates.txt crates -path 'crates/*/out' -prune -o -type f -newer $(archive) -print | head -n 1); \
 	test -z "$$newer" || { echo "make install: $$newer is newer than $(archive); run make first" >&2; exit 2; }
 	install -d "$(to)/bin" "$(to)/lib/pkgconfig" "$(to)/include" "$(to)/share/man/man1" "$(to)/share/man/man3" "$(to)/share/man/man5"
-	install $(programs:%=target/bin/%) "$(to)/bin"
+	install $(built) "$(to)/bin"
 	install "$(sheet)" "$(to)/bin/linksheet"
 	install -m 644 $(archive) "$(to)/lib"
 	install -m 644 include/yezsdolak.h include/yezsdolak_refusals.h "$(to)/include"
