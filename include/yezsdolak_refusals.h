@@ -63,7 +63,7 @@ static inline const char *yezsdolak_message(unsigned long long number)
     case YEZSDOLAK_SYSTEM_BAD_END:
         return "the end word of the sheet does not say how many words there are, or words follow it";
     case YEZSDOLAK_BAD_FILE_LENGTH:
-        return "a file is not whole words of four bytes; or, but not by the panel's check, that of a sheet has more than 8,712 bytes";
+        return "a file is not whole words of four bytes, or that of a sheet has more than 8,712 bytes";
     case YEZSDOLAK_SPACE_SHORT:
         return "fewer words are lent than the longest card has, or, by a writer of sheets, than the longest sheet has";
     case YEZSDOLAK_NO_SUCH_POLYNOMIAL:

@@ -3,7 +3,6 @@
 mod check;
 mod lexer;
 mod modular;
-mod panel;
 mod polynomial;
 mod reading;
 mod receiver;
@@ -244,7 +243,7 @@ fn system_of(sheet: &OsStr, bytes: &[u8]) -> Result<System, String> {
 fn show_system(sheet: &OsStr, signed: bool) -> Result<Answer, String> {
     let system = system_of(sheet, &sheet_bytes(sheet)?)?;
     let notation = Notation { modulus: system.modulus, signed };
-    Ok(Answer { output: (notation.system(&system) + &panel::line(&system, None)).into(), ..Answer::default() })
+    Ok(Answer { output: notation.system(&system).into(), ..Answer::default() })
 }
 
 /// The bytes of a certificate's file that decide: one word more than the longest has, so that a word behind its end gets its number.
@@ -293,8 +292,7 @@ fn show_certificate(sheet: &OsStr, card: &OsStr, digits: &str, signed: bool) -> 
     let side = side_of(&system, sheet, digits)?;
     let certificate = reading::certificate(&bytes, &system).map_err(|refusal| refusal.report(&shown(card)))?;
     let notation = Notation { modulus: system.modulus, signed };
-    let values = notation.certificate(&certificate, (system.sides.len() > 1).then_some(side));
-    let text = values + &panel::line(&system, Some(&certificate));
+    let text = notation.certificate(&certificate, (system.sides.len() > 1).then_some(side));
     Ok(match check::first_fault(&certificate, &system, side, notation) {
         None => Answer { output: (text + &receiver::line(&certificate) + ACCEPTED).into(), ..Answer::default() },
         Some(mut fault) => {

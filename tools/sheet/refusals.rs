@@ -65,7 +65,7 @@ pub const TABLE: [Entry; 27] = [
     },
     Entry {
         number: 10,
-        meaning: "a file is not whole words of four bytes; or, but not by the panel's check, that of a sheet has more than 8,712 bytes",
+        meaning: "a file is not whole words of four bytes, or that of a sheet has more than 8,712 bytes",
         place: "0",
         remedy: "Take the whole file, copied as bytes and not as text.",
     },
