@@ -1,5 +1,6 @@
 -- interface, what contracts, other crates and documents cite: Ascii, Decimal, DecimalLaws, Text, Examples, TextLaws, Longest,
---   Written, WrittenLaws, Verdict
+--   Written, Verdict
+-- inside: WrittenLaws
 pub mod Ascii
 pub mod Decimal
 pub mod DecimalLaws

@@ -1,5 +1,5 @@
--- interface, what contracts, other crates and documents cite: Solution, Listed, Right, Chosen, Verdict, Lift, RefusalLaws,
---   Demand, ChosenCases, Fractions, Certified, TurnedBack, Feedback, Within, ProperSolution
+-- interface, what contracts, other crates and documents cite: Solution, Listed, Right, ProperSolution, Chosen, Verdict, Lift,
+--   RefusalLaws, Demand, ChosenCases, Fractions, Certified, TurnedBack, Feedback, Within
 -- inside: Witness
 pub mod Witness
 pub mod Solution

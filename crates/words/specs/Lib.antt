@@ -1,6 +1,6 @@
 -- interface, what contracts, other crates and documents cite: Limits, Word, Outcome, OutcomeLaws, Reading, Polynomial, Frame,
---   System, Systems, Certificate, Bytes, Examples, WordLaws, ReadingLaws, LimitsLaws, VectorLaws, SystemLaws, Rows, RowLaws,
---   Table, FirstFault, TenFirst, Pair, Line, Before, Starts, Kept
+--   System, Systems, Certificate, Bytes, Examples, WordLaws, ReadingLaws, LimitsLaws, VectorLaws, SystemLaws, Rows, RowLaws, Table,
+--   FirstFault, TenFirst, Pair, Line, Before, Starts, Kept
 pub mod Limits
 pub mod Word
 pub mod Outcome

@@ -1,7 +1,5 @@
 -- interface, what contracts, other crates and documents cite: Writing, Values, Formats, Output, ValuesLaws, WritingLaws,
---   WrittenLaws, WrittenBackLaws, OutputLaws, Refused, Examples what the writers do, how values are handed to them, and how the
---   solver's words are laws of values and of writing; what is written is read back, what is read is written back; what sizes say
---   what the writers refuse, and that they refuse just that cases that PROVED.md cites
+--   WrittenLaws, WrittenBackLaws, OutputLaws, Refused, Examples
 pub mod Writing
 pub mod Values
 pub mod Formats

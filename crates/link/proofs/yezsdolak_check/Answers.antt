@@ -5,7 +5,6 @@ use Rattle.words.specs.Limits.{office}
 use Rattle.words.specs.LimitsLaws.{office_fits}
 use Rattle.answers.specs.Packed.{packed_verdict, packed_most, VerdictMost}
 use Rattle.verifier.specs.FileLaws.{file_verdict_most}
-use borrow.Author.Rules.{rules}
 use Rattle.link.proofs.yezsdolak_check.Goals as goal
 
 pub pack_verdict-requires : goal.pack_verdict-requires

@@ -3,7 +3,6 @@ use mathlib.Core.Path.{sym, ap, ◌∙◌, subst}
 use native.Mathlib.Omega.{arith}
 use Rattle.answers.specs.Packed.{packed_verdict, packed_most, VerdictMost}
 use Rattle.verifier.specs.Panel.{panel_most}
-use borrow.Author.Rules.{rules}
 use Rattle.link.proofs.yezsdolak_panel_check.Goals as goal
 
 pub pack_verdict-requires : goal.pack_verdict-requires

@@ -1,7 +1,6 @@
 -- The count is small, so that its multiple fits.
 use native.Mathlib.Omega.{arith}
 use Rattle.report.specs.ReportingLaws.{reports_short}
-use borrow.Author.Rules.{rules}
 use Rattle.link.proofs.yezsdolak_report.Goals as goal
 
 pub overflow_mul-result : goal.overflow_mul-result

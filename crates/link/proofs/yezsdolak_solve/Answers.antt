@@ -4,7 +4,6 @@ use Rattle.words.specs.LimitsLaws.{office_fits}
 use native.Mathlib.Omega.{arith}
 use Rattle.answers.specs.Packed.{most_wider}
 use Rattle.solver.specs.FileLaws.{solves_file_most}
-use borrow.Author.Rules.{rules}
 use Rattle.link.proofs.yezsdolak_solve.Goals as goal
 
 pub pack_counted-requires : goal.pack_counted-requires
