@@ -169,6 +169,6 @@ pub const TABLE: [Entry; 27] = [
         number: 41,
         meaning: "a sheet or card that reads in the office exceeds a limit of the panel: 4 rows, 4 columns, one right side, 8 coefficients in a polynomial of the sheet, 29 in one of the card, and so 302 words of a card",
         place: "0 for the sheet, which is tried first; 1 for the card",
-        remedy: "Use the office's check, cardcheck: whether the card is right was not asked here. show of tools/sheet says which limit it is. Of several right sides give the panel's line a sheet of its own: its card is the same. For a sheet within the limits linksolve writes a card within them.",
+        remedy: "Use the office's check, cardcheck: whether the card is right was not asked here. Of several right sides give the panel's line a sheet of its own: its card is the same. For a sheet within the limits linksolve writes a card within them.",
     },
 ];
