@@ -8,7 +8,7 @@ pub struct Entry {
     pub remedy: &'static str,
 }
 
-pub const TABLE: [Entry; 27] = [
+pub const TABLE: [Entry; 26] = [
     Entry {
         number: 1,
         meaning: "the first word is not the head of a sheet: its kind is not 1, or bits 24 to 27 are above 7; or, by a writer of sheets, there are not 1 to 8 right sides",
@@ -164,11 +164,5 @@ pub const TABLE: [Entry; 27] = [
         meaning: "the sheet has no right side of that number",
         place: "0",
         remedy: "Right sides count from 0: a sheet with one has number 0 only. show of tools/sheet shows each right side of a sheet as a b. A program that was compiled before 0.10 passes no right side: compile it anew.",
-    },
-    Entry {
-        number: 41,
-        meaning: "a sheet or card that reads in the office exceeds a limit of the panel: 4 rows, 4 columns, one right side, 8 coefficients in a polynomial of the sheet, 29 in one of the card, and so 302 words of a card",
-        place: "0 for the sheet, which is tried first; 1 for the card",
-        remedy: "Use the office's check, cardcheck: whether the card is right was not asked here. Of several right sides give the panel's line a sheet of its own: its card is the same. For a sheet within the limits linksolve writes a card within them.",
     },
 ];
