@@ -102,7 +102,7 @@ enum {
     YEZSDOLAK_PANEL_SYSTEM_BYTES = 728,       // no system that is accepted here is longer
     YEZSDOLAK_PANEL_CERTIFICATE_BYTES = 1208, // no certificate that is accepted here is longer
 
-    YEZSDOLAK_PANEL_STACK = 56 * 1024, // bytes of stack that the call needs, more than a tenth above what was measured
+    YEZSDOLAK_PANEL_STACK = 72 * 1024, // bytes of stack that the call needs, more than a tenth above what was measured
 };
 
 // Checks a certificate as yezsdolak_check does for right side 0, and accepts it only where it and its system keep the panel's limits: 1
