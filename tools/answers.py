@@ -51,9 +51,8 @@ def functions():
                 name = name.replace("&", "").replace("mut ", "").strip()
                 if not PLAIN.match(kind.strip()):
                     held.append(name)
-            clauses = text[i:text.find("{\n", i) if text.find("\n{\n", i) < 0 else text.find("\n{\n", i)]
             end = re.search(r"^\s*\{\s*$", text[i:], re.M)
-            clauses = text[i:i + end.start()] if end else clauses
+            clauses = text[i:i + end.start()] if end else text[i:]
             names = {k: re.findall(r"\b" + k + r"(?: (\w+))? \{", clauses) for k in ("requires", "ensures")}
             found.setdefault(m.group(1), (held, names))
     return found
@@ -190,8 +189,6 @@ def turn_chain(chain, names, said, keep=False):
         name = parts[i]
         last = out[-1] if out else None
         if last in HELD or last in names.loop_labels:
-            if last == "requires":
-                pass
             if last in names.loop_labels and name == "inv":
                 name = "invariant"
             if last in ("new", "auto") and re.match(r"^[01]$", name) and len(out) > 1 and out[-2] in names.callee:
