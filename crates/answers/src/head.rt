@@ -30,12 +30,14 @@ pub fn pack_head(head: Head) -> u64
             + (head.sides as u64 - 1) * SIDE_UNIT as u64)
 }
 
-// Returns the number of a form.
-pub fn number_of(form: Form) -> usize
-    ensures { result ≡ kind_number (form_of form) }
-{
-    match form {
-        Form::Solution => 1,
-        Form::Absence => 2,
+impl From<Form> for usize {
+    ghost from_gives = { λ form n. n ≡ kind_number (form_of form) };
+
+    // Returns the number of a form.
+    fn from(form: Form) -> usize {
+        match form {
+            Form::Solution => 1,
+            Form::Absence => 2,
+        }
     }
 }

@@ -10,5 +10,5 @@ pub mod shape;
 pub mod version;
 pub mod word;
 
-pub use answer::{Counted, Refusal, Verdict};
-pub use shape::{CertificateRead, Form, Head, LineRead, Shape, SystemRead};
+pub use answer::{Fault, Misread, Of, Reason, Refusal};
+pub use shape::{Form, Head, Shape};

@@ -6,8 +6,5 @@ ghost use Rattle.words.specs.System.{one_to};
 pub fn one_to(most: u32, n: u32) -> bool
     ensures { result ≡ one_to most n }
 {
-    if n < 1 {
-        return false;
-    }
-    n <= most
+    (1..=most).contains(&n)
 }

@@ -16,13 +16,3 @@ pub const CERTIFICATE_HEAD: u32 = 5 * PAYLOAD_BOUND;
 
 // Bytes of a word in a file.
 pub const WORD_BYTES: usize = 4;
-
-// A byte is less than this.
-pub const BYTE_BOUND: u32 = 256;
-
-// One more in the second, the third and the fourth byte is so much more.
-pub const SECOND_BYTE_UNIT: u32 = 256;
-
-pub const THIRD_BYTE_UNIT: u32 = 65536;
-
-pub const FOURTH_BYTE_UNIT: u32 = 16777216;

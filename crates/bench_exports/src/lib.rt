@@ -17,46 +17,27 @@ const FACTORS_BOUND: usize = 2147483648;
 fn all_at_most(l: &[u64], limit: u64) -> bool
     ensures { result ≡ all_at_most limit l.now }
 {
-    let mut i = 0;
-    while i < l.len() {
-        if l[i] > limit {
-            return false;
-        }
-        i += 1;
-    }
-    true
+    l.iter().all(|word| *word <= limit)
 }
 
 // Tells whether the sums of all steps fit their words.
+#[tactic(auto, unfolding(crate::specs::Rounds::small))]
 fn words_small(h: &[u64], s: &[u64], factors: &[u64]) -> bool
     ensures { result ≡ small h.now s.now factors.now }
 {
-    if !all_at_most(factors, FACTOR_MOST) {
-        return false;
-    }
-    if !all_at_most(s, FACTOR_MOST) {
-        return false;
-    }
-    all_at_most(h, SUM_MOST)
+    all_at_most(factors, FACTOR_MOST) && all_at_most(s, FACTOR_MOST) && all_at_most(h, SUM_MOST)
 }
 
 // Tells whether all words of the steps are there, and their sums fit.
+#[tactic(auto, unfolding(crate::specs::Rounds::fit))]
 fn steps_fit(h: &[u64], s: &[u64], factors: &[u64], counts: &[u64]) -> bool
     ensures { result ≡ fit h.now s.now factors.now counts.now }
 {
-    if h.len() < s.len() {
-        return false;
-    }
-    if counts.len() < factors.len() {
-        return false;
-    }
-    if factors.len() >= FACTORS_BOUND {
-        return false;
-    }
-    if !all_at_most(counts, s.len() as u64) {
-        return false;
-    }
-    words_small(h, s, factors)
+    s.len() <= h.len()
+        && factors.len() <= counts.len()
+        && factors.len() < FACTORS_BOUND
+        && all_at_most(counts, s.len() as u64)
+        && words_small(h, s, factors)
 }
 
 // Makes a step for each factor: adds factors[t] * s[j] to h[j] for j below counts[t]. Makes none where one might not fit. Returns
@@ -74,10 +55,8 @@ pub extern "C" fn bench_add_scaled(
     if !steps_fit(h, s, factors, counts) {
         return 0;
     }
-    let mut t = 0;
-    while t < factors.len() {
-        vector::add_scaled(h, 0, s, 0, counts[t] as usize, factors[t]);
-        t += 1;
+    for (t, factor) in factors.iter().enumerate() {
+        vector::add_scaled(h, 0, s, 0, counts[t] as usize, *factor);
     }
-    t
+    factors.len()
 }

@@ -7,26 +7,21 @@ use crate::name::mask;
 use std::io::{Error, ErrorKind, Read, Seek, SeekFrom, Write};
 use std::rt::Files;
 use std::{fs, io, str};
-use streams::{StreamRead, fail, read_start, say};
+use streams::{fail, read_start, say};
 
-// What is known of a file.
+// Why a file's length is not known.
 #[derive(Clone, Copy)]
-pub enum File {
-    // Its length. As many of its bytes as there is room for stand at the start of the space lent.
-    Length(usize),
-    // Nothing: it could not be read, which standard error says.
-    Unread,
+enum Unread {
+    // The system turned it down or a read failed, for this reason.
+    Failed(Error),
+    // It has no end within `MOST` bytes.
+    Endless,
 }
 
-// What reading to the end finds.
-#[derive(Clone, Copy)]
-enum End {
-    // The length of what was read.
-    At(usize),
-    // A read failed, for this reason.
-    Failed(Error),
-    // There is none within `MOST` bytes.
-    Beyond,
+impl From<Error> for Unread {
+    fn from(reason: Error) -> Self {
+        Unread::Failed(reason)
+    }
 }
 
 // The most bytes that are read to find an end that the system does not tell, as that of a pipe.
@@ -39,56 +34,46 @@ const TURN: usize = 65536;
 fn length_told(answer: io::Result<u64>) -> usize
     ensures { result ≡ length_told answer }
 {
-    match answer {
-        Ok(length) => length as usize,
-        Err(_) => 0,
-    }
+    answer.map_or(0, |length| length as usize)
 }
 
 // Reads up to `TURN` bytes more.
-fn read_more<R: Read>(file: &mut R) -> StreamRead
+fn read_more<R: Read>(file: &mut R) -> io::Result<usize>
     ensures { ReadWithin turn_bytes result }
 {
     let mut space = [0u8; TURN];
     read_start(&mut space, file)
 }
 
-// Reads on to the end, behind `count` bytes that were read.
-fn read_on<R: Read>(file: &mut R, count: usize) -> End {
+// Reads on to the end, behind `count` bytes that were read. Returns the length of the file.
+fn read_on<R: Read>(file: &mut R, count: usize) -> Result<usize, Unread> {
     let mut length = count;
     let mut last = TURN;
     while last == TURN && length <= MOST {
-        let more = match read_more(file) {
-            StreamRead::Bytes(more) => more,
-            StreamRead::Failed(reason) => return End::Failed(reason),
-        };
-        last = more;
-        length += more;
+        last = read_more(file)?;
+        length += last;
     }
     if length > MOST {
-        return End::Beyond;
+        return Err(Unread::Endless);
     }
-    End::At(length)
+    Ok(length)
 }
 
-// Finds the end of a file of which `count` bytes were read. The system tells that of a regular file; where it tells of no bytes
+// Finds the length of a file of which `count` bytes were read. The system tells that of a regular file; where it tells of no bytes
 // behind these, reads on.
-fn find_end<R: Read + Seek>(file: &mut R, count: usize) -> End {
+fn find_end<R: Read + Seek>(file: &mut R, count: usize) -> Result<usize, Unread> {
     let end = length_told(file.seek(SeekFrom::End(0)));
     if end <= count {
         return read_on(file, count);
     }
-    End::At(end)
+    Ok(end)
 }
 
-// Reads as much of a file as `bytes` have room for, and finds its end.
-fn read_whole<R: Read + Seek>(bytes: &mut [u8], file: &mut R) -> End {
-    let count = match read_start(bytes, file) {
-        StreamRead::Bytes(count) => count,
-        StreamRead::Failed(reason) => return End::Failed(reason),
-    };
+// Reads as much of a file as `bytes` have room for, and finds its length.
+fn read_whole<R: Read + Seek>(bytes: &mut [u8], file: &mut R) -> Result<usize, Unread> {
+    let count = read_start(bytes, file)?;
     if count < bytes.len() {
-        return End::At(count);
+        return Ok(count);
     }
     find_end(file, count)
 }
@@ -99,6 +84,12 @@ fn open<F: Files>(files: &F, name: &[u8]) -> io::Result<F::File> {
         Ok(name) => fs::open(files, name),
         Err(_) => Err(Error::new(ErrorKind::InvalidFilename, "The name is not UTF-8")),
     }
+}
+
+// Opens the file of a name, reads as much of it as `bytes` have room for, and finds its length.
+fn read_opened<F: Files>(files: &F, bytes: &mut [u8], name: &[u8]) -> Result<usize, Unread> {
+    let mut file = open(files, name)?;
+    read_whole(bytes, &mut file)
 }
 
 // Says the system's reason why a file could not be read.
@@ -116,26 +107,22 @@ fn fail_endless<E: Write>(errors: &mut E, name: &mut [u8]) {
     let _ = writeln!(errors, ": no end within {MOST} bytes");
 }
 
-// Reads the file of a name, which is masked where it is said.
+// Reads the file of a name, which is masked where it is said. Returns its length, or nothing where it could not be read, which
+// standard error says.
 pub fn read_file<F: Files, E: Write>(
     files: &F,
     errors: &mut E,
     bytes: &mut [u8],
     name: &mut [u8],
-) -> File {
-    let end = match open(files, name) {
-        Ok(mut file) => read_whole(bytes, &mut file),
-        Err(reason) => End::Failed(reason),
-    };
-    match end {
-        End::At(length) => File::Length(length),
-        End::Failed(reason) => {
-            fail_of(errors, name, &reason);
-            File::Unread
-        }
-        End::Beyond => {
-            fail_endless(errors, name);
-            File::Unread
+) -> Option<usize> {
+    match read_opened(files, bytes, name) {
+        Ok(length) => Some(length),
+        Err(unread) => {
+            match unread {
+                Unread::Failed(reason) => fail_of(errors, name, &reason),
+                Unread::Endless => fail_endless(errors, name),
+            }
+            None
         }
     }
 }

@@ -7,32 +7,33 @@ mod file;
 mod line;
 mod name;
 
-use file::{File, read_file};
+use file::read_file;
 use line::judge;
 use report_text::SPACE;
 use std::env::Env;
 use std::io::{Error, Write};
 use std::rt::Files;
-use streams::side::{ARGUMENT_SPACE, SideAsked, has_argument, side_asked};
+use streams::side::{ARGUMENT_SPACE, has_argument, side_asked};
 use streams::{FILE_SPACE, fail, print, say};
 
 // What the system says of a name that is too long: `File name too long`.
 const ENAMETOOLONG: i32 = 36;
 
-// Reads the file that an argument names. Where the name has more than 4,096 bytes, says so of `what`.
+// Reads the file that an argument names. Returns its length, or nothing where it could not be read, which standard error says. Where
+// the name has more than 4,096 bytes, says so of `what`.
 fn read_named<R: Env + Files, E: Write>(
     rt: &R,
     errors: &mut E,
     bytes: &mut [u8],
     argument: usize,
     what: &[u8],
-) -> File {
+) -> Option<usize> {
     let mut name = [0u8; ARGUMENT_SPACE];
     match rt.arg(argument, &mut name) {
         Ok(n) => read_file(rt, errors, bytes, &mut name[..n]),
         Err(_) => {
             fail(errors, what, &Error::from_raw_os_error(ENAMETOOLONG));
-            File::Unread
+            None
         }
     }
 }
@@ -52,18 +53,18 @@ fn main(rt: HostRuntime) {
         return;
     }
     let asked = side_asked(&rt, 3);
-    let SideAsked::Number(side) = asked else {
+    let Some(side) = asked else {
         tell_usage(&mut errors);
         return;
     };
     let mut system = [0u8; FILE_SPACE];
     let first = read_named(&rt, &mut errors, &mut system, 1, b"cardcheck: SHEET");
-    let File::Length(n) = first else {
+    let Some(n) = first else {
         return;
     };
     let mut certificate = [0u8; FILE_SPACE];
     let second = read_named(&rt, &mut errors, &mut certificate, 2, b"cardcheck: CARD");
-    let File::Length(m) = second else {
+    let Some(m) = second else {
         return;
     };
     let mut line = [0u8; SPACE];

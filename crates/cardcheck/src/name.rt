@@ -6,22 +6,14 @@ ghost use Rattle.cardcheck.specs.Name.{masked_byte};
 fn mask_byte(byte: u8) -> u8
     ensures { result ≡ masked_byte byte }
 {
-    if byte < 32 {
-        b'?'
-    } else if byte == 127 {
-        b'?'
-    } else {
-        byte
-    }
+    if byte < 32 || byte == 127 { b'?' } else { byte }
 }
 
 // Makes a name one that can be said in a line.
 pub fn mask(name: &mut [u8])
     ensures { name.new ≡ map masked_byte name.old }
 {
-    let mut i: usize = 0;
-    while i < name.len() {
-        name[i] = mask_byte(name[i]);
-        i += 1;
+    for byte in name {
+        *byte = mask_byte(*byte);
     }
 }

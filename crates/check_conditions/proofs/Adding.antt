@@ -47,15 +47,6 @@ pub record AddingTerms (p e n columns : ℕ) (T : List ℕ) (factor : ℕ → �
 
 module _ (p e n columns : ℕ) (positive : 0 < p) (T : List ℕ) (factor : ℕ → ℕ) (before : List ℕ)
     (given : CarriedSums p n before) where
-  pub adding_start : AddingTerms p e n columns T factor before before 0
-  adding_start = record {
-    within = omega arith;
-    room = given.room;
-    small = λ i. omega (arith, given.small i, add-mul n 1 (p * p));
-    rest = λ x ge. refl;
-    done = λ i lt. absurd (omega arith);
-  }
-
   module _ (carried : List ℕ) (j : ℕ) (so_far : AddingTerms p e n columns T factor before carried j) where
     -- no sum is too large for a word
     pub adding_small : n < office.rows * office.system_coefficients → p ≤ largest_modulus → AtMost sum_most carried
@@ -117,10 +108,3 @@ module _ (p e n columns : ℕ) (positive : 0 < p) (T : List ℕ) (factor : ℕ �
             (λ l. kept i l ∙ so_far.done i l)
             (eq-or-lt_of_le (le_of_suc-le-suc (omega arith)));
       }
-
-    pub adding_end : columns ≤ j → (i : ℕ) → i < columns
-        → carried_in p e carried i ≡ add (modulo p) (carried_in p e before i) (scale (modulo p) (factor i) T)
-    adding_end past i lt = so_far.done i (omega arith)
-
-    pub adding_carried : CarriedSums p (n + 1) carried
-    adding_carried = record { room = so_far.room; small = so_far.small }

@@ -41,9 +41,6 @@ refuse_first_at (suc n) holds number next i lt free here =
         ∙ ap (refused number) (sym e)
     go (inr l) before = before l free here
 
-pub passing_start : (n : ℕ) (holds : ℕ → Bool) → Passing n holds 0
-passing_start n holds = record { within = omega arith; free = λ k lt. absurd (omega arith) }
-
 module _ {n : ℕ} {holds : ℕ → Bool} {i : ℕ} (so_far : Passing n holds i) where
   pub passing_turn : i < n → holds i ≡ false → Passing n holds (i + 1)
   passing_turn lt here = record { within = omega arith; free = below_more _ _ so_far.free here }

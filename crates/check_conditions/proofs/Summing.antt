@@ -11,12 +11,11 @@ use Rattle.modular.specs.Modulo.{modulo}
 use Rattle.modular.specs.Canonical.{Canonical}
 use Rattle.modular.specs.LargestPrime.{largest_modulus}
 use Rattle.words.specs.Limits.{office}
-use Rattle.residue.specs.Sum.{SmallSum}
 use Rattle.vector.specs.Bound.{AtMost}
 use Rattle.vector.specs.Reduced.{polynomial}
-use Rattle.polynomial.specs.Value.{polynomial_room, value_polynomial}
+use Rattle.polynomial.specs.Value.{polynomial_room}
 use Rattle.polynomial_words.specs.Product.{sum_most, GainsProduct}
-use Rattle.polynomial.proofs.Made.{represents_zero}
+use Rattle.polynomial_words.proofs.Rest.{polynomial_zero}
 use Rattle.truth.specs.Solution.{total_modulo}
 use Rattle.loader.specs.SlotLaws.{canonical_word, canonical_polynomial}
 use Rattle.check_conditions.specs.Products.{longest_sum, longest_product}
@@ -31,12 +30,11 @@ module _ (p : ℕ) (positive : 0 < p) (term : ℕ → List ℕ) (count : ℕ) wh
   pub summing_start : (h : List ℕ) → length h ≡ polynomial_room → ((i : ℕ) → get_or h i 0 ≡ 0) → Summing p term count h 0
   unfolding total_modulo
   summing_start h long zeros =
-      let none = represents_zero p h long zeros in
       record {
         within = omega arith;
         long = long;
         bound = λ i. omega (arith, zeros i);
-        sum = value_polynomial p _ none.valid positive longest_product (omega arith) ∙ none.same;
+        sum = polynomial_zero p positive h 0 longest_product (λ i. omega (arith, zeros i));
       }
 
   module _ (h : List ℕ) (k : ℕ) (so_far : Summing p term count h k) where
@@ -46,9 +44,6 @@ module _ (p : ℕ) (positive : 0 < p) (term : ℕ → List ℕ) (count : ℕ) wh
 
     pub summing_fits : count ≤ longest_sum → p ≤ largest_modulus → AtMost sum_most h
     summing_fits few limit i = omega (arith, so_far.bound i, products few, mul-le-mul limit limit)
-
-    pub summing_small : count ≤ longest_sum → (i : ℕ) → SmallSum p (get_or h i 0)
-    summing_small few i = omega (arith, so_far.bound i, products few)
 
     pub summing_turn : (f g : List ℕ) → Canonical p f → Canonical p g → length f ≤ office.system_coefficients
         → length g ≤ office.certificate_coefficients → term k ≡ mul (modulo p) f g

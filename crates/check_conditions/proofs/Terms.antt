@@ -2,20 +2,18 @@
 use mathlib.Core.Path.{◌≡◌, refl, sym, ap, ap₂, ◌∙◌}
 use mathlib.Core.List.{List, []}
 use Prim.Native.Nat.{ℕ, ◌+◌, ◌*◌, ◌≤◌, ◌<◌}
-use native.Mathlib.Nat.{mul-le-mul, mul-le-mul_right, suc-mul}
+use native.Mathlib.Nat.{mul-le-mul_right, suc-mul}
 use native.Mathlib.Omega.{arith}
 use lib.ListN.{get_or}
 use Rattle.algebra.specs.Coefficients.{add, mul}
 use Rattle.modular.specs.Modulo.{modulo}
 use Rattle.modular.specs.Lists.{mul_comm}
-use Rattle.words.specs.Limits.{office}
-use Rattle.residue.specs.Modulus.{ValidModulus}
 use Rattle.words.specs.System.{entry, side_entry}
 use Rattle.truth.specs.Solution.{total_modulo, row_of, column_of, side_of}
 use Rattle.truth.specs.Listed.{listed_at, total_ext}
-use Rattle.loader.specs.Slot.{slot, SlotFilled}
+use Rattle.loader.specs.Slot.{slot}
 use Rattle.loader.specs.Widths.{system_width, certificate_width}
-use Rattle.check_conditions.specs.Products.{product, longest_sum}
+use Rattle.check_conditions.specs.Products.{product}
 use Rattle.check_conditions.specs.Walk.{RowFilled}
 use Rattle.check_conditions.specs.Areas.{system_in_slots, vector_in, ValidDimensions, Loaded}
 use Rattle.check_conditions.specs.declared.dimensions.Dimensions.{Dimensions}
@@ -23,11 +21,6 @@ use Rattle.check_conditions.specs.declared.dimensions.Dimensions.{Dimensions}
 -- the place of row i and column j
 pub place_inside : {i j rows columns : ℕ} → i < rows → j < columns → i * columns + j < rows * columns
 place_inside {i} {j} {rows} {columns} hi hj = omega (arith, mul-le-mul_right columns hi, suc-mul i columns)
-
--- the places of a row's entries are few
-pub row_places : {l : Dimensions} {i : ℕ} → ValidDimensions l → i < office.rows → i * l.columns ≤ office.rows * office.columns
-row_places {l} {i} valid hi =
-    mul-le-mul {n₁ = i} {m₁ = l.columns} {n₂ = office.rows} {m₂ = office.columns} (omega arith) valid.columns
 
 module _ (l : Dimensions) (S C : List ℕ) where
   abbrev p : ℕ
@@ -52,23 +45,9 @@ module _ (l : Dimensions) (S C : List ℕ) where
       let e : i * l.columns + j * 1 ≡ i * l.columns + j = omega arith in
       ap₂ (mul (modulo p)) (ap (slot system_width S) e ∙ sym (entry_in i j hi hj)) (sym (vector_in_lem l.columns 1 j hj)))
 
-  -- what `sum_of_products` asks
-  abbrev Asks : ℕ → ℕ → ℕ → ℕ → Type 0
-  Asks first step start count =
-      (ValidModulus l.modulus × (count ≤ longest_sum))
-      × (((k : ℕ) → k < count → SlotFilled p system_width S (first + k * step))
-      × ((k : ℕ) → k < count → SlotFilled p certificate_width C (start + k)))
-
   module _ {count : ℕ} (loaded : Loaded l count S C) where
     valid : ValidDimensions l
     valid = loaded.certificate.dimensions
-
-    -- there are at most as many slots as the longest system has polynomials
-    pub places_few : l.rows * l.columns ≤ office.rows * office.columns
-    places_few = mul-le-mul valid.rows valid.columns
-
-    filled_at : (a k : ℕ) → a ≡ k → k < l.rows * l.columns + l.rows → SlotFilled p system_width S a
-    filled_at a k e lt = rw e (loaded.system k lt)
 
     -- a product of slots with the certificate's polynomial first
     swapped : (a b k i : ℕ) → a ≡ k → k < l.rows * l.columns + l.rows → b ≡ i → i < count
@@ -82,27 +61,6 @@ module _ (l : Dimensions) (S C : List ℕ) where
       pub row_filled : RowFilled l S i
       row_filled j hj = loaded.system (i * l.columns + j) (omega (arith, place_inside hi hj))
 
-      pub row_few : i * l.columns ≤ office.rows * office.columns
-      row_few = omega (arith, places_few, mul-le-mul_right {m = i} {n = l.rows} l.columns (omega arith))
-
-      pub row_asks : l.columns < count → Asks (i * l.columns) 1 1 l.columns
-      row_asks some = (
-        (valid.modulus, valid.columns),
-        (
-          λ k lt. filled_at (i * l.columns + k * 1) (i * l.columns + k) (omega arith) (omega (arith, place_inside hi lt)),
-          λ k lt. loaded.certificate.filled (1 + k) (omega arith),
-        ),
-      )
-
-      pub target_asks : 0 < count → Asks (l.rows * l.columns + i) 1 0 1
-      target_asks some = (
-        (valid.modulus, omega arith),
-        (
-          λ k lt. filled_at (l.rows * l.columns + i + k * 1) (l.rows * l.columns + i) (omega arith) (omega arith),
-          λ k lt. loaded.certificate.filled (0 + k) (omega arith),
-        ),
-      )
-
       pub target_sum : 0 < count → total_modulo p 1 (product p S (l.rows * l.columns + i) 1 C 0)
           ≡ mul (modulo p) (slot certificate_width C 0) (side_entry (system_in_slots l S) i)
       unfolding total_modulo product add
@@ -113,15 +71,6 @@ module _ (l : Dimensions) (S C : List ℕ) where
 
     module _ (start : ℕ) (fits : start + l.rows ≤ count) where
       module _ (j : ℕ) (hj : j < l.columns) where
-        pub column_asks : Asks j l.columns start l.rows
-        column_asks = (
-          (valid.modulus, valid.rows),
-          (
-            λ k lt. filled_at (j + k * l.columns) (k * l.columns + j) (omega arith) (omega (arith, place_inside lt hj)),
-            λ k lt. loaded.certificate.filled (start + k) (omega arith),
-          ),
-        )
-
         pub column_sum : total_modulo p l.rows (product p S j l.columns C start)
             ≡ column_of (system_in_slots l S) (vector_in l.rows start C) j
         unfolding column_of system_in_slots product
@@ -129,15 +78,6 @@ module _ (l : Dimensions) (S C : List ℕ) where
             swapped (j + i * l.columns) (start + i) (i * l.columns + j) (start + i) (omega arith)
             (omega (arith, place_inside hi hj)) refl (omega arith)
             ∙ ap₂ (mul (modulo p)) (sym (vector_in_lem l.rows start i hi)) (sym (entry_in i j hi hj)))
-
-      pub side_asks : Asks (l.rows * l.columns) 1 start l.rows
-      side_asks = (
-        (valid.modulus, valid.rows),
-        (
-          λ k lt. filled_at (l.rows * l.columns + k * 1) (l.rows * l.columns + k) (omega arith) (omega arith),
-          λ k lt. loaded.certificate.filled (start + k) (omega arith),
-        ),
-      )
 
       pub side_sum : total_modulo p l.rows (product p S (l.rows * l.columns) 1 C start)
           ≡ side_of (system_in_slots l S) (vector_in l.rows start C)

@@ -2,7 +2,7 @@
 -- values that they stand for. The limits are the office's.
 use Rattle.std.specs.Prelude.{List, ℕ, ◌+◌, ◌*◌, ◌≤◌, ◌<◌}
 use Rattle.words.specs.Limits.{office}
-use Rattle.residue.specs.Modulus.{ValidModulus}
+use Rattle.residue.specs.Modulus.{ValidModulus, valid_modulus}
 use Rattle.words.specs.System.{System}
 use Rattle.truth.specs.Listed.{listed}
 use Rattle.loader.specs.Slot.{slot, SlotFilled}
@@ -46,6 +46,10 @@ pub record ValidDimensions (l : Dimensions) : Type 0 where
   pub modulus : ValidModulus l.modulus
   pub rows : l.rows ≤ office.rows
   pub columns : l.columns ≤ office.columns
+
+-- all that there are
+pub valid_dimensions : (l : Dimensions) → ValidDimensions l
+valid_dimensions l = record { modulus = valid_modulus l.modulus; rows = l.within.0; columns = l.within.1 }
 
 -- so many polynomials stand in the certificate's area
 pub record CertificateLoaded (l : Dimensions) (count : ℕ) (C : List ℕ) : Type 0 where

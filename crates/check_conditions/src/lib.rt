@@ -4,6 +4,7 @@
 #![tactic(auto)]
 
 pub mod absence;
+pub mod areas;
 pub mod dimensions;
 pub mod matrix;
 pub mod solution;

@@ -1,6 +1,5 @@
 // Sums of products of a system's polynomials with a certificate's. They stay unreduced until the last product is added.
 ghost use Rattle.std.specs.Prelude.{ℕ, ◌+◌, ◌*◌, ◌≤◌, ◌<◌};
-ghost use Rattle.residue.specs.Modulus.{ValidModulus};
 ghost use Rattle.polynomial.specs.Value.{Represents};
 ghost use Rattle.truth.specs.Solution.{total_modulo};
 ghost use Rattle.loader.specs.Slot.{SlotFilled};
@@ -30,7 +29,7 @@ pub fn sum_of_products(
     count: usize,
     modulus: Modulus,
 ) -> Polynomial
-    requires valid_modulus { ValidModulus modulus × (count ≤ longest_sum) }
+    requires bounds { (count ≤ longest_sum) }
     requires system { (k : ℕ) → k < count → SlotFilled modulus.p system_width system.now (first + k * step) }
     requires certificate { (k : ℕ) → k < count → SlotFilled modulus.p certificate_width certificate.now (start + k) }
     ensures { Represents modulus.p result
@@ -38,12 +37,10 @@ pub fn sum_of_products(
         (product modulus.p system.now first step certificate.now start)) }
 {
     let mut h = zeros();
-    let mut k = 0;
-    while k < count {
+    for k in 0..count {
         let f = coefficients_in(system, SYSTEM_WIDTH, first + k * step);
         let g = coefficients_in(certificate, CERTIFICATE_WIDTH, start + k);
         add_rows(&mut h, f, f.len(), g, g.len());
-        k += 1;
     }
     Polynomial::from_words(&h, 0, LONGEST, modulus)
 }

@@ -9,7 +9,6 @@ ghost use Rattle.modular.specs.Modulo.{modulo};
 ghost use Rattle.modular.specs.Canonical.{Canonical};
 ghost use Rattle.modular.specs.Delay.{degree};
 ghost use Rattle.words.specs.Limits.{office};
-ghost use Rattle.residue.specs.Modulus.{ValidModulus};
 ghost use Rattle.vector.specs.Bound.{AtMost};
 ghost use Rattle.vector.specs.Multiple.{sum_at};
 ghost use Rattle.vector.specs.Reduced.{polynomial};
@@ -19,18 +18,16 @@ ghost use Rattle.polynomial_words.specs.Window.{ReducedFrom};
 ghost use Rattle.loader.specs.Slot.{slot};
 ghost use Rattle.loader.specs.Widths.{system_width};
 ghost use Rattle.truth.specs.Verdict.{zero?};
-ghost use Rattle.check_conditions.specs.Areas.{ValidDimensions, Loaded, system_in_slots};
-ghost use Rattle.check_conditions.specs.Areas.{certifying_denominator_in, certifying_numerators_in};
-ghost use Rattle.check_conditions.specs.Walk.{carried_width, carried_words, carried_in, window_words, RowFilled};
+ghost use Rattle.check_conditions.specs.Held.{system_of, certifying_denominator_of, certifying_numerators_of};
+ghost use Rattle.check_conditions.specs.Walk.{carried_width, carried_words, carried_in, window_words};
 ghost use Rattle.check_conditions.specs.Walk.{CarriedSums, TakesRow, Carries};
 
-use crate::dimensions::Dimensions;
+use crate::areas::SolutionAreas;
 use limits::Office;
 use loader::coefficients_in;
 use loader::width::{CERTIFICATE_WIDTH, SYSTEM_WIDTH};
 use polynomial_words::{divide_words, multiply_by_x};
 use residue::modulus::Modulus;
-use residue::number::{larger, lesser};
 use vector::{add_scaled, clear, copy, find_leading, reduce_range};
 
 // The most coefficients of a remainder by w: one fewer than w may have.
@@ -55,7 +52,7 @@ const DIVIDEND: usize = Office::CERTIFICATE_COEFFICIENTS as usize;
 // Stores z modulo w in a window that holds zeros, behind its first places. In between the window has the quotient, which is not
 // kept.
 fn store_remainder(window: &mut Window, z: &[u64], w: &[u64], inverse: u64, modulus: Modulus)
-    requires valid_modulus { ValidModulus modulus × (length window.old ≡ window_words) × AtMost 0 window.old }
+    requires bounds { (length window.old ≡ window_words) × AtMost 0 window.old }
     requires dividend { Canonical modulus.p z.now × (length z.now ≤ office.certificate_coefficients) }
     requires divisor { Canonical modulus.p w.now × (0 < length w.now) × (length w.now ≤ office.certificate_coefficients)
         × (inverse ≡ (modulo modulus.p).inverse (leading (modulo modulus.p) w.now)) }
@@ -70,7 +67,7 @@ fn store_remainder(window: &mut Window, z: &[u64], w: &[u64], inverse: u64, modu
     copy(&mut rest, 0, z, 0, n);
     divide_words(&mut rest, n, window, w, e, inverse, modulus);
     clear(window, 0, WINDOW);
-    copy(window, PLACES, &rest, 0, lesser(n, e));
+    copy(window, PLACES, &rest, 0, n.min(e));
     reduce_range(window, PLACES + e, modulus);
 }
 
@@ -94,112 +91,95 @@ fn add_to_columns(
     carried: &mut Remainders,
     window: &Window,
     e: usize,
-    system: &[u64],
-    dimensions: Dimensions,
+    areas: &SolutionAreas,
     i: usize,
     k: usize,
 )
-    requires valid_dimensions { ValidDimensions dimensions × (i < office.rows) × (k < office.system_coefficients)
-        × RowFilled dimensions system.now i }
-    requires sums { CarriedSums dimensions.modulus.p (i * office.system_coefficients + k) carried.old }
+    requires bounds { (i < areas.now.dimensions.rows) × (k < office.system_coefficients) }
+    requires sums { CarriedSums areas.now.dimensions.modulus.p (i * office.system_coefficients + k) carried.old }
     requires window { (length window.now ≡ window_words) × (e ≤ carried_width)
-        × ReducedFrom dimensions.modulus.p window.now (office.system_coefficients - k) }
-    ensures terms { (j : ℕ) → j < dimensions.columns →
-        carried_in dimensions.modulus.p e carried.new j ≡
-        add (modulo dimensions.modulus.p) (carried_in dimensions.modulus.p e carried.old j)
-        (scale (modulo dimensions.modulus.p) (get_or (slot system_width system.now (i * dimensions.columns + j)) k 0)
-        (polynomial dimensions.modulus.p window.now (office.system_coefficients - k) e)) }
-    ensures sums { CarriedSums dimensions.modulus.p (i * office.system_coefficients + k + 1) carried.new }
+        × ReducedFrom areas.now.dimensions.modulus.p window.now (office.system_coefficients - k) }
+    ensures terms { (j : ℕ) → j < areas.now.dimensions.columns →
+        carried_in areas.now.dimensions.modulus.p e carried.new j ≡
+        add (modulo areas.now.dimensions.modulus.p) (carried_in areas.now.dimensions.modulus.p e carried.old j)
+        (scale (modulo areas.now.dimensions.modulus.p)
+        (get_or (slot system_width areas.now.system.now (i * areas.now.dimensions.columns + j)) k 0)
+        (polynomial areas.now.dimensions.modulus.p window.now (office.system_coefficients - k) e)) }
+    ensures sums { CarriedSums areas.now.dimensions.modulus.p (i * office.system_coefficients + k + 1) carried.new }
 {
-    let mut j = 0;
-    while j < dimensions.columns {
-        let f = coefficients_in(system, SYSTEM_WIDTH, i * dimensions.columns + j);
+    let columns = areas.dimensions.columns;
+    for j in 0..columns {
+        let f = coefficients_in(areas.system, SYSTEM_WIDTH, i * columns + j);
         add_term(carried, j, f, k, window, e);
-        j += 1;
     }
 }
 
 // Returns the most coefficients that an entry in row i has. What is promised, and needed, is only that none has more.
-fn longest_entry(system: &[u64], dimensions: Dimensions, i: usize) -> usize
-    requires { ValidDimensions dimensions × (i < office.rows) × RowFilled dimensions system.now i }
+fn longest_entry(areas: &SolutionAreas, i: usize) -> usize
+    requires { i < areas.now.dimensions.rows }
     ensures { (result ≤ office.system_coefficients)
-        × ((j : ℕ) → j < dimensions.columns →
-        length (slot system_width system.now (i * dimensions.columns + j)) ≤ result) }
+        × ((j : ℕ) → j < areas.now.dimensions.columns →
+        length (slot system_width areas.now.system.now (i * areas.now.dimensions.columns + j)) ≤ result) }
 {
-    let mut longest = 0;
-    let mut j = 0;
-    while j < dimensions.columns {
-        let f = coefficients_in(system, SYSTEM_WIDTH, i * dimensions.columns + j);
-        longest = larger(longest, f.len());
-        j += 1;
+    let columns = areas.dimensions.columns;
+    let mut longest: usize = 0;
+    for j in 0..columns {
+        let f = coefficients_in(areas.system, SYSTEM_WIDTH, i * columns + j);
+        longest = longest.max(f.len());
     }
     longest
 }
 
 // Takes row i along in every column: what is carried on is the remainder by w of what was carried and of Z_i·A_ij, added. So it is
 // the remainder of the sum with the row, where it was that of the sum before it (`carries_on`).
-fn take_row(
-    carried: &mut Remainders,
-    system: &[u64],
-    certificate: &[u64],
-    dimensions: Dimensions,
-    inverse: u64,
-    i: usize,
-)
-    requires loaded { Loaded dimensions (dimensions.columns + 2 + dimensions.rows) system.now certificate.now
-        × (i < dimensions.rows) }
-    requires divisor { (0 < length (certifying_denominator_in dimensions certificate.now))
-        × (inverse ≡ (modulo dimensions.modulus.p).inverse
-        (leading (modulo dimensions.modulus.p) (certifying_denominator_in dimensions certificate.now))) }
-    requires sums { CarriedSums dimensions.modulus.p (i * office.system_coefficients) carried.old }
-    ensures { TakesRow (system_in_slots dimensions system.now)
-        (certifying_denominator_in dimensions certificate.now)
-        (certifying_numerators_in dimensions certificate.now) i carried.old carried.new }
+fn take_row(carried: &mut Remainders, areas: &SolutionAreas, inverse: u64, i: usize)
+    requires bounds { i < areas.now.dimensions.rows }
+    requires divisor { (0 < length (certifying_denominator_of areas.now))
+        × (inverse ≡ (modulo areas.now.dimensions.modulus.p).inverse
+        (leading (modulo areas.now.dimensions.modulus.p) (certifying_denominator_of areas.now))) }
+    requires sums { CarriedSums areas.now.dimensions.modulus.p (i * office.system_coefficients) carried.old }
+    ensures { TakesRow (system_of areas.now) (certifying_denominator_of areas.now) (certifying_numerators_of areas.now) i
+        carried.old carried.new }
 {
+    let dimensions = areas.dimensions;
     let modulus = dimensions.modulus;
-    let w = coefficients_in(certificate, CERTIFICATE_WIDTH, dimensions.columns + 1);
-    let z = coefficients_in(certificate, CERTIFICATE_WIDTH, dimensions.columns + 2 + i);
+    let w = coefficients_in(areas.certificate, CERTIFICATE_WIDTH, dimensions.columns + 1);
+    let z = coefficients_in(
+        areas.certificate,
+        CERTIFICATE_WIDTH,
+        dimensions.columns + 2 + i,
+    );
     let e = w.len() - 1;
-    let longest = longest_entry(system, dimensions, i);
+    let longest = longest_entry(areas, i);
     let mut window = [0; WINDOW];
     store_remainder(&mut window, z, w, inverse, modulus);
-    let mut k = 0;
-    while k < longest {
-        add_to_columns(carried, &window, e, system, dimensions, i, k);
-        k += 1;
-        multiply_by_x(&mut window, PLACES - k, w, e, inverse, modulus);
+    for k in 0..longest {
+        add_to_columns(carried, &window, e, areas, i, k);
+        multiply_by_x(&mut window, PLACES - (k + 1), w, e, inverse, modulus);
     }
 }
 
 // Walks down the columns of Z·A from the first row to the last, with `carried` all 0 before the first. Behind the last it reduces
 // what is carried: of each column the remainder by w of the column of Z·A.
-pub fn walk_columns(
-    carried: &mut Remainders,
-    system: &[u64],
-    certificate: &[u64],
-    dimensions: Dimensions,
-)
-    requires loaded { Loaded dimensions (dimensions.columns + 2 + dimensions.rows) system.now certificate.now
-        × (0 < length (certifying_denominator_in dimensions certificate.now)) }
-    requires zeros { CarriedSums dimensions.modulus.p 0 carried.old }
-    ensures carries { Carries (system_in_slots dimensions system.now)
-        (certifying_denominator_in dimensions certificate.now)
-        (certifying_numerators_in dimensions certificate.now) dimensions.rows carried.new }
-    ensures reduced { (x : ℕ) → get_or carried.new x 0 < dimensions.modulus.p }
+pub fn walk_columns(carried: &mut Remainders, areas: &SolutionAreas)
+    requires divisor { 0 < length (certifying_denominator_of areas.now) }
+    requires zeros { CarriedSums areas.now.dimensions.modulus.p 0 carried.old }
+    ensures carries { Carries (system_of areas.now) (certifying_denominator_of areas.now)
+        (certifying_numerators_of areas.now) areas.now.dimensions.rows carried.new }
+    ensures reduced { (x : ℕ) → get_or carried.new x 0 < areas.now.dimensions.modulus.p }
 {
-    let w = coefficients_in(certificate, CERTIFICATE_WIDTH, dimensions.columns + 1);
+    let dimensions = areas.dimensions;
+    let w = coefficients_in(areas.certificate, CERTIFICATE_WIDTH, dimensions.columns + 1);
     let inverse = dimensions.modulus.inverse(w[w.len() - 1]);
-    let mut i = 0;
-    while i < dimensions.rows {
-        take_row(carried, system, certificate, dimensions, inverse, i);
-        i += 1;
+    for i in 0..dimensions.rows {
+        take_row(carried, areas, inverse, i);
     }
     reduce_range(carried, REMAINDERS, dimensions.modulus);
 }
 
 // Tells whether the remainder that is carried of column j, e coefficients at the most, is not zero.
 pub fn leaves_remainder(carried: &[u64], e: usize, j: usize, modulus: Modulus) -> bool
-    requires valid_modulus { ValidModulus modulus × (e ≤ carried_width) × (j < office.columns) }
+    requires bounds { (e ≤ carried_width) × (j < office.columns) }
     requires reduced { (length carried.now ≡ carried_words) × ((x : ℕ) → get_or carried.now x 0 < modulus.p) }
     ensures { result ≡ not (zero? (carried_in modulus.p e carried.now j)) }
 {

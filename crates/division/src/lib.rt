@@ -4,7 +4,6 @@
 ghost use Rattle.std.specs.Prelude.{◌<◌};
 ghost use Rattle.algebra.specs.Coefficients.{quotient, remainder};
 ghost use Rattle.modular.specs.Modulo.{modulo};
-ghost use Rattle.residue.specs.Modulus.{ValidModulus};
 ghost use Rattle.polynomial.specs.Value.{coefficients_of, ValidPolynomial, Represents};
 
 use polynomial::Polynomial;
@@ -25,7 +24,7 @@ pub struct Division {
 
 // Divides f by d, which is not zero.
 pub fn divide(f: Polynomial, d: Polynomial, modulus: Modulus) -> Division
-    requires { ValidModulus modulus × ValidPolynomial modulus.p f × ValidPolynomial modulus.p d × (0 < d.size) }
+    requires { ValidPolynomial modulus.p f × ValidPolynomial modulus.p d × (0 < d.size) }
     ensures quotient { Represents modulus.p result.quotient
         (quotient (modulo modulus.p) (coefficients_of f) (coefficients_of d)) }
     ensures remainder { Represents modulus.p result.remainder
@@ -54,18 +53,16 @@ pub fn divide(f: Polynomial, d: Polynomial, modulus: Modulus) -> Division
 
 // Returns the quotient of f by d, which is not zero. Where d divides f, it is f / d.
 pub fn quotient(f: Polynomial, d: Polynomial, modulus: Modulus) -> Polynomial
-    requires { ValidModulus modulus × ValidPolynomial modulus.p f × ValidPolynomial modulus.p d × (0 < d.size) }
+    requires { ValidPolynomial modulus.p f × ValidPolynomial modulus.p d × (0 < d.size) }
     ensures { Represents modulus.p result (quotient (modulo modulus.p) (coefficients_of f) (coefficients_of d)) }
 {
-    let w = divide(f, d, modulus);
-    w.quotient
+    divide(f, d, modulus).quotient
 }
 
 // Returns the remainder of f by d, which is not zero.
 pub fn remainder(f: Polynomial, d: Polynomial, modulus: Modulus) -> Polynomial
-    requires { ValidModulus modulus × ValidPolynomial modulus.p f × ValidPolynomial modulus.p d × (0 < d.size) }
+    requires { ValidPolynomial modulus.p f × ValidPolynomial modulus.p d × (0 < d.size) }
     ensures { Represents modulus.p result (remainder (modulo modulus.p) (coefficients_of f) (coefficients_of d)) }
 {
-    let w = divide(f, d, modulus);
-    w.remainder
+    divide(f, d, modulus).remainder
 }

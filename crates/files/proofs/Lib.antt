@@ -1,4 +1,2 @@
 pub mod Filling
-pub mod UnpackTurns
 pub mod WordBytes
-pub mod Opens

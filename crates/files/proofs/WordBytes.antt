@@ -1,15 +1,15 @@
 -- Words written as bytes, four to a word: the bytes before the loop's place are written, those from it on are as they were lent.
-use mathlib.Core.Path.{◌≡◌, refl, ap, ◌∙◌}
+use mathlib.Core.Path.{◌≡◌, refl, ap, sym, ◌∙◌}
 use mathlib.Core.List.{List, [], ◌∷◌}
-use Prim.Native.Nat.{ℕ, zero, suc, ◌+◌, ◌*◌, ◌/◌, ◌%◌, ◌≤◌, ◌<◌, min}
-use native.Mathlib.Nat.{le_antisymm, min-le_left, min-le_right}
+use Prim.Native.Nat.{ℕ, zero, suc, ◌+◌, ◌*◌, ◌/◌, ◌%◌, ◌≤◌, ◌<◌}
 use native.Mathlib.Omega.{arith}
+use Rattle.std.proofs.lemmas.List.Edits.{paste_none, paste_more}
 use lib.ListN.{length, get_or, set}
+use lib.Seq.{paste}
 use Rattle.modular.specs.Bits.{bound8}
 use Rattle.words.specs.Bytes.{bytes_of, fourth_byte_unit, second_byte_unit, third_byte_unit, word_bytes}
 use Rattle.words.proofs.BytesLaws.{length_bytes_of}
-use Rattle.files.specs.FileBytes.{WritesBytes}
-use Rattle.files.proofs.Filling.{filled, filled_length, filled_next}
+use Rattle.files.proofs.Filling.{filled, filled_next}
 
 -- the four bytes of word i
 pub record FourBytes (bytes : List ℕ) (at word : ℕ) : Type 0 where
@@ -33,46 +33,31 @@ bytes_at (w ∷ ws) (suc i) h =
       fourth = rw (step 3) ih.fourth;
     }
 
--- the loop's invariant: the first i of count words are written, for which there is room
-pub record BytesWritten (ws lent : List ℕ) (count : ℕ) (now : List ℕ) (i : ℕ) : Type 0 where
-  pub within : i ≤ count
-  pub size : length now ≡ length lent
-  pub bytes : now ≡ filled (bytes_of ws) lent (word_bytes * i)
+-- bytes that are written, those of the next word too
+pub bytes_next : (ws lent now : List ℕ) (i : ℕ) → now ≡ filled (bytes_of ws) lent (word_bytes * i) → i < length ws
+    → word_bytes * (i + 1) ≤ length lent
+    → set (set (set (set now (word_bytes * i) (get_or ws i 0 % bound8)) (word_bytes * i + 1) (get_or ws i 0 / second_byte_unit % bound8))
+    (word_bytes * i + 2) (get_or ws i 0 / third_byte_unit % bound8)) (word_bytes * i + 3) (get_or ws i 0 / fourth_byte_unit)
+    ≡ filled (bytes_of ws) lent (word_bytes * (i + 1))
+bytes_next ws lent now i is more room =
+    let n = length_bytes_of ws in
+    let four = bytes_at ws i more in
+    let s = bytes_of ws in
+    let at = word_bytes * i in
+    let one = filled_next s lent at now _ is (omega arith) (omega arith) four.first (at + 1) (omega arith) in
+    let two = filled_next s lent (at + 1) _ _ one (omega arith) (omega arith) four.second (at + 2) (omega arith) in
+    let three = filled_next s lent (at + 2) _ _ two (omega arith) (omega arith) four.third (at + 3) (omega arith) in
+    filled_next s lent (at + 3) _ _ three (omega arith) (omega arith) four.fourth (word_bytes * (i + 1)) (omega arith)
 
-pub bytes_start : (ws lent : List ℕ) (count : ℕ) → BytesWritten ws lent count lent 0
-bytes_start ws lent count = record { within = omega arith; size = refl; bytes = refl }
-
-module _ (ws lent : List ℕ) (count : ℕ) (few : count ≡ min (length ws) (length lent / word_bytes)) where
-  -- there is room for the words
-  pub count_room : (count ≤ length ws) × (word_bytes * count ≤ length lent)
-  count_room =
-      let words = min-le_left (length ws) (length lent / word_bytes) in
-      let room = min-le_right (length ws) (length lent / word_bytes) in
-      (omega arith, omega arith)
-
-  pub bytes_next : (now : List ℕ) (i : ℕ) → BytesWritten ws lent count now i → i < count → (after : List ℕ)
-      → after ≡ set (set (set (set now (word_bytes * i) (get_or ws i 0 % bound8))
-      (word_bytes * i + 1) (get_or ws i 0 / second_byte_unit % bound8))
-      (word_bytes * i + 2) (get_or ws i 0 / third_byte_unit % bound8))
-      (word_bytes * i + 3) (get_or ws i 0 / fourth_byte_unit) → BytesWritten ws lent count after (i + 1)
-  bytes_next now i t more after is =
-      let r = count_room in
-      let n = length_bytes_of ws in
-      let four = bytes_at ws i (omega arith) in
-      let s = bytes_of ws in
-      let at = word_bytes * i in
-      let one = filled_next s lent at now _ t.bytes (omega arith) (omega arith) four.first (at + 1) (omega arith) in
-      let two = filled_next s lent (at + 1) _ _ one (omega arith) (omega arith) four.second (at + 2) (omega arith) in
-      let three = filled_next s lent (at + 2) _ _ two (omega arith) (omega arith) four.third (at + 3) (omega arith) in
-      let written : after ≡ filled s lent (word_bytes * (i + 1)) =
-      is ∙ filled_next s lent (at + 3) _ _ three (omega arith) (omega arith) four.fourth (word_bytes * (i + 1)) (omega arith) in
-      record {
-        within = omega arith;
-        size = ap length written ∙ filled_length s lent (word_bytes * (i + 1)) (omega arith) (omega arith);
-        bytes = written;
-      }
-
-  pub bytes_end : (now : List ℕ) (i : ℕ) → BytesWritten ws lent count now i → count ≤ i → WritesBytes ws lent now (word_bytes * i)
-  bytes_end now i t past =
-      let all : i ≡ count = le_antisymm t.within past in
-      record { number = ap (λ n. word_bytes * n) (all ∙ few); bytes = t.bytes }
+-- four bytes that are copied over a part are written one after another; the fourth may be given otherwise
+pub four_set : (d : List ℕ) (at a b c e e' : ℕ) → at + word_bytes ≤ length d → e ≡ e'
+    → paste d at (a ∷ b ∷ c ∷ e ∷ []) 4 ≡ set (set (set (set d at a) (at + 1) b) (at + 2) c) (at + 3) e'
+four_set d at a b c e e' room same =
+    let s : List ℕ = a ∷ b ∷ c ∷ e ∷ [] in
+    let first : at + 0 ≡ at = omega arith in
+    sym (paste_more d at s 3 0 (omega arith) (omega arith))
+    ∙ ap (λ l. set l (at + 3) e) (sym (paste_more d at s 2 0 (omega arith) (omega arith))
+    ∙ ap (λ l. set l (at + 2) c) (sym (paste_more d at s 1 0 (omega arith) (omega arith))
+    ∙ ap (λ l. set l (at + 1) b) (sym (paste_more d at s 0 0 (omega arith) (omega arith))
+    ∙ ap (λ n. set (paste d at s 0) n a) first ∙ ap (λ l. set l at a) (sym (paste_none d at s)))))
+    ∙ ap (λ x. set (set (set (set d at a) (at + 1) b) (at + 2) c) (at + 3) x) same

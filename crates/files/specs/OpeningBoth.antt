@@ -1,11 +1,11 @@
 -- Opening a system's file and a certificate's (document 01, "Turned back"): number 10 of either, or the words of both.
-use Rattle.std.specs.Prelude.{ℕ, ◌*◌, ◌≡◌, Bool, true, ◌||◌, List, length}
+use Rattle.std.specs.Prelude.{ℕ, ◌*◌, ◌≡◌, Bool, true, ◌||◌, List, length, Result, Ok, Err}
 use Rattle.words.specs.Limits.{Limits, longest_system}
 use Rattle.words.specs.Outcome.Outcome.{accepted}
 use Rattle.words.specs.Bytes.{broken, too_long, word_bytes}
 use Rattle.files.specs.Opening.{turned_back, Opened}
-use Rattle.files.specs.declared.opening.FilesOpened.{FilesOpened}
-use Rattle.files.specs.declared.opening.FilesOpened.TheVariants.{Words, Refused}
+use Rattle.answers.specs.declared.answer.Refusal.{Refusal}
+use Rattle.answers.specs.Answer.{reason_number}
 
 -- 10 at 0: of either file that is not whole words, and of a system's of more than so many bytes; a certificate's file may be longer
 abbrev pub files_turned_back : ℕ → List ℕ → List ℕ → Bool
@@ -29,10 +29,10 @@ pub record NoneWithin (limit : ℕ) (f g before before' after after' : List ℕ)
   pub system_stays : after ≡ before
   pub certificate_stays : after' ≡ before'
 
-abbrev pub BothWithin : ℕ → (f g before before' after after' : List ℕ) → FilesOpened → Type 0
-BothWithin limit f g before before' after after' (Words n m) = WordsWithin limit f g before before' after after' n m
-BothWithin limit f g before before' after after' (Refused r) =
-    NoneWithin limit f g before before' after after' r.number r.place
+abbrev pub BothWithin : ℕ → (f g before before' after after' : List ℕ) → Result (ℕ × ℕ) Refusal → Type 0
+BothWithin limit f g before before' after after' (Ok counts) = WordsWithin limit f g before before' after after' counts.0 counts.1
+BothWithin limit f g before before' after after' (Err r) =
+    NoneWithin limit f g before before' after after' (reason_number r.reason) r.place
 
 -- the same by limits, whose longest system it is that limits the system's file
 abbrev pub OpensWords : Limits → (f g before before' after after' : List ℕ) → (n m : ℕ) → Type 0
@@ -41,7 +41,7 @@ OpensWords limits = WordsWithin (word_bytes * longest_system limits)
 abbrev pub OpensNone : Limits → (f g before before' after after' : List ℕ) → (number place : ℕ) → Type 0
 OpensNone limits = NoneWithin (word_bytes * longest_system limits)
 
-abbrev pub OpensBoth : Limits → (f g before before' after after' : List ℕ) → FilesOpened → Type 0
-OpensBoth limits f g before before' after after' (Words n m) = OpensWords limits f g before before' after after' n m
-OpensBoth limits f g before before' after after' (Refused r) =
-    OpensNone limits f g before before' after after' r.number r.place
+abbrev pub OpensBoth : Limits → (f g before before' after after' : List ℕ) → Result (ℕ × ℕ) Refusal → Type 0
+OpensBoth limits f g before before' after after' (Ok counts) = OpensWords limits f g before before' after after' counts.0 counts.1
+OpensBoth limits f g before before' after after' (Err r) =
+    OpensNone limits f g before before' after after' (reason_number r.reason) r.place

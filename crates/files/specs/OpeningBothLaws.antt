@@ -1,25 +1,24 @@
 -- Two files that were opened: whatever is asked of their words behind number 10, the words that were left tell what the files tell.
-use Rattle.std.specs.Prelude.{◌≡◌, refl, ◌||◌, List, ℕ, ◌*◌, ◌≤◌, length, take}
+use Rattle.std.specs.Prelude.{◌≡◌, refl, ◌||◌, List, ℕ, ◌*◌, ◌≤◌, length, take, Result, Ok, Err}
 use Rattle.std.proofs.Common.{sym, ap, ap₂, ◌∙◌, subst, arith}
 use Rattle.words.specs.Limits.{Limits, longest_system}
 use Rattle.words.specs.Outcome.{Outcome, refuse}
 use Rattle.words.specs.Outcome.Outcome.{refused}
 use Rattle.words.specs.Bytes.{words_of, word_bytes}
 use Rattle.answers.specs.declared.answer.Refusal.{Refusal}
+use Rattle.answers.specs.Answer.{reason_number}
 use Rattle.files.specs.Opening.{first_words}
 use Rattle.files.specs.OpeningLaws.{unlimited, opened_whole, opened_first, opened_all}
 use Rattle.files.specs.OpeningBoth.{files_turned_back, files_broken, WordsWithin, NoneWithin, BothWithin}
 use Rattle.files.specs.OpeningBoth.{OpensWords, OpensNone, OpensBoth}
-use Rattle.files.specs.declared.opening.FilesOpened.{FilesOpened}
-use Rattle.files.specs.declared.opening.FilesOpened.TheVariants.{Words, Refused}
 
 -- by what was found
-module _ (limit : ℕ) (f g before before' after after' : List ℕ) (found : FilesOpened)
+module _ (limit : ℕ) (f g before before' after after' : List ℕ) (found : Result (ℕ × ℕ) Refusal)
     (opens : BothWithin limit f g before before' after after' found) where
-  pub within_are : {n m : ℕ} → found ≡ Words n m → WordsWithin limit f g before before' after after' n m
+  pub within_are : {n m : ℕ} → found ≡ Ok (n, m) → WordsWithin limit f g before before' after after' n m
   within_are e = subst (BothWithin limit f g before before' after after') e opens
 
-  pub none_within : {r : Refusal} → found ≡ Refused r → NoneWithin limit f g before before' after after' r.number r.place
+  pub none_within : {r : Refusal} → found ≡ Err r → NoneWithin limit f g before before' after after' (reason_number r.reason) r.place
   none_within e = subst (BothWithin limit f g before before' after after') e opens
 
 module _ (limit : ℕ) (f g : List ℕ) {A : Type 0} where
@@ -50,18 +49,18 @@ module _ (limit : ℕ) (f g : List ℕ) {A : Type 0} where
         within_first (ap (λ (ws : List ℕ). tell ws (first_words (length before') (words_of g))) all ∙ decide)
 
 -- the same by limits
-pub by_limits : (limits : Limits) (f g before before' after after' : List ℕ) (found : FilesOpened)
+pub by_limits : (limits : Limits) (f g before before' after after' : List ℕ) (found : Result (ℕ × ℕ) Refusal)
     → BothWithin (word_bytes * longest_system limits) f g before before' after after' found
     → OpensBoth limits f g before before' after after' found
-by_limits limits f g before before' after after' (Words n m) opens = opens
-by_limits limits f g before before' after after' (Refused r) opens = opens
+by_limits limits f g before before' after after' (Ok counts) opens = opens
+by_limits limits f g before before' after after' (Err r) opens = opens
 
-module _ (limits : Limits) (f g before before' after after' : List ℕ) (found : FilesOpened)
+module _ (limits : Limits) (f g before before' after after' : List ℕ) (found : Result (ℕ × ℕ) Refusal)
     (opens : OpensBoth limits f g before before' after after' found) where
-  pub both_are : {n m : ℕ} → found ≡ Words n m → OpensWords limits f g before before' after after' n m
+  pub both_are : {n m : ℕ} → found ≡ Ok (n, m) → OpensWords limits f g before before' after after' n m
   both_are e = subst (OpensBoth limits f g before before' after after') e opens
 
-  pub none_is : {r : Refusal} → found ≡ Refused r → OpensNone limits f g before before' after after' r.number r.place
+  pub none_is : {r : Refusal} → found ≡ Err r → OpensNone limits f g before before' after after' (reason_number r.reason) r.place
   none_is e = subst (OpensBoth limits f g before before' after after') e opens
 
 module _ (limits : Limits) (f g : List ℕ) {A : Type 0} where

@@ -7,29 +7,31 @@ ghost use Rattle.files.specs.OpeningBoth.{BothWithin, OpensBoth};
 
 use crate::unpacking::unpack;
 use answers::word::WORD_BYTES;
-use answers::{Counted, Refusal};
+use answers::{Reason, Refusal};
 use limits::Office;
+
+// Number 10, at place 0.
+const BAD_LENGTH: Refusal = Refusal {
+    reason: Reason::BadFileLength,
+    place: 0,
+};
 
 // Tells whether a file is turned back: where its bytes are not whole words or are more than `limit`.
 fn turned_back(bytes: &[u8], limit: usize) -> bool
     ensures { result ≡ turned_back limit bytes.now }
 {
-    if bytes.len() % WORD_BYTES != 0 {
-        return true;
-    }
-    limit < bytes.len()
+    bytes.len() % WORD_BYTES != 0 || limit < bytes.len()
 }
 
 // Writes the words of a file over the first of `words`, as many as there is room for. Returns their number. Refuses with number 10
 // where the bytes are not whole words or are more than `limit`; `words` then stay.
-pub fn open_file(words: &mut [u32], bytes: &[u8], limit: usize) -> Counted
+pub fn open_file(words: &mut [u32], bytes: &[u8], limit: usize) -> Result<usize, Refusal>
     ensures { Opened limit bytes.now words.old words.new (counted_outcome result) }
 {
-    let place: usize = 0;
     if turned_back(bytes, limit) {
-        return Counted::Refused(Refusal { number: 10, place });
+        return Err(BAD_LENGTH);
     }
-    Counted::Count(unpack(words, bytes))
+    Ok(unpack(words, bytes))
 }
 
 // One word more than the longest system has, and than the longest certificate: among so many is the first word at fault of whatever
@@ -37,14 +39,6 @@ pub fn open_file(words: &mut [u32], bytes: &[u8], limit: usize) -> Counted
 pub const SYSTEM_SPACE: usize = Office::SYSTEM_WORDS + 1;
 
 pub const CERTIFICATE_SPACE: usize = Office::CERTIFICATE_WORDS + 1;
-
-// What opening two files finds.
-#[derive(Clone, Copy)]
-pub enum FilesOpened {
-    // How many words there are of the system, and of the certificate.
-    Words(usize, usize),
-    Refused(Refusal),
-}
 
 // Writes the words of a system's file and of a certificate's over the first of the lent ones, as many as there is room for. Refuses
 // with number 10 either file that is not whole words, and a system's of more than `limit` bytes; all lent words then stay.
@@ -54,20 +48,18 @@ pub fn open_within(
     system: &[u8],
     certificate: &[u8],
     limit: usize,
-) -> FilesOpened
+) -> Result<(usize, usize), Refusal>
     ensures { BothWithin limit system.now certificate.now
         system_words.old certificate_words.old
         system_words.new certificate_words.new result }
 {
-    let place: usize = 0;
-    if turned_back(system, limit) {
-        return FilesOpened::Refused(Refusal { number: 10, place });
+    if turned_back(system, limit) || turned_back(certificate, certificate.len()) {
+        return Err(BAD_LENGTH);
     }
-    if turned_back(certificate, certificate.len()) {
-        return FilesOpened::Refused(Refusal { number: 10, place });
-    }
-    let n = unpack(system_words, system);
-    FilesOpened::Words(n, unpack(certificate_words, certificate))
+    Ok((
+        unpack(system_words, system),
+        unpack(certificate_words, certificate),
+    ))
 }
 
 // Writes the words of a system's file and of a certificate's over the first of the lent ones, as many as there is room for. Refuses
@@ -77,7 +69,7 @@ pub fn open_both(
     certificate_words: &mut [u32],
     system: &[u8],
     certificate: &[u8],
-) -> FilesOpened
+) -> Result<(usize, usize), Refusal>
     ensures { OpensBoth office system.now certificate.now
         system_words.old certificate_words.old
         system_words.new certificate_words.new result }

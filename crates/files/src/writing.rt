@@ -4,8 +4,7 @@ ghost use Rattle.modular.specs.Bits.{bound8};
 ghost use Rattle.words.specs.Bytes.{second_byte_unit, third_byte_unit, fourth_byte_unit, word_bytes};
 ghost use Rattle.files.specs.FileBytes.{WritesBytes};
 
-use answers::word::{BYTE_BOUND, FOURTH_BYTE_UNIT, SECOND_BYTE_UNIT, THIRD_BYTE_UNIT, WORD_BYTES};
-use residue::number::lesser;
+use answers::word::WORD_BYTES;
 
 // Writes the four bytes of a word, from the place `at` on.
 fn write_word(bytes: &mut [u8], at: usize, word: u32)
@@ -13,10 +12,7 @@ fn write_word(bytes: &mut [u8], at: usize, word: u32)
     ensures { bytes.new ≡ set (set (set (set bytes.old at (word % bound8)) (at + 1)
         (word / second_byte_unit % bound8)) (at + 2) (word / third_byte_unit % bound8)) (at + 3) (word / fourth_byte_unit) }
 {
-    bytes[at] = (word % BYTE_BOUND) as u8;
-    bytes[at + 1] = (word / SECOND_BYTE_UNIT % BYTE_BOUND) as u8;
-    bytes[at + 2] = (word / THIRD_BYTE_UNIT % BYTE_BOUND) as u8;
-    bytes[at + 3] = (word / FOURTH_BYTE_UNIT) as u8;
+    bytes[at..at + WORD_BYTES].copy_from_slice(&word.to_le_bytes());
 }
 
 // Writes the words as bytes over the first of those lent, as many words as there is room for. Returns the number of their bytes.
@@ -24,11 +20,9 @@ fn write_word(bytes: &mut [u8], at: usize, word: u32)
 pub fn write_bytes(bytes: &mut [u8], words: &[u32]) -> usize
     ensures { WritesBytes words.now bytes.old bytes.new result }
 {
-    let count = lesser(words.len(), bytes.len() / WORD_BYTES);
-    let mut i: usize = 0;
-    while i < count {
+    let count = words.len().min(bytes.len() / WORD_BYTES);
+    for i in 0..count {
         write_word(bytes, WORD_BYTES * i, words[i]);
-        i = i + 1;
     }
-    WORD_BYTES * i
+    WORD_BYTES * count
 }

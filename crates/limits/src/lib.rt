@@ -105,7 +105,8 @@ impl Office {
     }
 }
 
-// The panel's limits.
+// The panel's limits. Beside the office's they stay constants of a type of their own: a trait for both is no plainer, since it would need
+// each of the five twice, once for code and once for clauses.
 #[derive(Clone, Copy)]
 pub struct Panel;
 

@@ -7,7 +7,7 @@
 -- writers, `LoadsSystem` and `LoadsCertificate` for the calls that hand out values, `polynomial_lookup` for the lookup, `Opened` for
 -- the words of a file. Each of these has a contract without `requires`, so it is proved for all that is lent that the call reads
 -- and writes nothing beside it and returns.
-use Rattle.std.specs.Prelude.{ℕ, ◌+◌, ◌*◌, ◌/◌, ◌%◌, ◌≤◌, ◌<◌, ◌≡◌, refl, ◌↔◌, Bool, true, false, ◌||◌, List, [], length, take}
+use Rattle.std.specs.Prelude.{ℕ, ◌+◌, ◌*◌, ◌/◌, ◌%◌, ◌≤◌, ◌<◌, ◌≡◌, refl, ◌↔◌, Bool, true, false, ◌||◌, List, [], length, take, Result, Ok, Err}
 use Rattle.std.proofs.Common.{ap, subst, arith, le-ltb}
 use Rattle.modular.specs.Prime.{Prime}
 use Rattle.modular.specs.Canonical.{Canonical}
@@ -58,11 +58,9 @@ use Rattle.verifier.specs.Checked.{CertifiedFiles, system_of_file, files_true}
 use Rattle.verifier.specs.FilesRefused.{FilesRefused}
 use Rattle.lookup.specs.Lookup.{Of, polynomial_lookup}
 use Rattle.lookup.specs.RefusedLaws.{NoPolynomial, lookup_refused_iff}
-use Rattle.answers.specs.declared.answer.Counted.{Counted}
-use Rattle.answers.specs.declared.answer.Counted.TheVariants.{Count, Refused}
 use Rattle.answers.specs.declared.answer.Refusal.{Refusal}
-use Rattle.answers.specs.declared.shape.SystemRead.{SystemRead}
-use Rattle.answers.specs.declared.shape.CertificateRead.{CertificateRead}
+use Rattle.answers.specs.declared.shape.Form.{Form as FormValue}
+use Rattle.answers.specs.declared.shape.Head.{Head as HeadValue}
 use Rattle.answers.specs.Answer.{system_outcome, certificate_outcome}
 use Rattle.answers.specs.Packed.{packed, packed_verdict, place_unit, number_most}
 use Rattle.writer.specs.Writing.{write_systems, write_certificate, Writes}
@@ -118,12 +116,12 @@ pub record Demand1 : Type 0 where
       → {number place : ℕ} → told ≡ refused number place → exit ≡ entry
   pub unchanged : {k : ℕ} {file entry exit : List ℕ} {r : ℕ} → SolvesPacked office k file entry exit r → ¬ (r % place_unit ≡ 0)
       → exit ≡ entry
-  pub unchanged_writing : {o : Outcome (List ℕ)} {entry exit : List ℕ} {r : Refusal} → Writes o entry (Refused r) exit
+  pub unchanged_writing : {o : Outcome (List ℕ)} {entry exit : List ℕ} {r : Refusal} → Writes o entry (Err r) exit
       → exit ≡ entry
-  pub unchanged_system : {ws sizes sizes' values values' : List ℕ} {answer : SystemRead}
+  pub unchanged_system : {ws sizes sizes' values values' : List ℕ} {answer : Result HeadValue Refusal}
       → LoadsSystem office ws answer sizes sizes' values values' → {number place : ℕ} → system_outcome answer ≡ refused number place
       → (sizes' ≡ sizes) × (values' ≡ values)
-  pub unchanged_certificate : {h : Shape} {cs sizes sizes' values values' : List ℕ} {answer : CertificateRead}
+  pub unchanged_certificate : {h : Shape} {cs sizes sizes' values values' : List ℕ} {answer : Result FormValue Refusal}
       → LoadsCertificate office h cs answer sizes sizes' values values' → {number place : ℕ}
       → certificate_outcome answer ≡ refused number place → (sizes' ≡ sizes) × (values' ≡ values)
   pub unchanged_lookup : (f g : List ℕ) (of : Of) (k : ℕ) {entry exit : List ℕ} {r : ℕ}
@@ -150,10 +148,10 @@ pub record Demand1 : Type 0 where
   pub polynomials : (p limit count : ℕ) (ws : List ℕ) (number place : ℕ)
       → (used (polynomials_from p limit count) ws ≡ refused number place) ↔ PolynomialsByTable p limit count ws number place
   -- of the calls that hand out values: of a sheet those of its words; of a card 2 and 3 of the p, n and m that are given, and those
-  pub load_system : {ws sizes sizes' values values' : List ℕ} {answer : SystemRead}
+  pub load_system : {ws sizes sizes' values values' : List ℕ} {answer : Result HeadValue Refusal}
       → LoadsSystem office ws answer sizes sizes' values values' → (number place : ℕ)
       → (system_outcome answer ≡ refused number place) ↔ ByTable (system_table office) 0 ws number place
-  pub load_certificate : {h : Shape} {cs sizes sizes' values values' : List ℕ} {answer : CertificateRead}
+  pub load_certificate : {h : Shape} {cs sizes sizes' values values' : List ℕ} {answer : Result FormValue Refusal}
       → LoadsCertificate office h cs answer sizes sizes' values values' → (number place : ℕ)
       → (certificate_outcome answer ≡ refused number place)
       ↔ ShapeFirst office h (ByTable (certificate_table office h) 20 cs) number place
@@ -260,17 +258,17 @@ pub record Demand2 : Type 0 where
       (λ sizes values. system_in_arrays office s.head sizes values ≡ s)
   pub system_writes : (sizes values : List ℕ) {entry exit : List ℕ} {s : Systems} → SystemsWithin office s
       → system_in_arrays office s.head sizes values ≡ s → longest_system office ≤ length entry
-      → {answer : Counted} → WritesSystem office office_fits sizes values s.head entry answer exit
+      → {answer : Result ℕ Refusal} → WritesSystem office office_fits sizes values s.head entry answer exit
       → WritesBack (systems_words s) entry answer exit
   pub system_back : (sizes values : List ℕ) {entry exit : List ℕ} {h : Head} {n : ℕ}
-      → WritesSystem office office_fits sizes values h entry (Count n) exit
-      → {lent_sizes sizes' lent_values values' : List ℕ} {answer : SystemRead}
+      → WritesSystem office office_fits sizes values h entry (Ok n) exit
+      → {lent_sizes sizes' lent_values values' : List ℕ} {answer : Result HeadValue Refusal}
       → LoadsSystem office (take n exit) answer lent_sizes sizes' lent_values values' → SystemRoom office office_fits lent_values
       → (system_outcome answer ≡ accepted h) × (system_in_arrays office h sizes' values' ≡ system_in_arrays office h sizes values)
-  pub words_back : (sizes values : List ℕ) {entry exit ws lent_sizes lent_values : List ℕ} {read : SystemRead}
+  pub words_back : (sizes values : List ℕ) {entry exit ws lent_sizes lent_values : List ℕ} {read : Result HeadValue Refusal}
       → LoadsSystem office ws read lent_sizes sizes lent_values values → SystemRoom office office_fits lent_values
       → {h : Head} → system_outcome read ≡ accepted h → longest_system office ≤ length entry
-      → {answer : Counted} → WritesSystem office office_fits sizes values h entry answer exit → WritesBack ws entry answer exit
+      → {answer : Result ℕ Refusal} → WritesSystem office office_fits sizes values h entry answer exit → WritesBack ws entry answer exit
   pub certificate_fits : (h : Shape) → ShapeWithin office h → (c : Certificate) → CertificateWithin office h c
       → InArrays (solution_count office.rows office.columns)
       (certificate_stride * solution_count office.rows office.columns)
@@ -278,19 +276,19 @@ pub record Demand2 : Type 0 where
   pub certificate_writes : (h : Shape) (sizes values : List ℕ) {entry exit : List ℕ} → ShapeWithin office h → {c : Certificate}
       → CertificateWithin office h c → certificate_in h (certificate_form c) sizes values ≡ c
       → longest_certificate office ≤ length entry
-      → {answer : Counted} → WritesCertificate office office_fits sizes values (certificate_form c) h entry answer exit
+      → {answer : Result ℕ Refusal} → WritesCertificate office office_fits sizes values (certificate_form c) h entry answer exit
       → WritesBack (certificate_words c) entry answer exit
   pub certificate_back : (h : Shape) (sizes values : List ℕ) {entry exit : List ℕ} {form : Form} {n : ℕ}
-      → WritesCertificate office office_fits sizes values form h entry (Count n) exit
-      → {lent_sizes sizes' lent_values values' : List ℕ} {answer : CertificateRead}
+      → WritesCertificate office office_fits sizes values form h entry (Ok n) exit
+      → {lent_sizes sizes' lent_values values' : List ℕ} {answer : Result FormValue Refusal}
       → LoadsCertificate office h (take n exit) answer lent_sizes sizes' lent_values values'
       → CertificateRoom office office_fits lent_values
       → (certificate_outcome answer ≡ accepted form) × (certificate_in h form sizes' values' ≡ certificate_in h form sizes values)
   pub certificate_words_back : (h : Shape) (sizes values : List ℕ) {entry exit ws lent_sizes lent_values : List ℕ}
-      {read : CertificateRead}
+      {read : Result FormValue Refusal}
       → LoadsCertificate office h ws read lent_sizes sizes lent_values values → CertificateRoom office office_fits lent_values
       → {form : Form} → certificate_outcome read ≡ accepted form → longest_certificate office ≤ length entry
-      → {answer : Counted} → WritesCertificate office office_fits sizes values form h entry answer exit
+      → {answer : Result ℕ Refusal} → WritesCertificate office office_fits sizes values form h entry answer exit
       → WritesBack ws entry answer exit
 
 pub demand_2 : Demand2

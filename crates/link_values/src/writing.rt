@@ -7,7 +7,7 @@ ghost use Rattle.link_values.specs.Files.{write_systems_file};
 ghost use Rattle.link_values.specs.Giving.{GivesList, GivesPacked};
 
 use answers::packed::pack_counted;
-use answers::{Counted, Refusal};
+use answers::{Reason, Refusal};
 use files::writing::write_bytes;
 use limits::Office;
 use writer::format::SYSTEM_VALUES;
@@ -23,14 +23,14 @@ fn write_to_bytes(
     columns: u32,
     sides: u32,
     modulus: u32,
-) -> Counted
+) -> Result<usize, Refusal>
     ensures { GivesList
         (write_systems_file office (length bytes.old)
         (system_in_arrays office (head_with modulus rows columns sides) sizes.now coefficients.now))
         bytes.old bytes.new (counted_outcome result) }
 {
     let mut words = [0u32; Office::SYSTEM_WORDS];
-    let written = write_system(
+    let count = write_system(
         &mut words,
         sizes,
         coefficients,
@@ -38,17 +38,14 @@ fn write_to_bytes(
         columns,
         sides,
         modulus,
-    );
-    match written {
-        Counted::Count(count) => {
-            if bytes.len() < Office::SYSTEM_BYTES {
-                let place: usize = 0;
-                return Counted::Refused(Refusal { number: 11, place });
-            }
-            Counted::Count(write_bytes(bytes, &words[..count]))
-        }
-        Counted::Refused(refusal) => Counted::Refused(refusal),
+    )?;
+    if bytes.len() < Office::SYSTEM_BYTES {
+        return Err(Refusal {
+            reason: Reason::SpaceShort,
+            place: 0,
+        });
     }
+    Ok(write_bytes(bytes, &words[..count]))
 }
 
 // Writes the file of a system, and gives the number of its bytes or the refusal as one number.

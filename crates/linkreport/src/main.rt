@@ -8,18 +8,19 @@ ghost use Rattle.report_text.specs.Longest.{report_space};
 ghost use Rattle.linkreport.specs.Printing.{Prints};
 
 use report::{SPACE, write_report};
+use std::io;
 use streams::side::has_argument;
-use streams::{SYSTEM_SPACE, StreamRead, print, read_input, say};
+use streams::{SYSTEM_SPACE, print, read_input, say};
 
 // Writes what is to be printed: the report of the bytes read, or nothing where they could not be read. Returns the number of its
 // bytes.
-fn reply(text: &mut [u8], file: &[u8], input: StreamRead) -> usize
+fn reply(text: &mut [u8], file: &[u8], input: io::Result<usize>) -> usize
     requires { (report_space ≤ length text.old) × (system_space ≤ length file.now) × ReadWithin (length file.now) input }
     ensures { Prints input file.now text.old text.new result }
 {
     match input {
-        StreamRead::Bytes(n) => write_report(text, &file[..n]),
-        StreamRead::Failed(_) => 0,
+        Ok(n) => write_report(text, &file[..n]),
+        Err(_) => 0,
     }
 }
 

@@ -2,28 +2,36 @@
 // side SIDE, 0 where there is no argument, to standard output, and nothing else. A refusal is a line on standard error.
 #![tactic(auto)]
 
-ghost use Rattle.std.specs.Prelude.{◌≤◌, length};
+ghost use Rattle.std.specs.Prelude.{◌≤◌, length, ◌≡◌};
 ghost use Rattle.streams.specs.Reading.{ReadWithin};
 ghost use Rattle.streams.specs.SystemSpace.{system_space};
 ghost use Rattle.streams.specs.Seen.{certificate_file_bytes};
 ghost use Rattle.linksolve.specs.Replying.{Replies};
+ghost use Rattle.linksolve.specs.declared.Unsolved.TheVariants.{Refused};
 
-use answers::{Counted, Refusal};
+use answers::Refusal;
 use limits::Office;
 use report_text::{SPACE, write_refusal};
 use solver::file::solve_file;
+use std::io;
 use std::io::{IsTerminal, Write};
-use streams::side::{SideAsked, has_argument, side_asked};
-use streams::{SYSTEM_SPACE, StreamRead, print, read_input, say};
+use streams::side::{has_argument, side_asked};
+use streams::{SYSTEM_SPACE, print, read_input, say};
 
-// What is to be handed on of a system.
+// Why no certificate is handed on of a system.
 #[derive(Clone, Copy)]
-enum Replied {
-    // The number of its certificate's bytes.
-    Certificate(usize),
+enum Unsolved {
     Refused(Refusal),
-    // Nothing: the system could not be read.
-    Nothing,
+    // The system could not be read.
+    Unread,
+}
+
+impl From<Refusal> for Unsolved {
+    ghost from_gives = { λ refusal unsolved. unsolved ≡ Refused refusal };
+
+    fn from(refusal: Refusal) -> Self {
+        Unsolved::Refused(refusal)
+    }
 }
 
 // Prints a refusal on standard error, as the report does.
@@ -46,19 +54,21 @@ fn deliver<O: Write + IsTerminal, E: Write>(output: &mut O, errors: &mut E, cert
 }
 
 // Solves a line of the system in the bytes read, and writes its certificate over the first of the lent bytes.
-fn reply(certificate: &mut [u8], file: &[u8], input: StreamRead, side: usize) -> Replied
+fn reply(
+    certificate: &mut [u8],
+    file: &[u8],
+    input: io::Result<usize>,
+    side: usize,
+) -> Result<usize, Unsolved>
     requires { (certificate_file_bytes ≤ length certificate.old) × (system_space ≤ length file.now)
         × ReadWithin (length file.now) input }
     ensures { Replies side input file.now certificate.old certificate.new result }
 {
-    let StreamRead::Bytes(n) = input else {
-        return Replied::Nothing;
+    let Ok(n) = input else {
+        return Err(Unsolved::Unread);
     };
-    let solved = solve_file(certificate, &file[..n], side);
-    match solved {
-        Counted::Count(count) => Replied::Certificate(count),
-        Counted::Refused(refusal) => Replied::Refused(refusal),
-    }
+    let count = solve_file(certificate, &file[..n], side)?;
+    Ok(count)
 }
 
 // Says how the program is used.
@@ -76,7 +86,7 @@ fn main(rt: HostRuntime) {
         return;
     }
     let asked = side_asked(&rt, 1);
-    let SideAsked::Number(side) = asked else {
+    let Some(side) = asked else {
         tell_usage(&mut errors);
         return;
     };
@@ -90,8 +100,8 @@ fn main(rt: HostRuntime) {
     let mut certificate = [0u8; Office::CERTIFICATE_BYTES];
     let replied = reply(&mut certificate, &file, input, side);
     match replied {
-        Replied::Certificate(n) => deliver(&mut rt.stdout(), &mut errors, &certificate[0..n]),
-        Replied::Refused(refusal) => refuse(&mut errors, refusal),
-        Replied::Nothing => {}
+        Ok(n) => deliver(&mut rt.stdout(), &mut errors, &certificate[0..n]),
+        Err(Unsolved::Refused(refusal)) => refuse(&mut errors, refusal),
+        Err(Unsolved::Unread) => {}
     }
 }

@@ -3,7 +3,7 @@ use mathlib.Core.Path.{◌≡◌, refl, sym, ap, ◌∙◌, subst}
 use mathlib.Core.Logic.{◌⊎◌, inl, inr}
 use mathlib.Core.List.{List, [], ◌++◌}
 use Prim.Native.Nat.{ℕ, zero, suc, ◌+◌, ◌-◌, ◌*◌, ◌≤◌, ◌<◌}
-use native.Mathlib.Nat.{eq-or-lt_of_le, le-mul_of_pos_right, mul-le-mul_right, zero-mul, add-mul}
+use native.Mathlib.Nat.{eq-or-lt_of_le, mul-le-mul_right, zero-mul, add-mul}
 use native.Mathlib.Numerals.{add-one}
 use native.Mathlib.Omega.{arith}
 use native.Mathlib.Decide.{dec_lt}
@@ -48,82 +48,55 @@ module _ {limit : ℕ} {ws : List ℕ} {n : ℕ} (has : HasEntries limit n ws) w
     pub reached_next : (m : ℕ) → m ≡ payload (get_or ws at 0) + 1 → at + m ≡ start_place ws (k + 1)
     reached_next m all = omega (arith, ap (λ a. payload (get_or ws a 0)) reached, next k more)
 
--- ---- loading: polynomial k is next, for slot j
+-- ---- loading: i of the polynomials are loaded
 
-pub record Loads (width : ℕ) (ws : List ℕ) (first from to : ℕ) (before area : List ℕ) (place j k : ℕ) : Type 0 where
-  pub least : from ≤ k
-  pub most : k ≤ to
-  pub slot : j ≡ first + (k - from)
-  pub reached : place ≡ start_place ws k
-  pub so_far : PartLoaded width ws first from k before area
+pub record Loads (width : ℕ) (ws : List ℕ) (first from : ℕ) (before area : List ℕ) (place i : ℕ) : Type 0 where
+  pub reached : place ≡ start_place ws (from + i)
+  pub so_far : PartLoaded width ws first from (from + i) before area
 
-pub loads_start : {width : ℕ} {ws : List ℕ} {first from to : ℕ} {area : List ℕ} {at : ℕ} → from ≤ to → at ≡ start_place ws from
-    → Loads width ws first from to area area at first from
-loads_start some reached = record {
-  least = omega arith;
-  most = some;
-  slot = omega arith;
-  reached = reached;
-  so_far = record { same_length = refl; filled = λ i lt. absurd (omega arith); kept = λ i lt. refl };
-}
-
-module _ {width : ℕ} {ws : List ℕ} {first from to : ℕ} {before area : List ℕ} {place j k : ℕ} (has : HasEntries (width - 1) to ws)
+module _ {width : ℕ} {ws : List ℕ} {first from to : ℕ} {before area : List ℕ} {place i : ℕ} (has : HasEntries (width - 1) to ws)
     (some : 0 < width) (room : (first + (to - from)) * width ≤ length before)
-    (L : Loads width ws first from to before area place j k) (more : k < to) where
-  -- slot j lies in the area
-  slot_room : j * width + width ≤ length before
-  slot_room = let lt : j < first + (to - from) = omega (arith, L.slot, L.least) in omega (arith, slot_before width lt)
+    (L : Loads width ws first from before area place i) (more : i < to - from) where
+  -- the next slot lies in the area
+  slot_room : (first + i) * width + width ≤ length before
+  slot_room = let lt : first + i < first + (to - from) = omega arith in omega (arith, slot_before width lt)
 
-  -- and its number is one
-  pub turn_number : j < length before
-  turn_number = omega (arith, slot_room, le-mul_of_pos_right j some)
-
-  pub turn_fits : j * width + (1 + payload (get_or ws place 0)) ≤ length area
-  turn_fits = omega (arith, slot_room, reached_size has L.reached more, L.so_far.same_length)
+  turn_fits : (first + i) * width + (1 + payload (get_or ws place 0)) ≤ length area
+  turn_fits = omega (arith, slot_room, reached_size has L.reached (omega arith), L.so_far.same_length)
 
   module _ (after : List ℕ) (n : ℕ) (all : n ≡ payload (get_or ws place 0) + 1)
-      (stores : after ≡ stored (λ i. payload (get_or ws (place + i) 0)) area (j * width) n) where
-    -- what stands before slot j stays
-    stays : (i : ℕ) → i < j * width → get_or after i 0 ≡ get_or area i 0
-    stays i lt = ap (λ l. get_or l i 0) stores ∙ stored_outside _ area (j * width) n i (inl lt)
+      (stores : after ≡ stored (λ j. payload (get_or ws (place + j) 0)) area ((first + i) * width) n) where
+    -- what stands before the slot stays
+    stays : (e : ℕ) → e < (first + i) * width → get_or after e 0 ≡ get_or area e 0
+    stays e lt = ap (λ l. get_or l e 0) stores ∙ stored_outside _ area ((first + i) * width) n e (inl lt)
 
-    new : InSlot width ws after j k
-    new i few =
+    new : InSlot width ws after (first + i) (from + i)
+    new e few =
         let same = ap (λ a. payload (get_or ws a 0)) L.reached in
-        ap (λ l. get_or l (j * width + i) 0) stores
-        ∙ stored_inside _ area (j * width) n i (omega (arith, turn_fits)) (omega arith)
-        ∙ ap (λ a. payload (get_or ws (a + i) 0)) L.reached
+        ap (λ l. get_or l ((first + i) * width + e) 0) stores
+        ∙ stored_inside _ area ((first + i) * width) n e (omega (arith, turn_fits)) (omega arith)
+        ∙ ap (λ a. payload (get_or ws (a + e) 0)) L.reached
 
-    either : (i : ℕ) → (from + i ≡ k) ⊎ (from + i < k) → InSlot width ws after (first + i) (from + i)
-    either i (inl e) =
-        let ej : j ≡ first + i = omega (arith, L.slot) in
-        rw (← ej, e) new
-    either i (inr lt) =
-        let before_j : first + i < j = omega (arith, L.slot) in
-        let size = has.sizes (from + i) (omega arith) in
-        λ e few. stays ((first + i) * width + e) (omega (arith, slot_before width before_j)) ∙ L.so_far.filled i lt e few
+    either : (j : ℕ) → (j ≡ i) ⊎ (j < i) → InSlot width ws after (first + j) (from + j)
+    either j (inl e) = rw e new
+    either j (inr lt) =
+        let before_i : first + j < first + i = omega arith in
+        let size = has.sizes (from + j) (omega arith) in
+        λ e few. stays ((first + j) * width + e) (omega (arith, slot_before width before_i)) ∙ L.so_far.filled j (omega arith) e few
 
-    pub loads_turn : Loads width ws first from to before after (place + n) (j + 1) (k + 1)
-    loads_turn = record {
-      least = omega (arith, L.least);
-      most = omega arith;
-      slot = omega (arith, L.slot, L.least);
-      reached = reached_next has L.reached more n all;
-      so_far = record {
-        same_length = ap length stores ∙ length_stored _ area (j * width) n ∙ L.so_far.same_length;
-        filled = λ i lt. either i (eq-or-lt_of_le (omega arith));
-        kept = λ i lt.
-            let from_first : first ≤ j = omega (arith, L.slot) in
-            stays i (omega (arith, mul-le-mul_right width from_first)) ∙ L.so_far.kept i lt;
-      };
-    }
-
-pub loads_end : {width : ℕ} {ws : List ℕ} {first from to : ℕ} {before area : List ℕ} {place j k : ℕ}
-    → Loads width ws first from to before area place j k → to ≤ k
-    → PartLoaded width ws first from to before area × (place ≡ start_place ws to)
-loads_end {width} {ws} {first} {from} {to} {before} {area} {place} {j} {k} L past =
-    let end : k ≡ to = omega (arith, L.most) in
-    (subst (λ i. PartLoaded width ws first from i before area) end L.so_far, L.reached ∙ ap (start_place ws) end)
+    pub loads_turn : Loads width ws first from before after (place + n) (i + 1)
+    loads_turn =
+        let next : from + i + 1 ≡ from + (i + 1) = omega arith in
+        record {
+          reached = reached_next has L.reached (omega arith) n all ∙ ap (start_place ws) next;
+          so_far = record {
+            same_length = ap length stores ∙ length_stored _ area ((first + i) * width) n ∙ L.so_far.same_length;
+            filled = λ j lt. either j (eq-or-lt_of_le (omega arith));
+            kept = λ e lt.
+                let from_first : first ≤ first + i = omega arith in
+                stays e (omega (arith, mul-le-mul_right width from_first)) ∙ L.so_far.kept e lt;
+          };
+        }
 
 -- ---- what is loaded stands in its slots
 

@@ -9,7 +9,6 @@ ghost use Rattle.words.specs.Limits.{office};
 ghost use Rattle.words.specs.Word.{payload};
 ghost use Rattle.words.specs.Starts.{start_place, first_entries, line_entries, HasEntries};
 ghost use Rattle.vector.specs.Stored.{stored};
-ghost use Rattle.residue.specs.Modulus.{ValidModulus};
 ghost use Rattle.polynomial.specs.Value.{polynomial_room, Represents};
 ghost use Rattle.loader.specs.Widths.{system_width};
 ghost use Rattle.loader.specs.Slot.{slot, InSlots, SlotFilled};
@@ -18,6 +17,7 @@ ghost use Rattle.loader.specs.Loaded.{PartLoaded};
 use polynomial::Polynomial;
 use read_frame::word::payload_of;
 use residue::modulus::Modulus;
+use vector::store_each;
 use width::SYSTEM_WIDTH;
 
 // Stores the payload of words[a + j] at area[d + j] for j below n.
@@ -25,11 +25,7 @@ pub fn copy_payloads(area: &mut [u64], d: usize, words: &[u32], a: usize, n: usi
     requires { (d + n ≤ length area.old) × (a + n ≤ length words.now) }
     ensures { area.new ≡ stored (λ j. payload (get_or words.now (a + j) 0)) area.old d n }
 {
-    let mut j = 0;
-    while j < n {
-        area[d + j] = payload_of(words[a + j]) as u64;
-        j += 1;
-    }
+    store_each(area, d, n, |j| payload_of(words[a + j]) as u64);
 }
 
 // Loads the polynomials from number `from` to before number `to`, of which the first starts at the place `at`, into the slots of
@@ -49,14 +45,10 @@ fn load_part(
         × (result ≡ start_place words.now to) }
 {
     let mut place = at;
-    let mut j = first;
-    let mut k = from;
-    while k < to {
+    for i in 0..to - from {
         let n = payload_of(words[place]) as usize + 1;
-        copy_payloads(area, j * width, words, place, n);
+        copy_payloads(area, (first + i) * width, words, place, n);
         place += n;
-        j += 1;
-        k += 1;
     }
     place
 }
@@ -68,10 +60,8 @@ fn step_over(words: &[u32], at: usize, from: usize, to: usize) -> usize
     ensures { result ≡ start_place words.now to }
 {
     let mut place = at;
-    let mut k = from;
-    while k < to {
+    for _ in from..to {
         place += payload_of(words[place]) as usize + 1;
-        k += 1;
     }
     place
 }
@@ -111,7 +101,7 @@ pub fn coefficients_in(area: &[u64], width: usize, k: usize) -> &[u64]
 
 // Returns the polynomial in slot k.
 pub fn polynomial_in(area: &[u64], width: usize, k: usize, modulus: Modulus) -> Polynomial
-    requires { ValidModulus modulus × SlotFilled modulus.p width area.now k × (width ≤ polynomial_room + 1) }
+    requires { SlotFilled modulus.p width area.now k × (width ≤ polynomial_room + 1) }
     ensures { Represents modulus.p result (slot width area.now k) }
 {
     let f = coefficients_in(area, width, k);

@@ -17,8 +17,9 @@ use Rattle.lookup.specs.StandingLaws.{part_framed}
 use Rattle.words.specs.OutcomeLaws.{mapped_accepted, mapped_refused}
 use Rattle.words.proofs.FramedLaws.{systems_framed, certificate_framed, start_inside}
 use Rattle.lookup.proofs.LookupLaws.{lookup_system_refused, lookup_certificate_refused, lookup_read}
-use Rattle.lookup.specs.declared.part.Part.{Part as PartValue}
-use Rattle.lookup.specs.declared.part.Part.TheVariants.{Refused}
+use Rattle.std.specs.Prelude.{Result, Err}
+use Rattle.std.specs.declared.ops.Range.{Range}
+use Rattle.answers.specs.Answer.{reason_number}
 use Rattle.answers.specs.declared.answer.Refusal.{Refusal}
 
 module _ (limits : Limits) (ss cs : List ℕ) (of : Of) (k : ℕ) where
@@ -26,14 +27,14 @@ module _ (limits : Limits) (ss cs : List ℕ) (of : Of) (k : ℕ) where
   Told = polynomial_lookup limits ss cs of k
 
   -- a value of the code tells the part
-  abbrev pub Tells : PartValue → Type 0
+  abbrev pub Tells : Result (Range ℕ) Refusal → Type 0
   Tells r = part_outcome r ≡ bounds_shown Told
 
-  pub find_system_refused : (r : Refusal) → refused r.number r.place ≡ mapped systems_head (read_systems limits ss)
-      → Tells (Refused r)
+  pub find_system_refused : (r : Refusal) → refused (reason_number r.reason) r.place ≡ mapped systems_head (read_systems limits ss)
+      → Tells (Err r)
   find_system_refused r t =
       let e = mapped_refused systems_head (read_systems limits ss) (sym t) in
-      ap bounds_shown (sym (lookup_system_refused limits ss cs of k r.number r.place e))
+      ap bounds_shown (sym (lookup_system_refused limits ss cs of k (reason_number r.reason) r.place e))
 
   module _ (h : Head) (told : accepted h ≡ mapped systems_head (read_systems limits ss)) where
     read_system : (s : Systems) × (read_systems limits ss ≡ accepted s) × (systems_head s ≡ h)
@@ -49,11 +50,11 @@ module _ (limits : Limits) (ss cs : List ℕ) (of : Of) (k : ℕ) where
     of_shape t = t ∙ ap (λ (g : Head). mapped certificate_form (read_certificate limits g.shape cs)) (sym read_system.2)
 
     pub find_certificate_refused : (r : Refusal)
-        → refused r.number r.place ≡ mapped certificate_form (read_certificate limits h.shape cs) → Tells (Refused r)
+        → refused (reason_number r.reason) r.place ≡ mapped certificate_form (read_certificate limits h.shape cs) → Tells (Err r)
     unfolding s
     find_certificate_refused r t =
         let e = mapped_refused certificate_form (read_certificate limits s.head.shape cs) (sym (of_shape t)) in
-        ap bounds_shown (sym (lookup_certificate_refused limits ss cs of k s read_system.1 r.number r.place e))
+        ap bounds_shown (sym (lookup_certificate_refused limits ss cs of k s read_system.1 (reason_number r.reason) r.place e))
 
     module _ (form : Form) (told' : accepted form ≡ mapped certificate_form (read_certificate limits h.shape cs)) where
       read_certificate_lem : (c : Certificate) × (read_certificate limits s.head.shape cs ≡ accepted c) × (certificate_form c ≡ form)
@@ -80,5 +81,5 @@ module _ (limits : Limits) (ss cs : List ℕ) (of : Of) (k : ℕ) where
         pub find_inside : (ws : List ℕ) → ws ≡ on of ss cs → StartsInside ws
         find_inside ws e = rw e (inside_on of)
 
-        pub find_part : (ws : List ℕ) → ws ≡ on of ss cs → (r : PartValue) → part_outcome r ≡ part_in ws k → Tells r
+        pub find_part : (ws : List ℕ) → ws ≡ on of ss cs → (r : Result (Range ℕ) Refusal) → part_outcome r ≡ part_in ws k → Tells r
         find_part ws e r found = found ∙ ap (λ v. part_in v k) e ∙ part_on of

@@ -10,20 +10,13 @@ ghost use Rattle.lookup.specs.Lookup.{on, polynomial_lookup, Borrows, companion,
 ghost use Rattle.answers.specs.Answer.{verdict_outcome};
 ghost use Rattle.lookup.specs.Answer.{of_asked, part_outcome};
 
-use crate::part::{Part, part_of};
-use answers::{CertificateRead, SystemRead, Verdict};
+use crate::part::part_of;
+pub use answers::Of;
+use answers::Refusal;
 use limits::Limits;
 use reader::certificate::read_certificate;
 use reader::system::read_system;
-
-// Of which of the two a polynomial is asked for.
-#[derive(Clone, Copy)]
-pub enum Of {
-    // Among A's, row by row, and those of the right sides, one after another.
-    System,
-    // Among d, N, w and Z, or else q.
-    Certificate,
-}
+use std::ops::Range;
 
 // Borrows the words of the one that is asked for.
 fn words_on<'a>(of: Of, system: &'a [u32], certificate: &'a [u32]) -> &'a [u32]
@@ -44,26 +37,14 @@ pub fn lookup_part(
     of: Of,
     number: usize,
     limits: Limits,
-) -> Part
+) -> Result<Range<usize>, Refusal>
     ensures { part_outcome result ≡
         bounds_shown
         (polynomial_lookup (limits_of limits) system.now certificate.now (of_asked of) number) }
 {
-    let read = read_system(system, limits);
-    match read {
-        SystemRead::Accepted(head) => {
-            let shape = head.shape;
-            let read = read_certificate(certificate, shape, limits);
-            match read {
-                CertificateRead::Accepted(_) => match of {
-                    Of::System => part_of(system, number),
-                    Of::Certificate => part_of(certificate, number),
-                },
-                CertificateRead::Refused(refusal) => Part::Refused(refusal),
-            }
-        }
-        SystemRead::Refused(refusal) => Part::Refused(refusal),
-    }
+    let head = read_system(system, limits)?;
+    read_certificate(certificate, head.shape, limits)?;
+    part_of(words_on(of, system, certificate), number)
 }
 
 // Borrows the part that `lookup_part` tells of the lent words: the words of that polynomial; empty on a refusal.
@@ -79,10 +60,9 @@ pub fn lookup<'a>(
         (on (of_asked of) system.entry.ref_ptr certificate.entry.ref_ptr) result.ref_ptr result.now }
 {
     let words = words_on(of, system, certificate);
-    let part = lookup_part(system, certificate, of, number, limits);
-    match part {
-        Part::Words(from, to) => &words[from..to],
-        Part::Refused(_) => &words[..0],
+    match lookup_part(system, certificate, of, number, limits) {
+        Ok(part) => &words[part],
+        Err(_) => &words[..0],
     }
 }
 
@@ -93,13 +73,10 @@ pub fn lookup_refusal(
     of: Of,
     number: usize,
     limits: Limits,
-) -> Verdict
+) -> Result<(), Refusal>
     ensures { verdict_outcome result ≡
         companion (polynomial_lookup (limits_of limits) system.now certificate.now (of_asked of) number) }
 {
-    let found = lookup_part(system, certificate, of, number, limits);
-    match found {
-        Part::Words(_, _) => Verdict::Accepted,
-        Part::Refused(refusal) => Verdict::Refused(refusal),
-    }
+    lookup_part(system, certificate, of, number, limits)?;
+    Ok(())
 }

@@ -5,16 +5,9 @@ ghost use Rattle.words.specs.Starts.{start_place};
 ghost use Rattle.lookup.specs.Answer.{part_outcome};
 ghost use Rattle.lookup.specs.Standing.{StartsInside, part_in};
 
-use answers::Refusal;
+use answers::{Reason, Refusal};
 use read_frame::word::{kind_of, payload_of};
-
-// Where a polynomial stands in the words of its system or certificate.
-#[derive(Clone, Copy)]
-pub enum Part {
-    // From the first place up to before the second.
-    Words(usize, usize),
-    Refused(Refusal),
-}
+use std::ops::Range;
 
 // Finds the place of the start word of polynomial `number`; behind the last polynomial that of the end word.
 fn start_of(words: &[u32], number: usize) -> usize
@@ -22,30 +15,28 @@ fn start_of(words: &[u32], number: usize) -> usize
     ensures { result ≡ start_place words.now number }
 {
     let mut at: usize = 1;
-    let mut left = number;
-    while 0 < left {
+    for _ in 0..number {
         let word = words[at];
         if kind_of(word) != 2 {
             return at;
         }
-        at = at + 1 + payload_of(word) as usize;
-        left = left - 1;
+        at += 1 + payload_of(word) as usize;
     }
     at
 }
 
 // Finds where polynomial `number` stands.
-pub fn part_of(words: &[u32], number: usize) -> Part
+pub fn part_of(words: &[u32], number: usize) -> Result<Range<usize>, Refusal>
     requires { StartsInside words.now }
     ensures { part_outcome result ≡ part_in words.now number }
 {
     let from = start_of(words, number);
     let word = words[from];
     if kind_of(word) != 2 {
-        return Part::Refused(Refusal {
-            number: 12,
+        return Err(Refusal {
+            reason: Reason::NoSuchPolynomial,
             place: 0,
         });
     }
-    Part::Words(from, from + 1 + payload_of(word) as usize)
+    Ok(from..from + 1 + payload_of(word) as usize)
 }

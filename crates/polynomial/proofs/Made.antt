@@ -2,11 +2,11 @@
 use mathlib.Core.Path.{◌≡◌, refl, sym, ap, ◌∙◌, subst}
 use mathlib.Core.Bool.{Bool}
 use mathlib.Core.List.{List, [], ◌∷◌}
-use Prim.Native.Nat.{ℕ, zero, suc, ◌-◌, ◌≤◌, ◌<◌}
+use Prim.Native.Nat.{ℕ, zero, suc, ◌-◌, ◌<◌}
 use native.Mathlib.Omega.{arith}
 use lib.Dec.{eqb, eqb-suc-zero}
 use lib.ListN.{length, get_or, set, take, replicate, length-set}
-use lib.Seq.{get_or-set_same, get_or-set_other, get_or-take, length-take-le}
+use lib.Seq.{get_or-set_same, get_or-set_other}
 use Rattle.algebra.specs.Coefficients.{one, leading}
 use Rattle.modular.specs.Modulo.{modulo}
 use Rattle.modular.specs.Closed.{canonical_nil, canonical_one}
@@ -59,9 +59,9 @@ decides_zero (suc n) (a ∷ words) some =
     (sym (eqb-suc-zero n))
     (decides_no (λ e. let z = ap length e in omega arith))
 
-pub leading_last : (p n : ℕ) (words : List ℕ) → n ≤ length words → 0 < n → get_or words (n - 1) 0 ≡ leading (modulo p) (take n words)
-leading_last p n words room some =
-    let last : n - 1 < n = omega arith in
-    sym (get_or-take n words (n - 1) 0 last)
-    ∙ sym (coefficient_get_or p (take n words) (n - 1))
-    ∙ coefficient_last p (take n words) (n - 1) (length-take-le n words room ∙ omega arith)
+-- the last word is the leading coefficient; without one, zero's is 0
+pub leading_last : (p : ℕ) (l : List ℕ) → get_or l (length l - 1) 0 ≡ leading (modulo p) l
+unfolding leading modulo
+leading_last p [] = refl
+leading_last p (a ∷ l) =
+    sym (coefficient_get_or p (a ∷ l) (length (a ∷ l) - 1)) ∙ coefficient_last p (a ∷ l) (length (a ∷ l) - 1) (omega arith)

@@ -7,6 +7,7 @@ use native.Mathlib.Nat.{zero-mod}
 use native.Mathlib.Omega.{arith}
 use lib.ListN.{length, get_or, take, drop}
 use Rattle.algebra.specs.Coefficients.{coefficient}
+use Rattle.modular.specs.Prime.{Prime}
 use Rattle.modular.specs.Modulo.{modulo}
 use Rattle.vector.specs.Stored.{stored, stored_first, stored_outside, length_stored, below_or_not}
 use Rattle.vector.specs.Reduced.{polynomial, canonical_reduced, coefficient_reduced, word_inside, word_behind}
@@ -20,6 +21,17 @@ pub record Residues (p : ℕ) (words : List ℕ) (a n : ℕ) (zeros residues : L
   pub room : length zeros ≡ polynomial_room
   pub zero : (i : ℕ) → get_or zeros i 0 ≡ 0
   pub copies : residues ≡ stored (λ j. get_or words (a + j) 0 % p) zeros 0 n
+
+pub copied : {p : ℕ} {words : List ℕ} {a n : ℕ} {zeros residues : List ℕ} → Prime p → n ≤ polynomial_room →
+    (length zeros ≡ polynomial_room) × ((i : ℕ) → get_or zeros i 0 ≡ 0) →
+    residues ≡ stored (λ j. get_or words (a + j) 0 % p) zeros 0 n → Residues p words a n zeros residues
+copied prime few blank copies = record {
+  positive = omega (arith, prime.large);
+  few = few;
+  room = blank.0;
+  zero = blank.1;
+  copies = copies;
+}
 
 module _ {p : ℕ} {words : List ℕ} {a n : ℕ} {zeros residues : List ℕ} (by : Residues p words a n zeros residues) where
   residue_word : (j : ℕ) → j < n → get_or residues j 0 ≡ get_or words (a + j) 0 % p

@@ -3,6 +3,7 @@
 
 pub mod equal;
 pub mod linear;
+pub mod making;
 pub mod product;
 pub mod value;
 

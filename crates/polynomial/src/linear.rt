@@ -2,31 +2,28 @@
 ghost use Rattle.std.specs.Prelude.{◌<◌};
 ghost use Rattle.algebra.specs.Coefficients.{add, subtract, scale, monic};
 ghost use Rattle.modular.specs.Modulo.{modulo};
-ghost use Rattle.residue.specs.Modulus.{ValidModulus};
 ghost use Rattle.polynomial.specs.Value.{coefficients_of, ValidPolynomial, Represents};
 
 use crate::value::Polynomial;
 use residue::modulus::Modulus;
-use residue::number::larger;
 use vector::add_scaled;
 
 impl Polynomial {
     // Returns self + c g. A sum, a difference and a multiple are each one of these.
     pub fn add_multiple(self, c: u64, g: Polynomial, modulus: Modulus) -> Polynomial
-        requires { ValidModulus modulus × ValidPolynomial modulus.p self × (c < modulus.p)
+        requires { ValidPolynomial modulus.p self × (c < modulus.p)
             × ValidPolynomial modulus.p g }
         ensures { Represents modulus.p result
             (add (modulo modulus.p) (coefficients_of self) (scale (modulo modulus.p) c (coefficients_of g))) }
     {
         let mut h = self.coefficients;
-        let words = g.coefficients;
-        add_scaled(&mut h, 0, &words, 0, g.size, c);
-        Polynomial::from_words(&h, 0, larger(self.size, g.size), modulus)
+        add_scaled(&mut h, 0, &g.coefficients, 0, g.size, c);
+        Polynomial::from_words(&h, 0, self.size.max(g.size), modulus)
     }
 
     // Returns self + g.
     pub fn add(self, g: Polynomial, modulus: Modulus) -> Polynomial
-        requires { ValidModulus modulus × ValidPolynomial modulus.p self × ValidPolynomial modulus.p g }
+        requires { ValidPolynomial modulus.p self × ValidPolynomial modulus.p g }
         ensures { Represents modulus.p result (add (modulo modulus.p) (coefficients_of self) (coefficients_of g)) }
     {
         self.add_multiple(1, g, modulus)
@@ -34,7 +31,7 @@ impl Polynomial {
 
     // Returns self - g.
     pub fn subtract(self, g: Polynomial, modulus: Modulus) -> Polynomial
-        requires { ValidModulus modulus × ValidPolynomial modulus.p self × ValidPolynomial modulus.p g }
+        requires { ValidPolynomial modulus.p self × ValidPolynomial modulus.p g }
         ensures { Represents modulus.p result (subtract (modulo modulus.p) (coefficients_of self) (coefficients_of g)) }
     {
         self.add_multiple(modulus.p - 1, g, modulus)
@@ -42,7 +39,7 @@ impl Polynomial {
 
     // Returns c self.
     pub fn scale(self, c: u64, modulus: Modulus) -> Polynomial
-        requires { ValidModulus modulus × ValidPolynomial modulus.p self × (c < modulus.p) }
+        requires { ValidPolynomial modulus.p self × (c < modulus.p) }
         ensures { Represents modulus.p result (scale (modulo modulus.p) c (coefficients_of self)) }
     {
         Polynomial::zero().add_multiple(c, self, modulus)
@@ -50,7 +47,7 @@ impl Polynomial {
 
     // Divides by the leading coefficient; zero stays zero.
     pub fn monic(self, modulus: Modulus) -> Polynomial
-        requires { ValidModulus modulus × ValidPolynomial modulus.p self }
+        requires { ValidPolynomial modulus.p self }
         ensures { Represents modulus.p result (monic (modulo modulus.p) (coefficients_of self)) }
     {
         if self.size < 1 {

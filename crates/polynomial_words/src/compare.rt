@@ -7,12 +7,5 @@ pub fn same_words(f: &[u64], g: &[u64], n: usize) -> bool
     requires { (n ≤ length f.now) × (n ≤ length g.now) }
     ensures { Decides result (take n f.now ≡ take n g.now) }
 {
-    let mut i = 0;
-    while i < n {
-        if f[i] != g[i] {
-            return false;
-        }
-        i += 1;
-    }
-    true
+    f[..n] == g[..n]
 }

@@ -1,7 +1,6 @@
 // Long division on words. What is left of the dividend is kept in sums that are not reduced.
 ghost use Rattle.std.specs.Prelude.{◌+◌, ◌≤◌, length, take};
 ghost use Rattle.modular.specs.Canonical.{Canonical};
-ghost use Rattle.residue.specs.Modulus.{ValidModulus};
 ghost use Rattle.vector.specs.Bound.{AtMost};
 ghost use Rattle.polynomial_words.specs.Product.{unreduced_terms};
 ghost use Rattle.polynomial_words.specs.Long.{Divisor, LongDivided};
@@ -19,16 +18,14 @@ pub fn divide_words(
     inverse: u64,
     modulus: Modulus,
 )
-    requires valid_modulus { ValidModulus modulus × (n ≤ unreduced_terms) × (n ≤ length h.old) × (n ≤ length q.old) }
+    requires bounds { (n ≤ unreduced_terms) × (n ≤ length h.old) × (n ≤ length q.old) }
     requires dividend { Canonical modulus.p (take n h.old) × AtMost modulus.p h.old }
     requires divisor { Divisor modulus.p d.now e inverse }
     requires zero { AtMost 0 q.old }
     ensures { LongDivided modulus.p (take n h.old) n (take (e + 1) d.now)
         q.new h.new }
 {
-    let mut k = n;
-    while e < k {
-        k -= 1;
+    for k in (e..n).rev() {
         let c = modulus.mul(modulus.reduce(h[k]), inverse);
         q[k - e] = c;
         add_scaled(h, k - e, d, 0, e + 1, modulus.p - c);

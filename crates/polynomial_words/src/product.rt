@@ -13,9 +13,7 @@ pub fn add_rows(h: &mut [u64], f: &[u64], n: usize, g: &[u64], k: usize)
     requires small { AtMost sum_most h.old × AtMost most16 f.now × AtMost most16 g.now }
     ensures { GainsProduct h.old f.now n g.now k h.new }
 {
-    let mut i = 0;
-    while i < n {
+    for i in 0..n {
         add_scaled(h, i, g, 0, k, f[i]);
-        i += 1;
     }
 }

@@ -2,7 +2,6 @@
 ghost use Rattle.std.specs.Prelude.{◌≡◌, ℕ, ◌+◌, ◌<◌, length, get_or, take};
 ghost use Rattle.algebra.specs.Coefficients.{shift, remainder};
 ghost use Rattle.modular.specs.Modulo.{modulo};
-ghost use Rattle.residue.specs.Modulus.{ValidModulus};
 ghost use Rattle.vector.specs.Reduced.{polynomial};
 ghost use Rattle.polynomial_words.specs.Long.{Divisor};
 ghost use Rattle.polynomial_words.specs.Window.{ReducedFrom};
@@ -13,7 +12,7 @@ use vector::{add_scaled, reduce_range};
 // Replaces the polynomial f in e words of h from the place a + 1 on by x f modulo d, in e words from the place a on. d has e + 1
 // coefficients. The word behind becomes 0, those further on stay. Reduces from the first word on: those before a are 0 and stay so.
 pub fn multiply_by_x(h: &mut [u64], a: usize, d: &[u64], e: usize, inverse: u64, modulus: Modulus)
-    requires valid_modulus { ValidModulus modulus × (a + e < length h.old) × ReducedFrom modulus.p h.old (a + 1) }
+    requires bounds { (a + e < length h.old) × ReducedFrom modulus.p h.old (a + 1) }
     requires divisor { Divisor modulus.p d.now e inverse }
     ensures value { polynomial modulus.p h.new a e ≡
         remainder (modulo modulus.p) (shift (modulo modulus.p) 1 (polynomial modulus.p h.old (a + 1) e))

@@ -50,7 +50,7 @@ module _ (ws : List ℕ) (p limit count : ℕ) (some : 1 ≤ length ws) where
 
   refused_by : (number place : ℕ) (r : Reading (List (List ℕ))) → Forward (length (drop 1 ws)) r
       → refused number place ≡ words_used (length (drop 1 ws)) r
-      → (place + 1 ≤ length ws) × (words_used (length ws) (then_end r) ≡ refused number (place + 1))
+      → (1 + place ≤ length ws) × (words_used (length ws) (then_end r) ≡ refused number (1 + place))
   unfolding then_end
   refused_by number place (read fs rest) h t = absurd (let z : ◌≡◌ {A = ℕ} 0 1 = cc in omega arith)
   refused_by number place (fault n rest) h t =
@@ -67,7 +67,7 @@ module _ (ws : List ℕ) (p limit count : ℕ) (some : 1 ≤ length ws) where
       (subst (ToldOf (accepted used) p limit count) (rest_part ws 1) t)
 
   pub body_refused : (number place : ℕ) → ToldOf (refused number place) p limit count (take (length ws - 1) (drop 1 ws))
-      → (place + 1 ≤ length ws) × (OfBody ≡ refused number (place + 1))
+      → (1 + place ≤ length ws) × (OfBody ≡ refused number (1 + place))
   unfolding body_from then_end
   body_refused number place t =
       refused_by number place (polynomials_from p limit count (drop 1 ws)) (polynomials_forward p limit count (drop 1 ws))

@@ -24,7 +24,7 @@ and_no : (a b : ℕ) → (a ≡ 0 → b ≡ 0 → ⊥) → eqb a 0 && eqb b 0 �
 and_no zero b h = simp (ne_eqb b 0 (h refl))
 and_no (suc a) b h = simp (ne_eqb (suc a) 0 (λ e. omega arith))
 
-module _ (ws : List ℕ) (p count at : ℕ) (turn : at ≤ count) where
+module _ (ws : List ℕ) (p count at : ℕ) (turn : at < count + 1) where
   due : count + 1 - at ≡ suc (count - at)
   due = omega arith
 
@@ -81,7 +81,7 @@ reached_start ws p count h =
       same = ap (λ (k : ℕ). words_used (length ws) (coefficients_from p k (drop 1 ws))) n;
     }
 
-pub reached_next : (ws : List ℕ) (p count at : ℕ) → Reached ws p count at → at ≤ count → at < length ws
+pub reached_next : (ws : List ℕ) (p count at : ℕ) → Reached ws p count at → at < count + 1 → at < length ws
     → kind (get_or ws at 0) ≡ 3 → payload (get_or ws at 0) < p → (at ≡ count → payload (get_or ws at 0) ≡ 0 → ⊥)
     → Reached ws p count (at + 1)
 reached_next ws p count at r turn reach three below last =
@@ -93,8 +93,8 @@ reached_next ws p count at r turn reach three below last =
     }
 
 pub reached_end : (ws : List ℕ) (p count at : ℕ) → Reached ws p count at → count < at
-    → words_used (length ws) (coefficients_from p count (drop 1 ws)) ≡ accepted at
+    → words_used (length ws) (coefficients_from p count (drop 1 ws)) ≡ accepted (count + 1)
 unfolding coefficients_from
 reached_end ws p count at r done =
     let n : count + 1 - at ≡ 0 = omega arith in
-    r.same ∙ rw n (ap accepted (omega (arith, length-drop at ws, r.within)))
+    r.same ∙ rw n (ap accepted (omega (arith, length-drop at ws, r.within, r.high)))

@@ -1,3 +1,4 @@
+pub mod Later
 pub mod CoefficientTurns
 pub mod StartWord
 pub mod PolynomialTurns

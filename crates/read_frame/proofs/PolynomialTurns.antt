@@ -24,17 +24,21 @@ abbrev pub OfAll : List ℕ → ℕ → ℕ → ℕ → ℕ → Outcome ℕ
 OfAll ws p limit count at = words_used (length ws) (polynomials_from p limit count (drop at ws))
 
 -- the loop's invariant: what is told of all is what is told of those that are due
-pub record Passed (ws : List ℕ) (p limit count at due : ℕ) : Type 0 where
+pub record Passed (ws : List ℕ) (p limit count at done : ℕ) : Type 0 where
   pub within : at ≤ length ws
-  pub same : OfAll ws p limit count 0 ≡ OfAll ws p limit due at
+  pub same : OfAll ws p limit count 0 ≡ OfAll ws p limit (count - done) at
 
-pub passed_start : (ws : List ℕ) (p limit count : ℕ) → Passed ws p limit count 0 count
-passed_start ws p limit count = record { within = omega arith; same = refl }
+pub passed_start : (ws : List ℕ) (p limit count : ℕ) → Passed ws p limit count 0 0
+passed_start ws p limit count =
+    let n : count ≡ count - 0 = omega arith in
+    record { within = omega arith; same = ap (λ (k : ℕ). OfAll ws p limit k 0) n }
 
-pub passed_end : (ws : List ℕ) (p limit count at due : ℕ) → Passed ws p limit count at due → due ≡ 0
+pub passed_end : (ws : List ℕ) (p limit count at done : ℕ) → Passed ws p limit count at done → count ≤ done
     → OfAll ws p limit count 0 ≡ accepted at
 unfolding polynomials_from
-passed_end ws p limit count at due h z = h.same ∙ rw z (ap accepted (omega (arith, length-drop at ws, h.within)))
+passed_end ws p limit count at done h all =
+    let z : count - done ≡ 0 = omega arith in
+    h.same ∙ rw z (ap accepted (omega (arith, length-drop at ws, h.within)))
 
 -- what a call on the part tells, and what follows for those that are due
 module _ (ws : List ℕ) (p limit at due : ℕ) (within : at ≤ length ws) where
@@ -73,20 +77,24 @@ module _ (ws : List ℕ) (p limit at due : ℕ) (within : at ≤ length ws) wher
 abbrev pub ToldOf : Outcome ℕ → ℕ → ℕ → List ℕ → Type 0
 ToldOf o p limit part = o ≡ words_used (length part) (polynomial_from p limit part)
 
-module _ (ws : List ℕ) (p limit count at due : ℕ) (h : Passed ws p limit count at due) (some : 0 < due) where
+module _ (ws : List ℕ) (p limit count at done : ℕ) (h : Passed ws p limit count at done) (some : done < count) where
+  left : ℕ
+  left = count - (done + 1)
+
   turn : {T : Outcome ℕ}
-      → words_used (length ws) (more ws p limit at (due - 1) h.within (polynomial_from p limit (drop at ws))) ≡ T
+      → words_used (length ws) (more ws p limit at left h.within (polynomial_from p limit (drop at ws))) ≡ T
       → OfAll ws p limit count 0 ≡ T
-  unfolding polynomials_from more
+  unfolding polynomials_from more left
   turn e =
-      let s : due ≡ suc (due - 1) = omega arith in
+      let s : count - done ≡ suc (count - (done + 1)) = omega arith in
       h.same ∙ ap (λ (k : ℕ). words_used (length ws) (polynomials_from p limit k (drop at ws))) s ∙ e
 
   pub passed_next : (used : ℕ) → ToldOf (accepted used) p limit (take (length ws - at) (drop at ws))
-      → Passed ws p limit count (at + used) (due - 1)
+      → Passed ws p limit count (at + used) (done + 1)
+  unfolding left
   passed_next used t =
       let u =
-      used_by ws p limit at (due - 1) h.within used (polynomial_from p limit (drop at ws)) refl
+      used_by ws p limit at left h.within used (polynomial_from p limit (drop at ws)) refl
       (subst (ToldOf (accepted used) p limit) (rest_part ws at) t) in
       record { within = u.0; same = turn u.1 }
 
@@ -94,7 +102,7 @@ module _ (ws : List ℕ) (p limit count at due : ℕ) (h : Passed ws p limit cou
       → (at + place ≤ length ws) × (OfAll ws p limit count 0 ≡ refused number (at + place))
   passed_refused number place t =
       let u =
-      refused_by ws p limit at (due - 1) h.within number place (polynomial_from p limit (drop at ws))
+      refused_by ws p limit at left h.within number place (polynomial_from p limit (drop at ws))
       (polynomial_forward p limit (drop at ws))
       (subst (ToldOf (refused number place) p limit) (rest_part ws at) t) in
       (u.0, turn u.1)

@@ -1,7 +1,7 @@
 -- The head of a certificate, which is the first word: what is told at each test of the code.
-use mathlib.Core.Path.{◌≡◌, refl, ap, ◌∙◌}
+use mathlib.Core.Path.{◌≡◌, refl, sym, ap, ◌∙◌}
 use mathlib.Core.List.{List, [], ◌∷◌}
-use Prim.Native.Nat.{ℕ, suc, ◌-◌}
+use Prim.Native.Nat.{ℕ, suc, ◌-◌, ◌≤◌, ◌<◌}
 use native.Mathlib.Omega.{arith}
 use lib.ListN.{length, get_or, drop, length-drop}
 use lib.Seq.{drop-cons}
@@ -16,17 +16,16 @@ use Rattle.words.specs.Certificate.Form.{solving, absent}
 abbrev pub OfHead : List ℕ → Outcome Form
 OfHead ws = outcome (length ws) (certificate_head_from ws)
 
-pub head_missing : (ws : List ℕ) → length ws ≡ 0 → OfHead ws ≡ refused 24 0
+pub head_missing : (ws : List ℕ) → length ws ≤ 0 → OfHead ws ≡ refused 24 0
 unfolding certificate_head_from
 head_missing [] e = refl
 head_missing (w ∷ ws) e = absurd (omega arith)
 
-module _ (ws : List ℕ) (some : length ws ≡ 0 → ⊥) where
-  abbrev w : ℕ
-  w = get_or ws 0 0
-
+module _ (ws : List ℕ) (w : ℕ) (some : 0 < length ws) (is : w ≡ get_or ws 0 0) where
   step : OfHead ws ≡ outcome (length ws) (certificate_head_from (w ∷ drop 1 ws))
-  step = ap (λ (v : List ℕ). outcome (length ws) (certificate_head_from v)) (drop-cons ws 0 0 (omega arith))
+  step =
+      ap (λ (v : List ℕ). outcome (length ws) (certificate_head_from v))
+      (drop-cons ws 0 0 (omega arith) ∙ ap (λ (x : ℕ). x ∷ drop 1 ws) (sym is))
 
   place : length ws - suc (length (drop 1 ws)) ≡ 0
   place = omega (arith, length-drop 1 ws)

@@ -4,7 +4,6 @@ use mathlib.Core.Path.{◌≡◌, refl, sym, ap, ◌∙◌, subst}
 use mathlib.Core.Bool.{Bool, true, false, ◌||◌}
 use mathlib.Core.List.{List}
 use Prim.Native.Nat.{ℕ, suc, ◌+◌, ◌*◌, ◌≤◌, ◌<◌}
-use native.Mathlib.Nat.{mul-le-mul}
 use native.Mathlib.Omega.{arith}
 use lib.ListN.{length, get_or}
 use lib.Dec.{ltb}
@@ -16,8 +15,7 @@ use Rattle.words.specs.Outcome.{mapped}
 use Rattle.words.specs.Outcome.Outcome.{accepted}
 use Rattle.words.specs.OutcomeLaws.{mapped_accepted}
 use Rattle.words.specs.System.{Shape, ShapeWithin}
-use Rattle.words.specs.Systems.{Head, HeadWithin, Systems, systems_head, systems_entries, systems_due, read_systems}
-use Rattle.words.proofs.SystemsLaws.{systems_written_of_read}
+use Rattle.words.specs.Systems.{Head, Systems, systems_head, systems_entries, systems_due, read_systems}
 use Rattle.words.specs.Certificate.{Certificate, Form, certificate_form, certificate_entries, entry_count, read_certificate}
 use Rattle.words.proofs.CertificateLaws.{certificate_written_of_read}
 use Rattle.words.specs.Starts.{start_place, first_entries, coefficients_at, HasEntries}
@@ -42,9 +40,6 @@ module _ (ws : List ℕ) (count most : ℕ) where
     size : length (coefficients_at ws (start_place ws k)) ≡ payload (get_or ws place 0)
     size = length_coefficients_at ws (start_place ws k) (has.inside k more) ∙ ap (λ i. payload (get_or ws i 0)) (sym W.reached)
 
-    pub walk_room : place + 1 + payload (get_or ws place 0) ≤ length ws
-    walk_room = rw W.reached (has.inside k more)
-
     pub walk_next : {n : ℕ} → n ≡ payload (get_or ws place 0) → n ≤ most → Walked (place + (n + 1)) (k + 1)
     unfolding first_entries
     walk_next {n} is few =
@@ -65,11 +60,6 @@ module _ (ws : List ℕ) (count most : ℕ) where
         sym (longer_at most (first_entries ws count) k (omega (arith, length_first_entries ws count))
         (omega (arith, ap length (get_or_first_entries ws count k more), size)))
 
-  pub walk_end : {place k : ℕ} → Walked place k → count ≤ k → false ≡ longer? most (first_entries ws count)
-  walk_end {k = k} W past =
-      let all : k ≡ count = omega (arith, W.inside) in
-      sym (subst (λ i. longer? most (first_entries ws i) ≡ false) all W.none)
-
 -- a wider limit
 has_wider : {limit wider count : ℕ} {ws : List ℕ} → limit ≤ wider → HasEntries limit count ws → HasEntries wider count ws
 has_wider few h = record { starts = h.starts; sizes = λ k lt. omega (arith, h.sizes k lt); inside = h.inside }
@@ -85,15 +75,6 @@ module _ (kept : Limits) (ws : List ℕ) (h : Head) (told : accepted h ≡ mappe
 
   abbrev count : ℕ
   count = h.shape.rows * h.shape.columns + h.sides * h.shape.rows
-
-  -- few polynomials
-  pub system_few : (h.shape.rows * h.shape.columns ≤ office.rows * office.columns)
-      × (h.sides * h.shape.rows ≤ office.sides * office.rows)
-  system_few =
-      let within : HeadWithin office h =
-      subst (HeadWithin office) found.2 (systems_written_of_read office office_fits ws s found.1).1.head in
-      let rows = within.shape.rows.1 in
-      (mul-le-mul rows within.shape.columns.1, mul-le-mul within.sides.1 rows)
 
   entries : EntriesRead office.system_coefficients count ws (systems_entries s)
   entries =

@@ -1,3 +1,4 @@
+pub mod Told
 pub mod SystemHead
 pub mod CertificateHead
 pub mod FrameSteps

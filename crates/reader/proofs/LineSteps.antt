@@ -14,6 +14,11 @@ use Rattle.words.specs.System.{shape}
 use Rattle.words.specs.Systems.{Head, Systems, systems_head, read_systems, line, read_line}
 use Rattle.words.specs.Kept.{sided_of, read_sided}
 use Rattle.words.proofs.KeptLaws.{line_sided}
+use Rattle.std.specs.Prelude.{Result, Ok, Err, MatchResult, IsOkAnd}
+use Rattle.answers.specs.declared.answer.Refusal.{Refusal}
+use Rattle.answers.specs.declared.shape.Shape.{Shape as ShapeValue}
+use Rattle.answers.specs.declared.shape.Head.{Head as HeadValue}
+use Rattle.answers.specs.Answer.{shape_of, system_outcome, line_outcome}
 
 module _ (limits : Limits) (k : ℕ) (ws : List ℕ) where
   -- what is told, where the sheet is read as s
@@ -57,3 +62,11 @@ module _ (limits : Limits) (k : ℕ) (ws : List ℕ) where
           → mapped (λ (h : Head). h.shape) (mapped systems_head o) ≡ mapped shape (mapped (λ (s : Systems). line s k) o)
       each (accepted s) = refl
       each (refused number place) = refl
+
+-- what is handed out of what was told
+pub line_mapped : (told : Result HeadValue Refusal) (r : Result ShapeValue Refusal) (Q : HeadValue → ShapeValue → Type 0)
+    → MatchResult told (λ h. IsOkAnd r (Q h)) (λ e. r ≡ Err e) → ((h : HeadValue) (x : ShapeValue) → Q h x → x ≡ h.shape)
+    → line_outcome r ≡ mapped (λ (h : Head). h.shape) (system_outcome told)
+line_mapped (Ok h) (Ok x) Q k e = ap (λ (s : ShapeValue). accepted (shape_of s)) (e h x k)
+line_mapped (Ok h) (Err x) Q k e = absurd k
+line_mapped (Err x) r Q k e = ap line_outcome k

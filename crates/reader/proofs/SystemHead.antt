@@ -1,5 +1,5 @@
 -- The head of a sheet, which is the first word: what is told at each test of the code.
-use mathlib.Core.Path.{◌≡◌, refl, ap, ◌∙◌}
+use mathlib.Core.Path.{◌≡◌, refl, sym, ap, ◌∙◌}
 use mathlib.Core.Bool.{true, false}
 use mathlib.Core.List.{List, [], ◌∷◌}
 use Prim.Native.Nat.{ℕ, suc, ◌+◌, ◌-◌, ◌/◌, ◌%◌, ◌≤◌, ◌<◌}
@@ -21,17 +21,16 @@ module _ (limits : Limits) where
   abbrev pub OfHead : List ℕ → Outcome Head
   OfHead ws = outcome (length ws) (systems_head_from limits ws)
 
-  pub head_missing : (ws : List ℕ) → length ws ≡ 0 → OfHead ws ≡ refused 4 0
+  pub head_missing : (ws : List ℕ) → length ws ≤ 0 → OfHead ws ≡ refused 4 0
   unfolding systems_head_from
   head_missing [] e = refl
   head_missing (w ∷ ws) e = absurd (omega arith)
 
-  module _ (ws : List ℕ) (some : length ws ≡ 0 → ⊥) where
-    abbrev w : ℕ
-    w = get_or ws 0 0
-
+  module _ (ws : List ℕ) (w : ℕ) (some : 0 < length ws) (is : w ≡ get_or ws 0 0) where
     step : OfHead ws ≡ outcome (length ws) (systems_head_from limits (w ∷ drop 1 ws))
-    step = ap (λ (v : List ℕ). outcome (length ws) (systems_head_from limits v)) (drop-cons ws 0 0 (omega arith))
+    step =
+        ap (λ (v : List ℕ). outcome (length ws) (systems_head_from limits v))
+        (drop-cons ws 0 0 (omega arith) ∙ ap (λ (x : ℕ). x ∷ drop 1 ws) (sym is))
 
     place : length ws - suc (length (drop 1 ws)) ≡ 0
     place = omega (arith, length-drop 1 ws)

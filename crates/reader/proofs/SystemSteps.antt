@@ -1,7 +1,7 @@
 -- A whole system, from what is told of its head and of the words behind it.
 use mathlib.Core.Path.{◌≡◌, refl, sym, ap, ◌∙◌}
 use mathlib.Core.List.{List}
-use Prim.Native.Nat.{ℕ, ◌≤◌}
+use Prim.Native.Nat.{ℕ, ◌+◌, ◌≤◌}
 use native.Mathlib.Omega.{arith}
 use lib.ListN.{length, drop}
 use Rattle.words.specs.Limits.{Limits}
@@ -40,10 +40,9 @@ module _ (limits : Limits) (ws : List ℕ) where
     system_some = frame_some 0 (systems_head_from limits) (systems_due limits) ws one_word h told
 
     pub system_body_refused : (number place : ℕ) → refused number place ≡ OfBody 0 (systems_head_from limits) (systems_due limits) ws h
-        → OfSystem ≡ refused number place
+        → OfSystem ≡ refused (number + 0) place
     system_body_refused number place t =
         shown ∙ frame_body_refused 0 (systems_head_from limits) (systems_due limits) ws one_word h told number place t
-        ∙ ap (λ (n : ℕ). refused n place) (omega arith)
 
     pub system_read : (used : ℕ) → accepted used ≡ OfBody 0 (systems_head_from limits) (systems_due limits) ws h
         → OfSystem ≡ accepted h

@@ -7,18 +7,15 @@ ghost use Rattle.words.specs.Bytes.{read_systems_file};
 ghost use Rattle.answers.specs.Answer.{system_outcome};
 
 use crate::system::read_system;
-use answers::{Counted, SystemRead};
+use answers::{Head, Refusal};
 use files::opening::open_file;
 use limits::Office;
 
 // Reads the system in a file of the office.
-pub fn read_system_file(bytes: &[u8]) -> SystemRead
+pub fn read_system_file(bytes: &[u8]) -> Result<Head, Refusal>
     ensures { system_outcome result ≡ mapped systems_head (read_systems_file office bytes.now) }
 {
     let mut words = [0u32; Office::SYSTEM_WORDS];
-    let opened = open_file(&mut words, bytes, Office::SYSTEM_BYTES);
-    match opened {
-        Counted::Count(count) => read_system(&words[..count], Office::limits()),
-        Counted::Refused(refusal) => SystemRead::Refused(refusal),
-    }
+    let count = open_file(&mut words, bytes, Office::SYSTEM_BYTES)?;
+    read_system(&words[..count], Office::limits())
 }

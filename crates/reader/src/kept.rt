@@ -23,14 +23,12 @@ fn some_longer(words: &[u32], count: usize, most: usize) -> bool
     ensures { result ≡ longer? most (first_entries words.now count) }
 {
     let mut place = 1;
-    let mut k = 0;
-    while k < count {
+    for _ in 0..count {
         let n = payload_of(words[place]) as usize;
         if most < n {
             return true;
         }
         place += n + 1;
-        k += 1;
     }
     false
 }
@@ -41,23 +39,12 @@ pub fn system_exceeds(words: &[u32], head: Head, kept: Limits) -> bool
     ensures { accepted result ≡ mapped (systems_exceed (limits_of kept)) (read_systems office words.now) }
 {
     let shape = head.shape;
-    if kept.rows < shape.rows {
+    if kept.rows < shape.rows || kept.columns < shape.columns || kept.sides < head.sides {
         return true;
     }
-    if kept.columns < shape.columns {
-        return true;
-    }
-    if kept.sides < head.sides {
-        return true;
-    }
-    let rows = shape.rows as usize;
-    let columns = shape.columns as usize;
-    let sides = head.sides as usize;
-    some_longer(
-        words,
-        rows * columns + sides * rows,
-        kept.coefficients as usize,
-    )
+    let rows = usize::from(shape.rows);
+    let count = rows * usize::from(shape.columns) + usize::from(head.sides) * rows;
+    some_longer(words, count, usize::from(kept.coefficients))
 }
 
 // Tells whether a certificate that was read, of this form and for a system of this shape, exceeds a limit. The shape keeps the
@@ -69,5 +56,5 @@ pub fn certificate_exceeds(words: &[u32], form: Form, shape: Shape, kept: Limits
         mapped (certificate_exceeds (limits_of kept)) (read_certificate office (shape_of shape) words.now) }
 {
     let count = entry_count(form, shape) as usize;
-    some_longer(words, count, kept.certificate_coefficients as usize)
+    some_longer(words, count, usize::from(kept.certificate_coefficients))
 }

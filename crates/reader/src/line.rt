@@ -8,38 +8,26 @@ ghost use Rattle.limits.specs.Value.{limits_of};
 ghost use Rattle.answers.specs.Answer.{system_outcome, line_outcome};
 
 use crate::system::read_system;
-use answers::{LineRead, Refusal, SystemRead};
+use answers::{Head, Reason, Refusal, Shape};
 use limits::Limits;
 
 // Reads the whole system, then tries whether it has right side `side`, counted from 0.
-pub fn read_sided(words: &[u32], side: usize, limits: Limits) -> SystemRead
+pub fn read_sided(words: &[u32], side: usize, limits: Limits) -> Result<Head, Refusal>
     ensures { system_outcome result ≡ mapped systems_head (read_sided (limits_of limits) side words.now) }
 {
-    let read = read_system(words, limits);
-    match read {
-        SystemRead::Accepted(head) => {
-            if side < head.sides as usize {
-                return SystemRead::Accepted(head);
-            }
-            SystemRead::Refused(Refusal {
-                number: 40,
-                place: 0,
-            })
-        }
-        SystemRead::Refused(refusal) => SystemRead::Refused(refusal),
+    let head = read_system(words, limits)?;
+    if usize::from(head.sides) <= side {
+        return Err(Refusal {
+            reason: Reason::NoSuchSide,
+            place: 0,
+        });
     }
+    Ok(head)
 }
 
 // Reads the system of the line with this right side.
-pub fn read_line(words: &[u32], side: usize, limits: Limits) -> LineRead
+pub fn read_line(words: &[u32], side: usize, limits: Limits) -> Result<Shape, Refusal>
     ensures { line_outcome result ≡ mapped shape (read_line (limits_of limits) side words.now) }
 {
-    let read = read_sided(words, side, limits);
-    match read {
-        SystemRead::Accepted(head) => {
-            let shape = head.shape;
-            LineRead::Accepted(shape)
-        }
-        SystemRead::Refused(refusal) => LineRead::Refused(refusal),
-    }
+    read_sided(words, side, limits).map(|head| head.shape)
 }

@@ -8,41 +8,46 @@ ghost use Rattle.answers.specs.Answer.{system_outcome};
 
 use answers::head::{BOUND_4, COLUMN_UNIT, ROW_UNIT, SIDE_UNIT};
 use answers::number::one_to;
-use answers::{Counted, Head, Refusal, Shape, SystemRead};
+use answers::{Fault, Head, Of, Reason, Refusal, Shape};
 use limits::Limits;
 use read_frame::frame::read_body;
 use read_frame::word::kind_of;
 use residue::prime::is_prime;
 
 // Reads the head, which is the first word.
-fn read_head(words: &[u32], limits: Limits) -> SystemRead
+fn read_head(words: &[u32], limits: Limits) -> Result<Head, Refusal>
     ensures { system_outcome result ≡ outcome_of (systems_head_from (limits_of limits)) words.now }
 {
-    let place: usize = 0;
-    if words.len() == 0 {
-        return SystemRead::Refused(Refusal { number: 4, place });
-    }
-    let word = words[0];
-    if kind_of(word) != 1 {
-        return SystemRead::Refused(Refusal { number: 1, place });
-    }
+    let place = 0;
+    let Some(&word) = words.first() else {
+        return Err(Refusal {
+            reason: Reason::Words(Of::System, Fault::EndsEarly),
+            place,
+        });
+    };
     let sides = word / SIDE_UNIT % BOUND_4 + 1;
-    if (limits.sides as u32) < sides {
-        return SystemRead::Refused(Refusal { number: 1, place });
+    if kind_of(word) != 1 || u32::from(limits.sides) < sides {
+        return Err(Refusal {
+            reason: Reason::BadSystemHead,
+            place,
+        });
     }
     let modulus = (word % ROW_UNIT) as u16;
     if !is_prime(modulus) {
-        return SystemRead::Refused(Refusal { number: 2, place });
+        return Err(Refusal {
+            reason: Reason::NotPrime,
+            place,
+        });
     }
     let rows = word / ROW_UNIT % BOUND_4;
-    if !one_to(limits.rows as u32, rows) {
-        return SystemRead::Refused(Refusal { number: 3, place });
-    }
     let columns = word / COLUMN_UNIT % BOUND_4;
-    if !one_to(limits.columns as u32, columns) {
-        return SystemRead::Refused(Refusal { number: 3, place });
+    if !one_to(u32::from(limits.rows), rows) || !one_to(u32::from(limits.columns), columns) {
+        return Err(Refusal {
+            reason: Reason::BadShape,
+            place,
+        });
     }
-    SystemRead::Accepted(Head {
+    Ok(Head {
         shape: Shape {
             modulus,
             rows: rows as u8,
@@ -53,27 +58,14 @@ fn read_head(words: &[u32], limits: Limits) -> SystemRead
 }
 
 // Reads the whole system.
-pub fn read_system(words: &[u32], limits: Limits) -> SystemRead
+pub fn read_system(words: &[u32], limits: Limits) -> Result<Head, Refusal>
     ensures { system_outcome result ≡ mapped systems_head (read_systems (limits_of limits) words.now) }
 {
-    let head = read_head(words, limits);
-    match head {
-        SystemRead::Accepted(head) => {
-            let shape = head.shape;
-            let rows = shape.rows as u32;
-            let columns = shape.columns as u32;
-            let sides = head.sides as u32;
-            let found = read_body(
-                words,
-                shape.modulus,
-                limits.coefficients,
-                rows * columns + sides * rows,
-            );
-            match found {
-                Counted::Count(_) => SystemRead::Accepted(head),
-                Counted::Refused(refusal) => SystemRead::Refused(refusal),
-            }
-        }
-        SystemRead::Refused(refusal) => SystemRead::Refused(refusal),
-    }
+    let head = read_head(words, limits)?;
+    let shape = head.shape;
+    let rows = u32::from(shape.rows);
+    let count = rows * u32::from(shape.columns) + u32::from(head.sides) * rows;
+    let body = read_body(words, shape.modulus, limits.coefficients, count);
+    body.map_err(|misread| misread.of(Of::System))?;
+    Ok(head)
 }

@@ -104,16 +104,8 @@ module _ (file : List ℕ) {entry exit : List ℕ} {count : ℕ} where
   file_short h n e =
       subst (λ b. GivenUnless b (read_line_file office 0 file) entry exit count) (sym (lt-ltb (length entry) report_space h)) (n, e)
 
-  module _ (room : report_space ≤ length entry) where
-    file_given : ReportGiven (read_line_file office 0 file) entry exit count → ReportsFile office file entry exit count
-    unfolding GivenUnless
-    file_given g =
-        subst (λ b. GivenUnless b (read_line_file office 0 file) entry exit count) (sym (le-ltb (length entry) report_space room)) g
-
-    pub file_refused : (number place : ℕ) → read_line_file office 0 file ≡ refused number place
-        → Written (report_text (refused number place)) entry exit count → ReportsFile office file entry exit count
-    file_refused number place e w = file_given (given_refused number place e w)
-
-    pub file_words : {o : Outcome System} → read_line_file office 0 file ≡ o → ReportGiven o entry exit count
-        → ReportsFile office file entry exit count
-    file_words e g = file_given (subst (λ o. ReportGiven o entry exit count) (sym e) g)
+  pub file_given : report_space ≤ length entry → ReportGiven (read_line_file office 0 file) entry exit count
+      → ReportsFile office file entry exit count
+  unfolding GivenUnless
+  file_given room g =
+      subst (λ b. GivenUnless b (read_line_file office 0 file) entry exit count) (sym (le-ltb (length entry) report_space room)) g

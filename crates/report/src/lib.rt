@@ -2,15 +2,16 @@
 // uses the first right side.
 #![tactic(auto)]
 
-ghost use Rattle.std.specs.Prelude.{◌≤◌, length};
+ghost use Rattle.std.specs.Prelude.{◌≡◌, ◌≤◌, length, IfOk, IfErr};
 ghost use Rattle.words.specs.Limits.{office};
 ghost use Rattle.words.specs.Systems.{read_line};
-ghost use Rattle.answers.specs.Answer.{shape_of};
+ghost use Rattle.words.specs.Bytes.{read_line_file};
+ghost use Rattle.answers.specs.Answer.{refused_by, shape_of};
 ghost use Rattle.report_text.specs.Longest.{report_space};
 ghost use Rattle.solver.specs.Certified.{Read};
 ghost use Rattle.report.specs.Reporting.{ReportGiven, ReportsFile};
 
-use answers::{Counted, LineRead, Shape};
+use answers::{Refusal, Shape};
 use files::opening::open_file;
 use limits::Office;
 use reader::line::read_line;
@@ -26,8 +27,7 @@ fn report_read(out: &mut [u8], system: &[u32], shape: Shape) -> usize
     ensures { ReportGiven (read_line office 0 system.now) out.old out.new result }
 {
     let mut output = [0u64; OUTPUT];
-    let solved = certify_words(&mut output, system, shape, 0);
-    if solved {
+    if certify_words(&mut output, system, shape, 0) {
         // the first polynomial is d
         let size = size_of(&output, 0);
         write_solution(out, &output[..size])
@@ -36,16 +36,17 @@ fn report_read(out: &mut [u8], system: &[u32], shape: Shape) -> usize
     }
 }
 
-// Writes the report of the words of a file, of their first line. Returns the number of its bytes.
-fn report_words(out: &mut [u8], system: &[u32]) -> usize
+// Writes the report of the first line of a file, and returns the number of its bytes. Where there is a refusal, writes nothing.
+fn report_line(out: &mut [u8], file: &[u8]) -> Result<usize, Refusal>
     requires { report_space ≤ length out.old }
-    ensures { ReportGiven (read_line office 0 system.now) out.old out.new result }
+    ensures ok { IfOk result (λ count. ReportGiven (read_line_file office 0 file.now) out.old out.new count) }
+    ensures err { IfErr result (λ refusal. (read_line_file office 0 file.now ≡ refused_by refusal) × (out.new ≡ out.old)) }
 {
-    let read = read_line(system, 0, Office::limits());
-    match read {
-        LineRead::Accepted(shape) => report_read(out, system, shape),
-        LineRead::Refused(refusal) => write_refusal(out, refusal),
-    }
+    let mut words = [0u32; Office::SYSTEM_WORDS];
+    let count = open_file(&mut words, file, Office::SYSTEM_BYTES)?;
+    let system = &words[..count];
+    let shape = read_line(system, 0, Office::limits())?;
+    Ok(report_read(out, system, shape))
 }
 
 // Writes the report of a system's file over the first of the lent bytes. Returns the number of its bytes. Where fewer than `SPACE`
@@ -56,10 +57,8 @@ pub fn write_report(out: &mut [u8], file: &[u8]) -> usize
     if out.len() < SPACE {
         return 0;
     }
-    let mut words = [0u32; Office::SYSTEM_WORDS];
-    let opened = open_file(&mut words, file, Office::SYSTEM_BYTES);
-    match opened {
-        Counted::Count(count) => report_words(out, &words[..count]),
-        Counted::Refused(refusal) => write_refusal(out, refusal),
+    match report_line(out, file) {
+        Ok(count) => count,
+        Err(refusal) => write_refusal(out, refusal),
     }
 }

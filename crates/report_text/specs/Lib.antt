@@ -1,5 +1,5 @@
 -- interface, what contracts, other crates and documents cite: Ascii, Decimal, DecimalLaws, Text, Examples, TextLaws, Longest,
---   Written, Verdict
+--   Written, Grown, Verdict
 -- inside: WrittenLaws
 pub mod Ascii
 pub mod Decimal
@@ -9,5 +9,6 @@ pub mod Examples
 pub mod TextLaws
 pub mod Longest
 pub mod Written
+pub mod Grown
 pub mod WrittenLaws
 pub mod Verdict

@@ -13,8 +13,8 @@ ghost use Rattle.report_text.specs.Verdict.{verdict_line};
 ghost use Rattle.report_text.specs.Written.{Written};
 
 use crate::line::{append_denominator, append_feedback};
-use crate::text::{append, append_labelled};
-use answers::{Refusal, Verdict};
+use crate::text::Text;
+use answers::Refusal;
 
 mod line;
 mod text;
@@ -27,9 +27,11 @@ pub fn write_solution(out: &mut [u8], d: &[u64]) -> usize
     requires { DenominatorWithin office d.now × (report_space ≤ length out.old) }
     ensures { Written (report_text (accepted (least d.now))) out.old out.new result }
 {
-    let first = append(out, 0, b"answer solution\n");
-    let second = append_denominator(out, first, d);
-    append_feedback(out, second, d)
+    let mut text = Text::new(out);
+    text.append(b"answer solution\n");
+    append_denominator(&mut text, d);
+    append_feedback(&mut text, d);
+    text.length
 }
 
 // Writes the report that there is no solution. Returns the number of its bytes.
@@ -37,7 +39,9 @@ pub fn write_none(out: &mut [u8]) -> usize
     requires { report_space ≤ length out.old }
     ensures { Written (report_text (accepted none)) out.old out.new result }
 {
-    append(out, 0, b"answer none\n")
+    let mut text = Text::new(out);
+    text.append(b"answer none\n");
+    text.length
 }
 
 // Writes the report of a refusal. Returns the number of its bytes.
@@ -45,20 +49,25 @@ pub fn write_refusal(out: &mut [u8], refusal: Refusal) -> usize
     requires { report_space ≤ length out.old }
     ensures { Written (report_text (refused_by refusal)) out.old out.new result }
 {
-    let number = refusal.number as u64;
-    let place = refusal.place as u64;
-    let numbered = append_labelled(out, 0, b"refused", number);
-    let placed = append_labelled(out, numbered, b" at", place);
-    append(out, placed, b"\n")
+    let number = refusal.reason.number();
+    let mut text = Text::new(out);
+    text.append_labelled(b"refused", number as u64);
+    text.append_labelled(b" at", refusal.place as u64);
+    text.append(b"\n");
+    text.length
 }
 
 // Writes the line of a verdict. Returns the number of its bytes.
-pub fn write_verdict(out: &mut [u8], verdict: Verdict) -> usize
+pub fn write_verdict(out: &mut [u8], verdict: Result<(), Refusal>) -> usize
     requires { report_space ≤ length out.old }
     ensures { Written (verdict_line (verdict_outcome verdict)) out.old out.new result }
 {
     match verdict {
-        Verdict::Accepted => append(out, 0, b"accepted\n"),
-        Verdict::Refused(refusal) => write_refusal(out, refusal),
+        Ok(()) => {
+            let mut text = Text::new(out);
+            text.append(b"accepted\n");
+            text.length
+        }
+        Err(refusal) => write_refusal(out, refusal),
     }
 }

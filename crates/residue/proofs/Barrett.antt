@@ -7,8 +7,7 @@ use native.Mathlib.Omega.{arith}
 use lib.Pow.{pow_mono, pow_pos}
 use Rattle.modular.specs.LargestPrime.{largest_modulus}
 use Rattle.modular.specs.Bits.{bound32}
-use Rattle.residue.specs.declared.modulus.Modulus.{Modulus}
-use Rattle.residue.specs.Modulus.{ValidModulus}
+use Rattle.residue.specs.Reciprocal.{Reciprocal}
 use Rattle.residue.specs.Sum.{reducible_products, SmallSum}
 use Rattle.residue.specs.Barrett.{BarrettStep}
 use Rattle.residue.proofs.Remainder.{sub_mul_mod}
@@ -29,29 +28,23 @@ shift_limit k p low limit =
     let above : (1 + most_shift ≤ k → ⊥) = λ le. omega (arith, pow_mono le) in
     omega arith
 
-module _ (M : Modulus) (ok : ValidModulus M) where
-  abbrev p : ℕ
-  p = M.p
-
+module _ {p shift m : ℕ} (ok : Reciprocal p shift m) where
   abbrev s : ℕ
-  s = 2 ^ M.shift
+  s = 2 ^ shift
 
-  abbrev m : ℕ
-  m = M.reciprocal
-
-  pub shift_short : M.shift ≤ most_shift
-  shift_short = shift_limit M.shift p ok.scale_low ok.limit
+  pub shift_short : shift ≤ most_shift
+  shift_short = shift_limit shift p ok.scale_low ok.limit
 
   scale_short : s ≤ most_scale
   scale_short = pow_mono shift_short
 
   reciprocal_low : m * p ≤ bound32 * s
-  reciprocal_low = rw ok.reciprocal (div-mul-le_self (bound32 * s) p)
+  reciprocal_low = rw ok.reciprocal_is (div-mul-le_self (bound32 * s) p)
 
   reciprocal_high : bound32 * s ≤ m * p + p
   reciprocal_high =
       let large = ok.prime.large in
-      rw ok.reciprocal (omega (arith, div-add-mod' (bound32 * s) p, mod-lt (bound32 * s) {m = p} (omega arith)))
+      rw ok.reciprocal_is (omega (arith, div-add-mod' (bound32 * s) p, mod-lt (bound32 * s) {m = p} (omega arith)))
 
   reciprocal_short : m < bound32
   reciprocal_short =
@@ -70,7 +63,7 @@ module _ (M : Modulus) (ok : ValidModulus M) where
     shifted_short =
         let high = ok.scale_high in
         let all : y * s < (16 * reducible_products * s + 1) * s =
-        omega (arith, div-mul-le_self x s, mul-le-mul (le_of_lt high) (le_of_lt high), pow_pos M.shift) in
+        omega (arith, div-mul-le_self x s, mul-le-mul (le_of_lt high) (le_of_lt high), pow_pos shift) in
         omega (arith, lt_of_mul-lt-mul_right s all, scale_short)
 
     quotient_short : q < bound32
@@ -97,7 +90,7 @@ module _ (M : Modulus) (ok : ValidModulus M) where
         omega (
           arith,
           div-add-mod' x s,
-          mod-lt x {m = s} (pow_pos M.shift),
+          mod-lt x {m = s} (pow_pos shift),
           mul-le-mul_left y reciprocal_high,
           mul-le-mul_right p shifted_short,
           mul-lt-mul_of_pos_right {k = p} next (omega arith),

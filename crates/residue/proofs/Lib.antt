@@ -1,4 +1,4 @@
 pub mod Barrett
 pub mod Descent
 pub mod Remainder
-pub mod Wrap
+pub mod Trial

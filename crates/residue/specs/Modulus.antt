@@ -12,3 +12,13 @@ pub record ValidModulus (m : Modulus) : Type 0 where
   pub scale_low : 2 * 2 ^ m.shift ≤ m.p
   pub scale_high : m.p < 4 * 2 ^ m.shift
   pub reciprocal : m.reciprocal ≡ bound32 * 2 ^ m.shift / m.p
+
+-- every modulus that there is
+pub valid_modulus : (m : Modulus) → ValidModulus m
+valid_modulus m = record {
+  prime = m.valid.prime;
+  limit = m.valid.limit;
+  scale_low = m.valid.scale_low;
+  scale_high = m.valid.scale_high;
+  reciprocal = m.valid.reciprocal_is;
+}

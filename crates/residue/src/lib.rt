@@ -1,6 +1,5 @@
-// Numbers modulo a prime p: the test for primes, and the arithmetic of the numbers below p; small operations on any numbers.
+// Numbers modulo a prime p: the test for primes, and the arithmetic of the numbers below p.
 #![tactic(auto)]
 
 pub mod modulus;
-pub mod number;
 pub mod prime;

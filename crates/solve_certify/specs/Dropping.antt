@@ -19,6 +19,7 @@ use Rattle.reduction.specs.Link.{link_drop}
 use Rattle.reduction.specs.Levels.{level_of}
 use Rattle.reduction.specs.Descent.{turn_drop}
 use Rattle.solve_lattice.specs.declared.stage.Stage.{Stage}
+use Rattle.solve_lattice.specs.Stage.{valid_stage}
 use Rattle.solve_lattice.specs.Memory.{Level}
 use Rattle.solve_lattice.specs.Range.{words_zero}
 use Rattle.solve_lattice.specs.Reading.{ends_zero}
@@ -31,7 +32,7 @@ use Rattle.solve_lattice.specs.Output.{ValidOutput, HoldsAt}
 use Rattle.solve_certify.specs.Ascended.{HoldsLevels, HoldsDescended, HoldsAscended, Ascended}
 use Rattle.solve_certify.specs.Extending.{Extension, extended, extended_next, extended_last}
 use Rattle.solve_certify.specs.Undoing.{above, undone, has_extended}
-use Rattle.solve_certify.specs.Ready.{Ready, AscendedFrom, next_stage, ready_next}
+use Rattle.solve_certify.specs.Ready.{Ready, Within, AscendedFrom, AscendedNext, next_stage, ready_next}
 
 -- nothing is left of the stage's column
 pub record ColumnSpanned (s : Stage) (L : Level) (input : List ℕ) : Type 0 where
@@ -146,13 +147,12 @@ module _ {p : ℕ} {n m j : ℕ} {input : List ℕ} {L : Level} (inside : j < m)
   }
 
 -- at a stage
-module _ {s : Stage} {input : List ℕ} {L : Level} {quotients output : List ℕ} (given : Ready s input L quotients output)
-    (C : ColumnSpanned s L input) where
-  pub drop_ready : Ready (next_stage s) input L quotients output
-  drop_ready = ready_next given C.inside given.valid_level
+module _ {s : Stage} {input : List ℕ} {L : Level} (C : ColumnSpanned s L input) where
+  pub drop_ready : {quotients output : List ℕ} {within : Within s} → Ready s input L quotients output → Ready (next_stage s within) input L quotients output
+  drop_ready given = ready_next given C.inside given.valid_level
       (has_extended (λ prime X H. dropping C.inside C.divided C.nothing prime H) given.levels)
 
   pub drop_ascended : {quotients' output' output'' : List ℕ} {solved : Bool}
-      → AscendedFrom (next_stage s) input L quotients' output' solved → output'' ≡ left_out solved output' s.column
+      → AscendedNext s input L quotients' output' solved → output'' ≡ left_out solved output' s.column
       → AscendedFrom s input L quotients' output'' solved
-  drop_ascended = ascended_drop C.inside C.divided C.nothing given.stage.columns
+  drop_ascended = ascended_drop C.inside C.divided C.nothing (valid_stage s).columns

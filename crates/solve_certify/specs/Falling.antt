@@ -11,6 +11,7 @@ use Rattle.reduction.specs.Span.{InSpan, span_blocks}
 use Rattle.reduction.specs.Holds.{Holds}
 use Rattle.solve_lattice.specs.Word.{words}
 use Rattle.solve_lattice.specs.declared.stage.Stage.{Stage}
+use Rattle.solve_lattice.specs.Stage.{valid_stage}
 use Rattle.solve_lattice.specs.Memory.{Level}
 use Rattle.solve_lattice.specs.Holding.{HoldsSlots}
 use Rattle.solve_lattice.specs.Quotients.{Dividend, BlockDivided}
@@ -23,7 +24,7 @@ use Rattle.solve_lattice.specs.Room.{block_words, lanes}
 use Rattle.solve_certify.specs.Ascended.{HoldsLevels, HoldsDescended}
 use Rattle.solve_certify.specs.Extending.{extended, extended_next, extended_last}
 use Rattle.solve_certify.specs.Undoing.{above, lower_level, undone, ascended_undone, ascended_none}
-use Rattle.solve_certify.specs.Ready.{Ready, AscendedFrom, next_stage}
+use Rattle.solve_certify.specs.Ready.{AscendedFrom, AscendedNext}
 use Rattle.solve_certify.specs.Rising.{Leaves, K, rising, rising_next, rising_kernel, rise}
 
 -- a turn of the way down from the level L', and its rest divided by the slots of L
@@ -97,17 +98,16 @@ module _ {p : ℕ} {n m j : ℕ} (few : n ≤ lanes) {input : List ℕ} {L L' : 
       T'.others
 
 -- at a stage; L'' is the level above, after the columns behind
-module _ {s : Stage} {input : List ℕ} {L L' : Level} {quotients output : List ℕ} (given : Ready s input L quotients output)
-    {rest kernel : List ℕ} {left found : ℕ} (C : Leaves s L input rest left)
+module _ {s : Stage} {input : List ℕ} {L L' : Level} {rest kernel : List ℕ} {left found : ℕ} (C : Leaves s L input rest left)
     (next : NextLevel s.modulus.p L rest L' kernel found) {quotients' output' : List ℕ} {solved : Bool}
-    (A : AscendedFrom (next_stage s) input L' quotients' output' solved) where
+    (A : AscendedNext s input L' quotients' output' solved) where
   pub fall_undone : {L'' : Level} {quotients'' output'' : List ℕ} → solved ≡ true → L'' ≡ L'
       → Fallen s L L'' kernel input quotients' output' quotients'' output'' → AscendedFrom s input L quotients'' output'' solved
   fall_undone {quotients'' = quotients''} {output''} e same F =
       let G = subst (λ l. Fallen s L l kernel input quotients' output' quotients'' output'') same F in
       ascended_undone (rise C next) A e G.divided.below
       (record { room = G.turned.same_coordinates ∙ A.valid.room; below = G.turned.coordinates_below })
-      (λ prime X H D. fallen given.stage.rows C.inside C.divided C.some next G.turned G.divided prime X H D)
+      (λ prime X H D. fallen (valid_stage s).rows C.inside C.divided C.some next G.turned G.divided prime X H D)
 
   pub fall_none : solved ≡ false → AscendedFrom s input L quotients' output' solved
   fall_none = ascended_none (rise C next) A

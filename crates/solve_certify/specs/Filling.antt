@@ -18,7 +18,9 @@ use Rattle.reduction.specs.Span.{InSpan}
 use Rattle.reduction.specs.Filling.{filled_with, filled_with_blocks, filled_link, filled_tails, filled_lowered, filled_coefficient}
 use Rattle.reduction.specs.Levels.{level_of}
 use Rattle.reduction.specs.Descent.{Descent, Turn, descent_turn}
+use Rattle.residue.specs.Modulus.{valid_modulus}
 use Rattle.solve_lattice.specs.declared.stage.Stage.{Stage}
+use Rattle.solve_lattice.specs.Stage.{valid_stage}
 use Rattle.solve_lattice.specs.Room.{block_words, last_degree, slot_places, lanes, most_coefficients}
 use Rattle.solve_lattice.specs.Memory.{row, height, Level, slot_size, slot_inverse, ValidLevel}
 use Rattle.solve_lattice.specs.Sums.{sums_room}
@@ -32,7 +34,7 @@ use Rattle.solve_lattice.specs.Input.{Equations, input_system}
 use Rattle.solve_certify.specs.Ascended.{HoldsLevels, HoldsDescended}
 use Rattle.solve_certify.specs.Extending.{Extension, extended, extended_next, extended_last}
 use Rattle.solve_certify.specs.Undoing.{above, undone, has_extended, ascended_undone, ascended_none}
-use Rattle.solve_certify.specs.Ready.{Ready, AscendedFrom, next_stage, ready_next}
+use Rattle.solve_certify.specs.Ready.{Ready, Within, AscendedFrom, AscendedNext, next_stage, ready_next}
 
 -- the last word that is left is not 0
 pub left_leading : {p : ℕ} {L : Level} {input : List ℕ} {at : ℕ} {rest factors : List ℕ} {left : ℕ}
@@ -166,7 +168,7 @@ module _ {s : Stage} {input : List ℕ} {L : Level} {quotients output : List ℕ
   pub left_reducible : Reducible s.modulus.p rest block_words
   left_reducible i lt = omega (
     arith,
-    sums_room s.modulus.p rest (slot_places + left) (omega (arith, given.stage.modulus.prime.large)) C.divided.sums i,
+    sums_room s.modulus.p rest (slot_places + left) (omega (arith, (valid_modulus s.modulus).prime.large)) C.divided.sums i,
   )
 
   fill_valid : ValidLevel s.modulus.p (filled s.modulus.p L (row left) rest left)
@@ -174,8 +176,8 @@ module _ {s : Stage} {input : List ℕ} {L : Level} {quotients output : List ℕ
 
   -- the level with the slot filled, before and after the columns behind it
   module _ {L' : Level} (fills : L' ≡ filled s.modulus.p L (row left) rest left) where
-    pub fill_ready : Ready (next_stage s) input L' quotients output
-    fill_ready = subst (λ l. Ready (next_stage s) input l quotients output) (sym fills)
+    pub fill_ready : {within : Within s} → Ready (next_stage s within) input L' quotients output
+    fill_ready {within} = subst (λ l. Ready (next_stage s within) input l quotients output) (sym fills)
         (ready_next given C.inside fill_valid (has_extended fill given.levels))
 
     pub fill_emptied : {L'' L''' : Level} → L'' ≡ L' → L''' ≡ emptied L'' (row left) (slot_inverse L (row left)) → L''' ≡ L
@@ -184,9 +186,9 @@ module _ {s : Stage} {input : List ℕ} {L : Level} {quotients output : List ℕ
         ∙ ap (λ l. emptied l (row left) (slot_inverse L (row left))) (same ∙ fills)
         ∙ emptied_filled given.valid_level (row left) (omega arith) C.free rest left C.divided.ends
 
-    module _ {quotients' output' : List ℕ} {solved : Bool} (A : AscendedFrom (next_stage s) input L' quotients' output' solved) where
-      behind : AscendedFrom (next_stage s) input (filled s.modulus.p L (row left) rest left) quotients' output' solved
-      behind = subst (λ l. AscendedFrom (next_stage s) input l quotients' output' solved) fills A
+    module _ {quotients' output' : List ℕ} {solved : Bool} (A : AscendedNext s input L' quotients' output' solved) where
+      behind : AscendedNext s input (filled s.modulus.p L (row left) rest left) quotients' output' solved
+      behind = subst (λ l. AscendedNext s input l quotients' output' solved) fills A
 
       pub fill_undone : {quotients'' output'' : List ℕ} → solved ≡ true
           → Lowers s.modulus.p (row left) quotients' factors output' (block_words * (1 + s.column)) quotients'' output''
@@ -194,7 +196,7 @@ module _ {s : Stage} {input : List ℕ} {L : Level} {quotients output : List ℕ
       fill_undone e low = ascended_undone fill behind e low.quotients_below
           (record { room = low.same_output ∙ A.valid.room; below = low.output_below })
           (λ prime X H D. undone_filling C.inside given.valid_level C.divided C.some C.free prime H
-          given.stage.rows low D)
+          (valid_stage s).rows low D)
 
       pub fill_none : solved ≡ false → AscendedFrom s input L quotients' output' solved
       fill_none = ascended_none fill behind

@@ -4,13 +4,12 @@ use Rattle.std.proofs.Common.{arith}
 use Rattle.vector.specs.Bound.{AtMost}
 use Rattle.solve_lattice.specs.declared.stage.Stage.{Stage}
 use Rattle.solve_lattice.specs.Memory.{Level, ValidLevel}
-use Rattle.solve_lattice.specs.Stage.{ValidStage}
+use Rattle.solve_lattice.specs.Room.{lanes}
 use Rattle.solve_lattice.specs.Input.{ValidInput}
 use Rattle.solve_lattice.specs.Output.{ValidOutput}
 use Rattle.solve_certify.specs.Ascended.{HasLevels, Ascended}
 
 pub record Ready (s : Stage) (input : List ℕ) (L : Level) (quotients output : List ℕ) : Type 0 where
-  pub stage : ValidStage s
   pub column : s.column ≤ s.columns
   pub valid_input : ValidInput s.modulus.p input
   pub valid_level : ValidLevel s.modulus.p L
@@ -22,14 +21,22 @@ pub record Ready (s : Stage) (input : List ℕ) (L : Level) (quotients output : 
 abbrev pub AscendedFrom : Stage → (input : List ℕ) (L : Level) (quotients output : List ℕ) → Bool → Type 0
 AscendedFrom s = Ascended s.modulus.p s.rows s.columns s.column
 
-abbrev pub next_stage : Stage → Stage
-next_stage s = record { rows = s.rows; columns = s.columns; column = s.column + 1; modulus = s.modulus }
+-- the system of a stage keeps the limits, as every Stage knows of itself
+abbrev pub Within : Stage → Type 0
+Within s = (s.rows ≤ lanes) × (s.columns ≤ lanes)
 
-pub ready_next : {s : Stage} {input : List ℕ} {L L' : Level} {quotients output : List ℕ} → Ready s input L quotients output
-    → s.column < s.columns → ValidLevel s.modulus.p L'
-    → HasLevels s.modulus.p s.rows s.columns (s.column + 1) input L' → Ready (next_stage s) input L' quotients output
+-- the next stage, by whatever shows that it keeps them
+abbrev pub next_stage : (s : Stage) → Within s → Stage
+next_stage s within = record { rows = s.rows; columns = s.columns; column = s.column + 1; modulus = s.modulus; within = within }
+
+-- what is left at the next stage
+abbrev pub AscendedNext : Stage → (input : List ℕ) (L : Level) (quotients output : List ℕ) → Bool → Type 0
+AscendedNext s = Ascended s.modulus.p s.rows s.columns (s.column + 1)
+
+pub ready_next : {s : Stage} {input : List ℕ} {L L' : Level} {quotients output : List ℕ}
+    {within : Within s} → Ready s input L quotients output → s.column < s.columns → ValidLevel s.modulus.p L'
+    → HasLevels s.modulus.p s.rows s.columns (s.column + 1) input L' → Ready (next_stage s within) input L' quotients output
 ready_next given inside valid has = record {
-  stage = record { modulus = given.stage.modulus; rows = given.stage.rows; columns = given.stage.columns };
   column = omega arith;
   valid_input = given.valid_input;
   valid_level = valid;

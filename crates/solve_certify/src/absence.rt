@@ -1,6 +1,5 @@
 // Where there is no solution: the certificate of that.
 ghost use Rattle.std.specs.Prelude.{◌<◌, ◌≤◌};
-ghost use Rattle.residue.specs.Modulus.{ValidModulus};
 ghost use Rattle.solve_lattice.specs.Room.{lanes};
 ghost use Rattle.solve_lattice.specs.Memory.{ValidLevel};
 ghost use Rattle.solve_lattice.specs.Output.{ValidOutput};
@@ -16,7 +15,7 @@ use vector::copy;
 // Stores q in `output`, from the last level, of n rows, into which the right side was inserted and got stuck at row h: minus the
 // rows of the second system's solution, but for w at place h.
 pub fn find_absence(output: &mut Output, level: &Level, n: usize, h: usize, modulus: Modulus)
-    requires valid_modulus { ValidModulus modulus × (n ≤ lanes) × (h < lanes) × ValidLevel modulus.p level.now }
+    requires bounds { (n ≤ lanes) × (h < lanes) × ValidLevel modulus.p level.now }
     requires stuck { HasStuck modulus.p n level.now h }
     requires area { ValidOutput modulus.p output.old }
     ensures { AbsenceFound modulus.p n level.now h output.new }

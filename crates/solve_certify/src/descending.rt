@@ -2,7 +2,6 @@
 ghost use Rattle.std.specs.Prelude.{ℕ, ◌<◌, get_or};
 ghost use Rattle.solve_lattice.specs.Memory.{ValidLevel};
 ghost use Rattle.solve_descent.specs.Kernel.{ValidKernel};
-ghost use Rattle.solve_lattice.specs.Stage.{ValidStage};
 ghost use Rattle.solve_lattice.specs.Input.{ValidInput};
 ghost use Rattle.solve_lattice.specs.Output.{ValidOutput};
 ghost use Rattle.solve_certify.specs.Falling.{Fallen};
@@ -23,7 +22,7 @@ pub fn descend(
     input: &Input,
     stage: Stage,
 )
-    requires valid_stage { ValidStage stage × (stage.column < stage.columns) × ValidInput stage.modulus.p input.now }
+    requires input { (stage.column < stage.columns) × ValidInput stage.modulus.p input.now }
     requires level { ValidLevel stage.modulus.p level.now × ValidLevel stage.modulus.p upper.now }
     requires kernel { ValidKernel stage.modulus.p kernel.now size }
     requires coefficients { (i : ℕ) → get_or quotients.old i 0 < stage.modulus.p }

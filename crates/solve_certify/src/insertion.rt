@@ -1,6 +1,5 @@
 // The right side of a system inserted into its last level.
 ghost use Rattle.std.specs.Prelude.{◌≡◌, ◌≤◌, length};
-ghost use Rattle.residue.specs.Modulus.{ValidModulus};
 ghost use Rattle.vector.specs.Bound.{AtMost};
 ghost use Rattle.solve_lattice.specs.Room.{lanes, tail_words, level_words};
 ghost use Rattle.solve_lattice.specs.Memory.{ValidLevel};
@@ -8,7 +7,7 @@ ghost use Rattle.solve_lattice.specs.Input.{ValidInput};
 ghost use Rattle.solve_certify.specs.Inserted.{LastInserted};
 
 use residue::modulus::Modulus;
-use solve_lattice::{BLOCK, Input, Level, Tail, insert};
+use solve_lattice::{BLOCK, Input, Insertion, Level, Tail};
 use solve_levels::start_column;
 use vector::{copy, find_leading};
 
@@ -22,7 +21,7 @@ pub fn insert_side(
     columns: usize,
     modulus: Modulus,
 ) -> usize
-    requires valid_modulus { ValidModulus modulus × (columns ≤ lanes) × ValidInput modulus.p input.now }
+    requires bounds { (columns ≤ lanes) × ValidInput modulus.p input.now }
     requires level { ValidLevel modulus.p level.now }
     requires next { (length next.old ≡ level_words) × AtMost 0 next.old }
     requires tail { (length tail.old ≡ tail_words) × AtMost 0 tail.old }
@@ -33,6 +32,13 @@ pub fn insert_side(
     copy(&mut side, 0, input, BLOCK * columns, BLOCK);
     let found = find_leading(&side, BLOCK, modulus);
     let start = start_column(next, tail, level, &side, found.size, modulus);
-    let hand = insert(next, &mut side, tail, start, modulus);
-    hand.size
+    let mut work = Insertion {
+        level: next,
+        block: &mut side,
+        tail,
+        hand: start,
+        modulus,
+    };
+    work.insert();
+    work.hand.size
 }

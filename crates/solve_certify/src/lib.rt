@@ -11,7 +11,6 @@ pub mod solution;
 pub mod witness;
 
 ghost use Rattle.std.specs.Prelude.{◌≤◌};
-ghost use Rattle.residue.specs.Modulus.{ValidModulus};
 ghost use Rattle.solve_lattice.specs.Room.{lanes};
 ghost use Rattle.solve_lattice.specs.Input.{ValidInput};
 ghost use Rattle.solve_lattice.specs.Output.{ValidOutput};
@@ -31,7 +30,7 @@ pub fn certify(
     columns: usize,
     modulus: Modulus,
 ) -> bool
-    requires valid_modulus { ValidModulus modulus × (rows ≤ lanes) × (columns ≤ lanes) × ValidInput modulus.p input.now }
+    requires bounds { (rows ≤ lanes) × (columns ≤ lanes) × ValidInput modulus.p input.now }
     requires system { HasSystem modulus.p rows columns input.now }
     requires area { ValidOutput modulus.p output.old }
     ensures { Certifies modulus.p rows columns input.now output.new result }

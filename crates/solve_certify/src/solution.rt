@@ -1,10 +1,8 @@
 // Where there is a solution: all of its certificate but the numerators.
 ghost use Rattle.std.specs.Prelude.{◌≡◌, ◌≤◌};
-ghost use Rattle.residue.specs.Modulus.{ValidModulus};
 ghost use Rattle.vector.specs.Bound.{AtMost};
 ghost use Rattle.solve_lattice.specs.Room.{lanes, tail_words, most_coefficients};
 ghost use Rattle.solve_lattice.specs.Memory.{ValidLevel, ZeroFrom, Sums};
-ghost use Rattle.solve_lattice.specs.Stage.{ValidStage};
 ghost use Rattle.solve_lattice.specs.Input.{ValidInput};
 ghost use Rattle.solve_lattice.specs.Output.{ValidOutput};
 ghost use Rattle.solve_certify.specs.Inserted.{HasVanished};
@@ -29,7 +27,7 @@ pub fn find_denominator(
     columns: usize,
     modulus: Modulus,
 ) -> usize
-    requires valid_modulus { ValidModulus modulus × (columns ≤ lanes) × ValidInput modulus.p input.now }
+    requires bounds { (columns ≤ lanes) × ValidInput modulus.p input.now }
     requires tail { HasTail modulus.p tail.now × ZeroFrom modulus.p tail.now 0 tail_words most_coefficients
         × Sums modulus.p 0 tail.now }
     requires cleared { AtMost 0 t.old }
@@ -67,7 +65,7 @@ pub fn find_solution(
     input: &Input,
     stage: Stage,
 )
-    requires valid_stage { ValidStage stage × ValidInput stage.modulus.p input.now }
+    requires input { ValidInput stage.modulus.p input.now }
     requires level { ValidLevel stage.modulus.p level.now × ValidLevel stage.modulus.p next.old }
     requires tail { ZeroFrom stage.modulus.p tail.now 0 tail_words most_coefficients
         × Sums stage.modulus.p 0 tail.now }

@@ -1,7 +1,6 @@
 // The right side b of a system inserted into its last level, and the second system: what makes a certificate right.
 ghost use Rattle.vector.specs.Bound.{AtMost};
 ghost use Rattle.solve_lattice.specs.Memory.{ValidLevel};
-ghost use Rattle.solve_lattice.specs.Stage.{ValidStage};
 ghost use Rattle.solve_lattice.specs.Input.{ValidInput};
 ghost use Rattle.solve_lattice.specs.Output.{ValidOutput};
 ghost use Rattle.solve_certify.specs.Witnessed.{HasLast, Witnessed};
@@ -21,7 +20,7 @@ pub fn find_witness(
     input: &Input,
     stage: Stage,
 ) -> bool
-    requires valid_stage { ValidStage stage × ValidInput stage.modulus.p input.now }
+    requires input { ValidInput stage.modulus.p input.now }
     requires level { ValidLevel stage.modulus.p level.now }
     requires last { HasLast stage.modulus.p stage.rows stage.columns input.now level.now }
     requires areas { AtMost 0 quotients.old × ValidOutput stage.modulus.p output.old }

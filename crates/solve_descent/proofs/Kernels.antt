@@ -3,7 +3,7 @@ use Prim.Native.Nat.{ℕ, ◌+◌, ◌-◌, ◌*◌, ◌%◌, ◌<◌, ◌≤◌
 use mathlib.Core.Path.{◌≡◌, refl, sym, ◌∙◌, ap, ap₂, subst}
 use mathlib.Core.Logic.{inr, ⊎_elim}
 use mathlib.Core.List.{List, [], ◌∷◌}
-use native.Mathlib.Nat.{mul-le-mul_right, add-mul, zero-mul, zero-mod}
+use native.Mathlib.Nat.{mul-le-mul_right, add-mul, zero-add, zero-mul, zero-mod, mod-eq_of_lt}
 use native.Mathlib.Omega.{arith}
 use lib.ListN.{length, get_or}
 use Rattle.ring.specs.Ring.{Ring}
@@ -52,6 +52,15 @@ none_taken {p} prime y x u A = record {
       (identity (polynomials (residues p prime)) (x ∷ u ∷ []) (λ ρ qx qu. search quotes depth 16) refl) A;
 }
 
+-- the last word of a kernel is not 0
+pub kernel_last : {p : ℕ} {kernel : List ℕ} {size : ℕ} → ValidKernel p kernel size → 0 < size → 0 < get_or kernel (size - 1) 0
+kernel_last {p} {kernel} {size} valid some = omega (
+  arith,
+  ap (λ x. get_or kernel x 0) (zero-add (size - 1)),
+  mod-eq_of_lt (valid.below (0 + (size - 1))),
+  valid.ends.last some,
+)
+
 module _ {p : ℕ} {y₀ kernel : List ℕ} where
   pub kernel_start : Reducing p y₀ kernel tail_words y₀
   kernel_start = record {
@@ -89,7 +98,14 @@ module _ {p : ℕ} {y₀ kernel : List ℕ} where
         omega (arith, so_far.bound (product_words * (p * p)) small i, mul-le-mul_right (p * p) few)
 
     module _ {size : ℕ} (valid : ValidKernel p kernel size) (some : 0 < size) (fits : size ≤ k) (prime₀ : Prime p)
-        (a : ℕ) (by : a ≡ (modulo p).mul (get_or y (k - 1) 0 % p) ((modulo p).inverse (get_or kernel (0 + (size - 1)) 0))) where
+        {v i a : ℕ} (reduced : v ≡ get_or y (k - 1) 0 % p) (inverse : i ≡ (modulo p).inverse (get_or kernel (size - 1) 0))
+        (product : a ≡ (modulo p).mul v i) where
+      by : a ≡ (modulo p).mul (get_or y (k - 1) 0 % p) ((modulo p).inverse (get_or kernel (0 + (size - 1)) 0))
+      by =
+          product
+          ∙ ap₂ (modulo p).mul reduced
+          (inverse ∙ ap (λ x. (modulo p).inverse (get_or kernel x 0)) (sym (zero-add (size - 1))))
+
       abbrev d : ℕ
       d = (k - 1) - (size - 1)
 
@@ -97,12 +113,12 @@ module _ {p : ℕ} {y₀ kernel : List ℕ} where
       factor_below = subst (λ x. x < p) (sym by)
           (mul_below p prime₀.large (get_or y (k - 1) 0 % p) ((modulo p).inverse (get_or kernel (0 + (size - 1)) 0)))
 
-      product : (j : ℕ) → (p - a) * get_or kernel (0 + j) 0 ≤ p * p
-      product j = product_most p (p - a) (get_or kernel (0 + j) 0) (omega arith) (valid.below (0 + j))
+      multiple_most : (j : ℕ) → (p - a) * get_or kernel (0 + j) 0 ≤ p * p
+      multiple_most j = product_most p (p - a) (get_or kernel (0 + j) 0) (omega arith) (valid.below (0 + j))
 
       pub kernel_sum : p ≤ largest_modulus → AtMost (product_words * (p * p)) y₀ → (j : ℕ)
           → sum_at y ((k - 1) - (size - 1)) kernel 0 (p - a) j < bound64
-      kernel_sum limit small j = sum_fits p _ limit (omega (arith, kernel_room small (d + j), product j))
+      kernel_sum limit small j = sum_fits p _ limit (omega (arith, kernel_room small (d + j), multiple_most j))
 
       abbrev last : ℕ
       last = get_or kernel (0 + (size - 1)) 0
@@ -159,7 +175,7 @@ module _ {p : ℕ} {y₀ kernel : List ℕ} where
         bound_after : (b : ℕ) → AtMost b y₀ → AtMost (b + (tail_words - (k - 1)) * (p * p)) y'
         bound_after b small i =
             let grown = at_most_sum (b + (tail_words - k) * (p * p)) (p * p) y d kernel 0 size (p - a) (so_far.bound b small)
-            (λ j lt. product j) i in
+            (λ j lt. multiple_most j) i in
             rw (stores, more) (omega (arith, grown, add-mul (tail_words - k) 1 (p * p)))
 
         module _ (prime : Prime p) where
@@ -228,11 +244,11 @@ pub kernel_zero : {p : ℕ} {y₀ kernel : List ℕ} {k size : ℕ} {y : List �
     → ValidKernel p kernel size → 0 < size → size ≤ k → Prime p → get_or y (k - 1) 0 ≡ 0 → Reducing p y₀ kernel (k - 1) y
 unfolding modulo
 kernel_zero {p} {y₀} {kernel} {k} {size} {y} so_far valid some fits prime none =
-    kernel_skip so_far valid some fits prime 0 (sym product) refl
+    kernel_skip so_far valid some fits prime refl refl (sym product) refl
   where
-    product : (modulo p).mul (get_or y (k - 1) 0 % p) ((modulo p).inverse (get_or kernel (0 + (size - 1)) 0)) ≡ 0
+    product : (modulo p).mul (get_or y (k - 1) 0 % p) ((modulo p).inverse (get_or kernel (size - 1) 0)) ≡ 0
     product =
-        ap (λ w. w % p * (modulo p).inverse (get_or kernel (0 + (size - 1)) 0) % p) none
-        ∙ ap (λ w. w * (modulo p).inverse (get_or kernel (0 + (size - 1)) 0) % p) (zero-mod p)
-        ∙ ap (λ w. w % p) (zero-mul ((modulo p).inverse (get_or kernel (0 + (size - 1)) 0)))
+        ap (λ w. w % p * (modulo p).inverse (get_or kernel (size - 1) 0) % p) none
+        ∙ ap (λ w. w * (modulo p).inverse (get_or kernel (size - 1) 0) % p) (zero-mod p)
+        ∙ ap (λ w. w % p) (zero-mul ((modulo p).inverse (get_or kernel (size - 1) 0)))
         ∙ zero-mod p

@@ -1,10 +1,10 @@
 -- `lower_quotients`: its lane, its factors, and what its steps give together.
 use Prim.Native.Nat.{ℕ, zero, suc, ◌+◌, ◌-◌, ◌*◌, ◌%◌, ◌<◌, ◌≤◌}
-use mathlib.Core.Path.{◌≡◌, sym, ◌∙◌, ap, subst}
+use mathlib.Core.Path.{◌≡◌, sym, ◌∙◌, ap}
 use mathlib.Core.List.{List}
 use native.Mathlib.Nat.{mod-eq_of_lt}
 use native.Mathlib.Omega.{arith}
-use native.Mathlib.Decide.{ℕ_discrete, dec_lt}
+use native.Mathlib.Decide.{dec_lt}
 use lib.ListN.{length, get_or, set, get_or-eq_default}
 use lib.Seq.{get_or-set_same, get_or-set_other}
 use Rattle.algebra.specs.Series.{unit}
@@ -48,14 +48,6 @@ module _ {p : ℕ} (quotients y₀ : List ℕ) {y : List ℕ} (q : ℕ) (below :
 
 -- the factors, with 1 for slot q
 module _ {p : ℕ} (prime : Prime p) (factors : List ℕ) (q : ℕ) (room : length factors ≡ block_words) (lane : q < lanes) where
-  pub factors_below : (v : ℕ) → v < p → ((i : ℕ) → get_or factors i 0 < p) → (i : ℕ) → get_or (set factors (last_lane - q) v) i 0 < p
-  factors_below v small below i = go (ℕ_discrete i (last_lane - q))
-    where
-      go : Dec (i ≡ last_lane - q) → get_or (set factors (last_lane - q) v) i 0 < p
-      go (yes e) = subst (λ z. get_or (set factors (last_lane - q) v) z 0 < p) (sym e)
-          (omega (arith, get_or-set_same factors (last_lane - q) v 0 (omega arith)))
-      go (no e) = omega (arith, get_or-set_other factors (last_lane - q) i v 0 e, below i)
-
   other_word : (i e : ℕ) → (flat lanes i e ≡ last_lane - q → ⊥)
       → words p prime factors 0 product_words (flat lanes i e) ≡ words p prime (set factors (last_lane - q) 1) 0 product_words
       (flat lanes i e)

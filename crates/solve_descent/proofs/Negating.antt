@@ -1,5 +1,5 @@
 -- The quotients counted, negated and cleared.
-use Prim.Native.Nat.{ℕ, ◌+◌, ◌-◌, ◌*◌, ◌/◌, ◌<◌, ◌≤◌}
+use Prim.Native.Nat.{ℕ, min, ◌+◌, ◌-◌, ◌*◌, ◌/◌, ◌%◌, ◌<◌, ◌≤◌}
 use mathlib.Core.Path.{◌≡◌, sym, ◌∙◌, ap}
 use mathlib.Core.Logic.{inr, ⊎_elim}
 use mathlib.Core.List.{List}
@@ -27,11 +27,8 @@ module _ {p : ℕ} (positive : 0 < p) (l : List ℕ) (size : ℕ) (found : size 
   E : Ends p l 0 product_words size
   E = found_ends p positive l product_words product_words (omega arith) (λ j ge lt. absurd (omega arith)) size found
 
-  pub found_most : size ≤ product_words
-  found_most = E.within
-
-  pub degrees_found : FewDegrees p l ((size + last_lane) / lanes)
-  degrees_found = record { most = omega (arith, E.within); behind = λ j ge lt. E.behind j (omega arith) lt }
+  pub degrees_found : {k : ℕ} → k ≡ size / lanes + min 1 (size % lanes) → FewDegrees p l k
+  degrees_found is = record { most = omega (arith, E.within); behind = λ j ge lt. E.behind j (omega arith) lt }
 
 module _ {p : ℕ} {l : List ℕ} {k : ℕ} (D : FewDegrees p l k) (length_is : length l ≡ product_words) (below : (i : ℕ)
     → get_or l i 0 < p) where

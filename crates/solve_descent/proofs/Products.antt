@@ -30,10 +30,6 @@ use Rattle.solve_descent.specs.Held.{none_held}
 pub product_most : (p c x : ℕ) → c ≤ p → x < p → c * x ≤ p * p
 product_most p c x h l = mul-le-mul h (let g : x ≤ p = omega arith in g)
 
--- one multiple of w more
-pub next_multiple : (k n w : ℕ) → k < n → k * w + w ≤ n * w
-next_multiple k n w h = omega (arith, mul-le-mul_right w h)
-
 module _ {p w : ℕ} {h₀ f : List ℕ} {b v : ℕ} {s : List ℕ} {a m : ℕ} where
   pub product_start : TakesProduct p w h₀ f b v 0 s a m h₀
   unfolding read

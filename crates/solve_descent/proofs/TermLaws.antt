@@ -1,8 +1,8 @@
 -- The terms that count at a block have room, in t and in the quotients. Here, since `omega` meets too many differences in a proof.
-use Prim.Native.Nat.{ℕ, ◌+◌, ◌-◌, ◌*◌, ◌<◌, ◌≤◌, min}
+use Prim.Native.Nat.{ℕ, ◌+◌, ◌*◌, ◌≤◌, min}
 use mathlib.Core.Path.{◌≡◌, ◌∙◌, ap}
 use native.Mathlib.Omega.{arith}
-use Rattle.solve_lattice.specs.Room.{product_words, block_words, most_factors, lanes, last_lane, product_degrees}
+use Rattle.solve_lattice.specs.Room.{product_words, block_words, lanes, product_degrees}
 use Rattle.solve_descent.specs.Blocks.{most_terms, block_terms}
 
 -- the lesser of the two bounds
@@ -12,8 +12,3 @@ terms_are degrees size most least = least ∙ ap (min degrees) most
 pub terms_room : (degrees size : ℕ) {k : ℕ} → k ≡ block_terms degrees size → size ≤ block_words
     → (k ≤ product_degrees) × (k * lanes + size ≤ product_words + lanes)
 terms_room degrees size is within = (omega arith, omega arith)
-
-pub terms_fit : (q size : ℕ) {k t f : ℕ} → (k ≤ product_degrees) × (k * lanes + size ≤ product_words + lanes) → product_words ≤ t
-    → product_words ≤ f
-    → (k ≤ most_factors) × (k * lanes + size ≤ t + lanes) × (last_lane - q + k * lanes < f + lanes)
-terms_fit q size room long factors = (omega arith, omega arith, omega arith)

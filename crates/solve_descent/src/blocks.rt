@@ -1,6 +1,5 @@
 // A vector of a level, made anew from its coefficients: the sum of quotient times block.
 ghost use Rattle.std.specs.Prelude.{◌≡◌, ℕ, ◌*◌, ◌<◌, ◌≤◌, get_or};
-ghost use Rattle.residue.specs.Modulus.{ValidModulus};
 ghost use Rattle.vector.specs.Bound.{AtMost};
 ghost use Rattle.solve_lattice.specs.Room.{lanes, block_words, slot_words, product_words};
 ghost use Rattle.solve_lattice.specs.Memory.{slot_size, ValidLevel};
@@ -11,7 +10,6 @@ ghost use Rattle.solve_descent.specs.Blocks.{most_terms, block_terms, CombinesBl
 use crate::negated::negate;
 use crate::product::{Terms, subtract_product};
 use residue::modulus::Modulus;
-use residue::number::lesser;
 use solve_lattice::{LANES, LAST_LANE, Level, PRODUCT_DEGREES, Product, SIZES, SLOT};
 use vector::clear;
 
@@ -36,23 +34,21 @@ fn subtract_blocks(
     rows: usize,
     modulus: Modulus,
 )
-    requires valid_modulus { ValidModulus modulus × (rows ≤ lanes) × ValidLevel modulus.p level.now }
+    requires bounds { (rows ≤ lanes) × ValidLevel modulus.p level.now }
     requires zero { AtMost 0 t.old }
     requires factors { (i : ℕ) → get_or quotients.now i 0 < modulus.p }
     ensures { TakesCombination modulus.p lanes product_words quotients.now
         (λ q. block_terms degrees (slot_size level.now q)) level.now (λ q. slot_words * q) rows
         t.old t.new }
 {
-    let mut q = 0;
-    while q < rows {
+    for q in 0..rows {
         let size = level[SIZES + q] as usize;
         let terms = Terms {
             at: LAST_LANE - q,
             step: LANES,
-            count: lesser(degrees, most_terms(size)),
+            count: degrees.min(most_terms(size)),
         };
         subtract_product(t, LANES, quotients, terms, level, SLOT * q, size, modulus);
-        q += 1;
     }
 }
 
@@ -66,7 +62,7 @@ pub fn combine_blocks(
     rows: usize,
     modulus: Modulus,
 )
-    requires valid_modulus { ValidModulus modulus × (rows ≤ lanes) × ValidLevel modulus.p level.now }
+    requires bounds { (rows ≤ lanes) × ValidLevel modulus.p level.now }
     requires factors { (i : ℕ) → get_or quotients.old i 0 < modulus.p }
     requires degrees { FewDegrees modulus.p quotients.old degrees }
     requires zero { AtMost 0 t.old }

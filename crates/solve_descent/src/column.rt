@@ -1,6 +1,5 @@
 // The coordinate of a column: stored, and its multiple of the column taken off.
 ghost use Rattle.std.specs.Prelude.{ℕ, ◌+◌, ◌*◌, ◌<◌, ◌≤◌, get_or};
-ghost use Rattle.residue.specs.Modulus.{ValidModulus};
 ghost use Rattle.vector.specs.Bound.{AtMost};
 ghost use Rattle.solve_lattice.specs.Room.{block_words, input_words, output_words, combination_products, coordinate_products};
 ghost use Rattle.solve_descent.specs.Column.{TakesColumn};
@@ -8,7 +7,6 @@ ghost use Rattle.solve_descent.specs.Column.{TakesColumn};
 use crate::negated::store_negated;
 use crate::product::{Terms, subtract_product};
 use residue::modulus::Modulus;
-use residue::number::lesser;
 use solve_lattice::{BLOCK, COEFFICIENTS, Input, LANES, Output, Product, Tail};
 use vector::find_leading;
 
@@ -23,7 +21,7 @@ pub fn take_column(
     at: usize,
     modulus: Modulus,
 )
-    requires valid_modulus { ValidModulus modulus × (place + block_words ≤ output_words) × (at + block_words ≤ input_words) }
+    requires bounds { (place + block_words ≤ output_words) × (at + block_words ≤ input_words) }
     requires block { AtMost (combination_products * (modulus.p * modulus.p)) t.old }
     requires coordinates { (i : ℕ) → get_or output.old i 0 < modulus.p }
     requires sums { AtMost (coordinate_products * (modulus.p * modulus.p)) y.now }
@@ -37,7 +35,7 @@ pub fn take_column(
     let terms = Terms {
         at: place,
         step: 1,
-        count: lesser(found.size, COEFFICIENTS),
+        count: found.size.min(COEFFICIENTS),
     };
     subtract_product(t, LANES, output, terms, input, at, BLOCK, modulus);
 }

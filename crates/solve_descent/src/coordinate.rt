@@ -1,6 +1,5 @@
 // The coordinate of a column, found by the tails of a level.
 ghost use Rattle.std.specs.Prelude.{ℕ, ◌<◌, ◌≤◌, get_or};
-ghost use Rattle.residue.specs.Modulus.{ValidModulus};
 ghost use Rattle.vector.specs.Bound.{AtMost};
 ghost use Rattle.solve_lattice.specs.Room.{lanes};
 ghost use Rattle.solve_lattice.specs.Memory.{ValidLevel};
@@ -25,7 +24,7 @@ pub fn find_coordinate(
     size: usize,
     modulus: Modulus,
 )
-    requires valid_modulus { ValidModulus modulus × (rows ≤ lanes) × ValidLevel modulus.p level.now }
+    requires bounds { (rows ≤ lanes) × ValidLevel modulus.p level.now }
     requires kernel { ValidKernel modulus.p kernel.now size }
     requires factors { (i : ℕ) → get_or quotients.now i 0 < modulus.p }
     requires degrees { FewDegrees modulus.p quotients.now degrees }

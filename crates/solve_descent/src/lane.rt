@@ -4,6 +4,7 @@ ghost use Rattle.vector.specs.Stored.{stored};
 ghost use Rattle.solve_lattice.specs.Room.{lanes, block_words};
 
 use solve_lattice::{BLOCK, LANES, Product};
+use vector::store_each;
 
 // Stores quotients[LANES * e + lane] at to[at + e] for e below BLOCK.
 pub fn gather_lane(to: &mut [u64], at: usize, quotients: &Product, lane: usize)
@@ -11,9 +12,5 @@ pub fn gather_lane(to: &mut [u64], at: usize, quotients: &Product, lane: usize)
     ensures { to.new ≡ stored (λ e. get_or quotients.now (lanes * e + lane) 0)
         to.old at block_words }
 {
-    let mut e = 0;
-    while e < BLOCK {
-        to[at + e] = quotients[LANES * e + lane];
-        e += 1;
-    }
+    store_each(to, at, BLOCK, |e| quotients[LANES * e + lane]);
 }

@@ -1,6 +1,5 @@
 // One column of the way down by quotients.
 ghost use Rattle.std.specs.Prelude.{◌≡◌, ℕ, ◌+◌, ◌-◌, ◌<◌, ◌≤◌, get_or, set};
-ghost use Rattle.residue.specs.Modulus.{ValidModulus};
 ghost use Rattle.solve_lattice.specs.Room.{lanes, block_words, output_words, last_lane};
 ghost use Rattle.solve_descent.specs.Lowering.{Lowers};
 
@@ -21,7 +20,7 @@ pub fn lower_quotients(
     place: usize,
     modulus: Modulus,
 )
-    requires valid_modulus { ValidModulus modulus × (q < lanes) × (place + block_words ≤ output_words) }
+    requires bounds { (q < lanes) × (place + block_words ≤ output_words) }
     requires quotients { (i : ℕ) → get_or quotients.old i 0 < modulus.p }
     requires output { (i : ℕ) → get_or output.old i 0 < modulus.p }
     requires factors { (i : ℕ) → get_or factors.old i 0 < modulus.p }

@@ -1,6 +1,5 @@
 // A product taken off words in lanes: of tails with one lane, of a block with eight.
 ghost use Rattle.std.specs.Prelude.{ℕ, ◌+◌, ◌*◌, ◌<◌, ◌≤◌, length, get_or};
-ghost use Rattle.residue.specs.Modulus.{ValidModulus};
 ghost use Rattle.vector.specs.Bound.{AtMost};
 ghost use Rattle.solve_lattice.specs.Room.{most_factors};
 ghost use Rattle.solve_descent.specs.Product.{TakesProduct, dividend_most};
@@ -27,7 +26,7 @@ pub fn subtract_product(
     m: usize,
     modulus: Modulus,
 )
-    requires valid_modulus { ValidModulus modulus × (terms.count ≤ most_factors) × (terms.count * w + m ≤ length h.old + w)
+    requires bounds { (terms.count ≤ most_factors) × (terms.count * w + m ≤ length h.old + w)
         × (a + m ≤ length s.now) }
     requires factors { (terms.at + terms.count * terms.step < length f.now + terms.step)
         × ((i : ℕ) → get_or f.now i 0 < modulus.p) }
@@ -39,16 +38,13 @@ pub fn subtract_product(
     if m == 0 {
         return;
     }
-    let at = terms.at;
-    let step = terms.step;
-    let count = terms.count;
-    let mut k = 0;
-    while k < count {
+    let Terms { at, step, count } = terms;
+    // by index: `factors` allows a step of 0 and, with no terms, an `at` behind f, at which step_by and a slice of f would stop
+    for k in 0..count {
         let factor = f[at + k * step];
         // most factors of a quotient are 0
         if 0 < factor {
             add_scaled(h, k * w, s, a, m, modulus.p - factor);
         }
-        k += 1;
     }
 }

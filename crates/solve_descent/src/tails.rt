@@ -1,6 +1,5 @@
 // The combination of the tails of a level, with the quotients for coefficients.
 ghost use Rattle.std.specs.Prelude.{ℕ, ◌+◌, ◌*◌, ◌<◌, ◌≤◌, get_or};
-ghost use Rattle.residue.specs.Modulus.{ValidModulus};
 ghost use Rattle.vector.specs.Bound.{AtMost};
 ghost use Rattle.solve_lattice.specs.Room.{lanes, block_words, slot_words, tail_words, product_degrees};
 ghost use Rattle.solve_lattice.specs.Memory.{ValidLevel};
@@ -19,14 +18,13 @@ pub fn subtract_combination(
     rows: usize,
     modulus: Modulus,
 )
-    requires valid_modulus { ValidModulus modulus × (rows ≤ lanes) × (count ≤ product_degrees) × ValidLevel modulus.p level.now }
+    requires bounds { (rows ≤ lanes) × (count ≤ product_degrees) × ValidLevel modulus.p level.now }
     requires zero { AtMost 0 y.old }
     requires factors { (i : ℕ) → get_or quotients.now i 0 < modulus.p }
     ensures { TakesCombination modulus.p 1 tail_words quotients.now (λ _. count) level.now
         (λ q. slot_words * q + block_words) rows y.old y.new }
 {
-    let mut q = 0;
-    while q < rows {
+    for q in 0..rows {
         let size = level[TAIL_SIZES + q] as usize;
         let terms = Terms {
             at: LAST_LANE - q,
@@ -43,6 +41,5 @@ pub fn subtract_combination(
             size,
             modulus,
         );
-        q += 1;
     }
 }

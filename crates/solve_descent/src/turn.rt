@@ -1,6 +1,5 @@
 // One turn of the way down: a column gets its coordinate, and its part is taken off the vector.
-ghost use Rattle.std.specs.Prelude.{ℕ, ◌+◌, ◌*◌, ◌<◌, ◌≤◌, get_or};
-ghost use Rattle.residue.specs.Modulus.{ValidModulus};
+ghost use Rattle.std.specs.Prelude.{ℕ, ◌+◌, ◌*◌, ◌<◌, get_or};
 ghost use Rattle.vector.specs.Bound.{AtMost};
 ghost use Rattle.solve_lattice.specs.Room.{lanes, block_words};
 ghost use Rattle.solve_lattice.specs.Memory.{ValidLevel};
@@ -27,8 +26,7 @@ pub fn descend_column(
     input: &Input,
     stage: Stage,
 )
-    requires valid_modulus { ValidModulus stage.modulus × (stage.rows ≤ lanes) × (stage.column < lanes)
-        × ValidLevel stage.modulus.p upper.now }
+    requires bounds { (stage.column < lanes) × ValidLevel stage.modulus.p upper.now }
     requires kernel { ValidKernel stage.modulus.p kernel.now size }
     requires column { (i : ℕ) → get_or input.now i 0 < stage.modulus.p }
     requires factors { (i : ℕ) → get_or quotients.old i 0 < stage.modulus.p }
@@ -38,9 +36,12 @@ pub fn descend_column(
         (block_words * stage.column) quotients.old output.old (block_words * (1 + stage.column))
         rest.new quotients.new output.new }
 {
-    let rows = stage.rows;
-    let column = stage.column;
-    let modulus = stage.modulus;
+    let Stage {
+        rows,
+        column,
+        modulus,
+        ..
+    } = stage;
     let mut y = [0u64; TAIL];
     let degrees = count_degrees(quotients, modulus);
     find_coordinate(

@@ -1,4 +1,3 @@
-pub mod Rows
 pub mod Stepping
 pub mod Dividing
 pub mod Taking

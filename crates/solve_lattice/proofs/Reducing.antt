@@ -83,12 +83,6 @@ module _ {p : ℕ} (prime : Prime p) {L : Level} {block : List ℕ} {k value : �
   pub tail_behind : ZeroFrom p L (slot_words * row k + block_words) block_words (height (tail_size L (row k)) * lanes)
   tail_behind j h lt = slot.tail j (omega arith) lt
 
-  pub tail_there : slot_words * row k + block_words + height (tail_size L (row k)) * lanes ≤ length L
-  tail_there = omega (arith, tail_fits, S.level.room)
-
-  pub tail_word : (j : ℕ) → j < height (tail_size L (row k)) * lanes → get_or L (slot_words * row k + block_words + j) 0 < p
-  tail_word j lt = S.level.below (slot_words * row k + block_words + j) (omega (arith, tail_fits))
-
   module _ (a : ℕ) (by : a ≡ factor_of p L k value) where
     pub tail_product : (j : ℕ) → j < height (tail_size L (row k)) * lanes
         → (p - a) * get_or L (slot_words * row k + block_words + j) 0 ≤ p * p
@@ -269,9 +263,3 @@ module _ {p : ℕ} (prime₀ : Prime p) {L : Level} (valid : ValidLevel p L) {bl
             (below_or_not j (suc k));
         holds = less;
       }
-
--- no word is left
-pub reducing_end : {p : ℕ} {L : Level} {block₀ tail₀ : List ℕ} {n k : ℕ} {block tail : List ℕ}
-    → Reducing p L block₀ tail₀ n k block tail → k ≡ 0 → Reducing p L block₀ tail₀ n 0 block tail
-reducing_end {p} {L} {block₀} {tail₀} {n} {k} {block} {tail} so_far none =
-    subst (λ k. Reducing p L block₀ tail₀ n k block tail) none so_far

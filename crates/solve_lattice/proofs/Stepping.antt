@@ -14,7 +14,7 @@ use Rattle.algebra.specs.Field.{Field}
 use Rattle.modular.specs.Prime.{Prime}
 use Rattle.modular.specs.Modulo.{modulo}
 use Rattle.modular.specs.Residue.{Residue, residues}
-use Rattle.modular.specs.Bits.{bound32, bound64}
+use Rattle.modular.specs.Bits.{bound64}
 use Rattle.modular.specs.LargestPrime.{largest_modulus}
 use Rattle.residue.specs.Below.{mul_below, inverse_below}
 use Rattle.vector.specs.Stored.{stored, length_stored, stored_inside, below_or_not}
@@ -69,13 +69,6 @@ zero_before p block n behind last j h lt =
     (λ more. behind j more lt)
     (below_or_not j n)
 
--- words of slots and factors are numbers of 32 bits, as `add_scaled` asks
-pub word_short : {p x : ℕ} → p ≤ largest_modulus → x < p → x < bound32
-word_short limit below = omega arith
-
-pub minus_short : {p : ℕ} → p ≤ largest_modulus → (a : ℕ) → p - a < bound32
-minus_short limit a = omega arith
-
 -- a times the slot is taken off, `shift` degrees up
 module _ (p : ℕ) (prime : Prime p) {L : Level} {block : List ℕ} {k value : ℕ} (S : HasMultiple p L block k value) (a : ℕ)
     (by : a ≡ factor_of p L k value) where
@@ -118,10 +111,6 @@ module _ (p : ℕ) (prime : Prime p) {L : Level} {block : List ℕ} {k value : �
   step_fits : taken ≤ block_words
   step_fits = omega (arith, slot.block.within)
 
-  -- the words that the step takes are numbers below p
-  pub step_slot_word : (j : ℕ) → j < height (slot_size L (row k)) * lanes → get_or L (slot_words * row k + j) 0 < p
-  step_slot_word j lt = step_word (slot_words * row k + j) (omega (arith, step_fits))
-
   step_none : ZeroFrom p L (slot_words * row k) block_words taken
   step_none j h lt = slot.block.behind j (omega arith) lt
 
@@ -139,9 +128,6 @@ module _ (p : ℕ) (prime : Prime p) {L : Level} {block : List ℕ} {k value : �
   pub step_sum : Sums p 1 block → p ≤ largest_modulus → (j : ℕ) → j < height (slot_size L (row k)) * lanes
       → sum_at block (k - slot_size L (row k)) L (slot_words * row k) (p - a) j < bound64
   step_sum sums limit j lt = sum_fits p _ limit (step_reduces sums j (omega (arith, step_fits)))
-
-  pub step_slot_room : slot_words * row k + height (slot_size L (row k)) * lanes ≤ length L
-  step_slot_room = omega (arith, S.level.room, step_fits)
 
   module _ (block' : List ℕ)
       (stores : block' ≡ stored (sum_at block (k - slot_size L (row k)) L (slot_words * row k) (p - a)) block

@@ -4,7 +4,7 @@ use Prim.Native.Nat.{ℕ, ◌+◌, ◌-◌, ◌*◌, ◌/◌, ◌<◌, ◌≤◌
 use mathlib.Core.Path.{◌≡◌, refl, ap}
 use mathlib.Core.List.{List}
 use native.Mathlib.Omega.{arith}
-use lib.ListN.{length, get_or}
+use lib.ListN.{length}
 use Rattle.algebra.specs.Polynomial.{Polynomial, polynomials}
 use Rattle.algebra.specs.Size.{sized}
 use Rattle.modular.specs.Prime.{Prime}
@@ -108,12 +108,6 @@ module _ {p : ℕ} (prime₀ : Prime p) {M : Memory} (valid : Valid p M) (fits :
 
     pub taking_room : shift + words ≤ tail_words
     taking_room = omega (arith, whole, fits.filled, fits.short (row M.hand.size) (omega arith))
-
-    pub taking_slot_room : slot_words * q + block_words + words ≤ length L
-    taking_slot_room = omega (arith, valid.level.room, taking_fits)
-
-    pub taking_word : (j : ℕ) → j < words → get_or L (slot_words * q + block_words + j) 0 < p
-    taking_word j lt = valid.level.below (slot_words * q + block_words + j) (omega (arith, taking_fits))
 
     taking_none : ZeroFrom p L (slot_words * q + block_words) block_words words
     taking_none j h lt = slot.tail j (omega arith) lt

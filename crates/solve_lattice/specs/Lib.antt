@@ -1,5 +1,5 @@
 -- interface, what contracts, other crates and documents cite: Room, Word, Memory, Holding, Range, LaneStored, Sums, Found, Reading,
---   SameBlocks, Step, Monomial, Quotients, Coefficients, Remainder, Moves, Lanes, Insertion, Stage, Input, Output
+--   SameBlocks, Step, Monomial, Quotients, Coefficients, Remainder, Moves, Lanes, Insertion, Stage, Input, Output, References
 -- inside: Noted, Leading
 -- what stands in memory
 pub mod Room
@@ -31,3 +31,4 @@ pub mod Insertion
 pub mod Stage
 pub mod Input
 pub mod Output
+pub mod References

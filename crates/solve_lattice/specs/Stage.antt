@@ -1,6 +1,6 @@
 -- The stage of an ascent: its system keeps the limits of the areas, and its modulus is in order.
 use Rattle.std.specs.Prelude.{◌≤◌}
-use Rattle.residue.specs.Modulus.{ValidModulus}
+use Rattle.residue.specs.Modulus.{ValidModulus, valid_modulus}
 use Rattle.solve_lattice.specs.declared.stage.Stage.{Stage}
 use Rattle.solve_lattice.specs.Room.{lanes}
 
@@ -8,3 +8,7 @@ pub record ValidStage (stage : Stage) : Type 0 where
   pub modulus : ValidModulus stage.modulus
   pub rows : stage.rows ≤ lanes
   pub columns : stage.columns ≤ lanes
+
+-- every stage that there is
+pub valid_stage : (stage : Stage) → ValidStage stage
+valid_stage stage = record { modulus = valid_modulus stage.modulus; rows = stage.within.0; columns = stage.within.1 }

@@ -1,7 +1,7 @@
 -- Laws of `Sums`: there is room for one product more and for a reduction, fewer places allow larger sums, and a step that adds a
 -- product to some words takes one place.
 use Rattle.std.specs.Prelude.{ℕ, ◌+◌, ◌-◌, ◌*◌, ◌<◌, ◌≤◌, ◌≡◌, List, get_or}
-use Rattle.std.proofs.Common.{mul-le-mul_right, add-mul, arith}
+use Rattle.std.proofs.Common.{le_trans, le-add_right, mul-le-mul_right, add-mul, arith}
 use Rattle.residue.specs.Sum.{SmallSum}
 use Rattle.vector.specs.Stored.{stored}
 use Rattle.vector.specs.Multiple.{sum_at}
@@ -14,6 +14,9 @@ module _ (p : ℕ) (l : List ℕ) where
   sums_room n positive sums i =
       let le : most_products - n ≤ most_products = omega arith in
       omega (arith, sums i, mul-le-mul_right (p * p) le, mul-le-mul_right p positive)
+
+  pub sums_small : (n : ℕ) → 0 < p → Sums p n l → (i : ℕ) → SmallSum p (get_or l i 0)
+  sums_small n positive sums i = le_trans (le-add_right (get_or l i 0) (p * p)) (sums_room n positive sums i)
 
   pub sums_fewer : (m n : ℕ) → n ≤ m → Sums p m l → Sums p n l
   sums_fewer m n le sums i =

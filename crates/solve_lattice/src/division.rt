@@ -1,6 +1,5 @@
 // A vector divided by the slots of a level.
 ghost use Rattle.std.specs.Prelude.{◌*◌, ◌≤◌, length};
-ghost use Rattle.residue.specs.Modulus.{ValidModulus};
 ghost use Rattle.vector.specs.Bound.{AtMost};
 ghost use Rattle.solve_lattice.specs.Room.{lanes, product_words, most_places};
 ghost use Rattle.solve_lattice.specs.Memory.{height, ValidLevel, ZeroFrom, Sums};
@@ -21,7 +20,7 @@ pub fn divide(
     level: &Level,
     modulus: Modulus,
 ) -> usize
-    requires valid_modulus { ValidModulus modulus × ValidLevel modulus.p level.now }
+    requires level { ValidLevel modulus.p level.now }
     requires block { (height n * lanes ≤ length block.old) × (n ≤ product_words)
         × ZeroFrom modulus.p block.old 0 product_words n × Sums modulus.p most_places block.old }
     requires quotients { (n ≤ length quotients.old) × AtMost 0 quotients.old }
@@ -33,10 +32,7 @@ pub fn divide(
         let k = found.size;
         let q = LAST_LANE - (k - 1) % LANES;
         let size = level[SIZES + q] as usize;
-        if size == 0 {
-            return k;
-        }
-        if k < size {
+        if size == 0 || k < size {
             return k;
         }
         let left = take_multiple(block, level, found, modulus);

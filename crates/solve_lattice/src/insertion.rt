@@ -1,80 +1,62 @@
 // A vector inserted into the slots of a level.
-ghost use Rattle.residue.specs.Modulus.{ValidModulus};
 ghost use Rattle.solve_lattice.specs.Memory.{memory, Valid};
 ghost use Rattle.solve_lattice.specs.Moves.{GoesOn, Lengthened, Stepped};
 ghost use Rattle.solve_lattice.specs.Insertion.{Starts, Inserts};
 
 use crate::hand::Hand;
-use crate::moves::{swap_with_slot, take_from_hand};
 use crate::room::{LANES, LAST_LANE, Level, SIZES, Tail};
 use residue::modulus::Modulus;
 
-// Exchanges the hand with the slot at its pivot where that is longer. Returns what the hand then is.
-pub fn lengthen(
-    level: &mut Level,
-    block: &mut [u64],
-    tail: &mut Tail,
-    hand: Hand,
-    modulus: Modulus,
-) -> Hand
-    requires valid_modulus { ValidModulus modulus }
-    requires memory { Valid modulus.p (memory level.old block.old tail.old hand) }
-    requires filled { GoesOn modulus.p (memory level.old block.old tail.old hand) }
-    ensures { Lengthened modulus.p
-        (memory level.old block.old tail.old hand)
-        (memory level.new block.new tail.new result) }
-{
-    let k = hand.size;
-    let q = LAST_LANE - (k - 1) % LANES;
-    if k < level[SIZES + q] as usize {
-        return swap_with_slot(level, block, tail, hand, modulus);
-    }
-    hand
+// What an insertion works on: a level, the words of the vector in hand and what is kept beside them, and the modulus.
+#[derive(Drop)]
+pub struct Insertion<'a> {
+    pub level: &'a mut Level,
+    pub block: &'a mut [u64],
+    pub tail: &'a mut Tail,
+    pub hand: Hand,
+    pub modulus: Modulus,
+    pub ghost valid: { Valid modulus.p (memory level.now block.now tail.now hand) },
 }
 
-// Makes one turn of `insert`, where the slot at the pivot is filled: makes the longer of the hand and that slot the hand, and takes
-// the multiple of the other off it that takes its leading word away. Returns what the hand then is.
-pub fn turn(
-    level: &mut Level,
-    block: &mut [u64],
-    tail: &mut Tail,
-    hand: Hand,
-    modulus: Modulus,
-) -> Hand
-    requires valid_modulus { ValidModulus modulus }
-    requires memory { Valid modulus.p (memory level.old block.old tail.old hand) }
-    requires filled { GoesOn modulus.p (memory level.old block.old tail.old hand) }
-    ensures { Stepped modulus.p
-        (memory level.old block.old tail.old hand)
-        (memory level.new block.new tail.new result) }
-{
-    let longer = lengthen(level, block, tail, hand, modulus);
-    take_from_hand(block, tail, level, longer, modulus)
-}
+impl Insertion<'_> {
+    ghost use Rattle.solve_lattice.specs.References.{memory_of, SameReferences};
 
-// Inserts the hand into the slots of `level`: turns until its block is zero or the slot at its pivot is empty. Returns what the
-// hand then is.
-pub fn insert(
-    level: &mut Level,
-    block: &mut [u64],
-    tail: &mut Tail,
-    at: Hand,
-    modulus: Modulus,
-) -> Hand
-    requires valid_modulus { ValidModulus modulus }
-    requires memory { Valid modulus.p (memory level.old block.old tail.old at) }
-    requires starts { Starts modulus.p (memory level.old block.old tail.old at) }
-    ensures { Inserts modulus.p
-        (memory level.old block.old tail.old at)
-        (memory level.new block.new tail.new result) }
-{
-    let mut hand = at;
-    while 0 < hand.size {
-        let q = LAST_LANE - (hand.size - 1) % LANES;
-        if level[SIZES + q] == 0 {
-            return hand;
+    // Exchanges the hand with the slot at its pivot where that is longer.
+    pub fn lengthen(&mut self)
+        requires filled { GoesOn self.old.modulus.p (memory_of self.old) }
+        ensures lengthened { Lengthened self.old.modulus.p (memory_of self.old) (memory_of self.new) }
+        ensures same { SameReferences self.old self.new }
+    {
+        let k = self.hand.size;
+        let q = LAST_LANE - (k - 1) % LANES;
+        if k < self.level[SIZES + q] as usize {
+            self.swap_with_slot();
         }
-        hand = turn(level, block, tail, hand, modulus);
     }
-    hand
+
+    // Makes one turn of `insert`, where the slot at the pivot is filled: makes the longer of the hand and that slot the hand, and
+    // takes the multiple of the other off it that takes its leading word away.
+    pub fn turn(&mut self)
+        requires filled { GoesOn self.old.modulus.p (memory_of self.old) }
+        ensures stepped { Stepped self.old.modulus.p (memory_of self.old) (memory_of self.new) }
+        ensures same { SameReferences self.old self.new }
+    {
+        self.lengthen();
+        self.take_from_hand();
+    }
+
+    // Inserts the hand into the slots of the level: turns until its block is zero or the slot at its pivot is empty.
+    pub fn insert(&mut self)
+        requires starts { Starts self.old.modulus.p (memory_of self.old) }
+        ensures inserts { Inserts self.old.modulus.p (memory_of self.old) (memory_of self.new) }
+        ensures same { SameReferences self.old self.new }
+    {
+        while 0 < self.hand.size {
+            let q = LAST_LANE - (self.hand.size - 1) % LANES;
+            if self.level[SIZES + q] == 0 {
+                return;
+            }
+            self.turn();
+        }
+    }
 }

@@ -12,7 +12,7 @@ pub mod step;
 
 pub use division::divide;
 pub use hand::Hand;
-pub use insertion::insert;
+pub use insertion::Insertion;
 pub use remainder::reduce_words;
 pub use room::{
     BLOCK, Block, COEFFICIENTS, DEGREES, INPUT, INVERSES, Input, LANES, LAST_LANE, LEVEL, Level,

@@ -1,6 +1,5 @@
 // A vector reduced by the slots of a level: no word is left that a slot could take away.
-ghost use Rattle.std.specs.Prelude.{◌≡◌, ◌<◌, ◌≤◌, length};
-ghost use Rattle.residue.specs.Modulus.{ValidModulus};
+ghost use Rattle.std.specs.Prelude.{◌≡◌, ◌<◌, ◌≤◌, length, MatchOption};
 ghost use Rattle.vector.specs.Bound.{AtMost};
 ghost use Rattle.solve_lattice.specs.Room.{block_words, tail_words};
 ghost use Rattle.solve_lattice.specs.Memory.{ValidLevel, Sums};
@@ -12,24 +11,23 @@ use crate::room::{BLOCK, Block, INVERSES, LANES, LAST_LANE, Level, SIZES, SLOT, 
 use residue::modulus::Modulus;
 use vector::{Leading, add_scaled};
 
-// Returns the k-th word of `block` modulo p where the slot of its row is filled and has at most k words; else 0.
-pub fn word_to_take(block: &Block, level: &Level, k: usize, modulus: Modulus) -> u64
-    requires { ValidModulus modulus × (0 < k) × (k ≤ block_words) × Sums modulus.p 0 block.now }
-    ensures { WordFound modulus.p level.now block.now k result }
+// Returns the k-th word of `block` modulo p where it is not 0, and the slot of its row is filled and has at most k words.
+pub fn word_to_take(block: &Block, level: &Level, k: usize, modulus: Modulus) -> Option<u64>
+    requires { (0 < k) × (k ≤ block_words) × Sums modulus.p 0 block.now }
+    ensures { MatchOption result (WordFound modulus.p level.now block.now k 0)
+        (λ value. (0 < value) × WordFound modulus.p level.now block.now k value) }
 {
     let size = level[SIZES + (LAST_LANE - (k - 1) % LANES)] as usize;
-    if size == 0 {
-        return 0;
+    if size == 0 || k < size {
+        return None;
     }
-    if k < size {
-        return 0;
-    }
-    modulus.reduce(block[k - 1])
+    let value = modulus.reduce(block[k - 1]);
+    (0 < value).then_some(value)
 }
 
 // Takes the multiple of the slot of a word's row off `block` and `tail` that takes the word away, the leading one or another.
 pub fn take_word(block: &mut Block, tail: &mut Tail, level: &Level, word: Leading, modulus: Modulus)
-    requires valid_modulus { ValidModulus modulus × (word.size ≤ block_words) }
+    requires bounds { (word.size ≤ block_words) }
     requires multiple { HasMultiple modulus.p level.now block.old word.size word.value }
     requires sums { Sums modulus.p 1 block.old × Sums modulus.p 1 tail.old }
     ensures { TakesWord modulus.p level.now block.old tail.old word.size word.value
@@ -57,20 +55,15 @@ pub fn take_word(block: &mut Block, tail: &mut Tail, level: &Level, word: Leadin
 // Takes multiples of the slots of `level` off `block` and `tail` until none of the first n words of `block` is left that a slot
 // could take away.
 pub fn reduce_words(block: &mut Block, tail: &mut Tail, level: &Level, n: usize, modulus: Modulus)
-    requires valid_modulus { ValidModulus modulus × ValidLevel modulus.p level.now × (n ≤ block_words) }
+    requires level { ValidLevel modulus.p level.now × (n ≤ block_words) }
     requires room { (length block.old ≡ block_words) × (length tail.old ≡ tail_words) }
     requires words { AtMost modulus.p block.old × AtMost modulus.p tail.old }
     ensures { Reducing modulus.p level.now block.old tail.old n 0
         block.new tail.new }
 {
-    let mut k = n;
-    while 0 < k {
-        let value = word_to_take(block, level, k, modulus);
-        let rest = k - 1;
-        if 0 < value {
-            let word = Leading { size: k, value };
-            take_word(block, tail, level, word, modulus);
+    for k in (1..=n).rev() {
+        if let Some(value) = word_to_take(block, level, k, modulus) {
+            take_word(block, tail, level, Leading { size: k, value }, modulus);
         }
-        k = rest;
     }
 }

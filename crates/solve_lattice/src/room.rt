@@ -1,4 +1,5 @@
 // Sizes of the areas that the solver works on, all of them arrays of words of 64 bits.
+// They are fixed memory with places by constants: ValidLevel, HasStep and the theorems on them speak of flat words.
 
 // Rows of a block, which stand side by side at each degree.
 pub const LANES: usize = 8;

@@ -1,6 +1,5 @@
 // The step that insertion and division make: a multiple of a slot is taken off the block in hand.
 ghost use Rattle.std.specs.Prelude.{◌≡◌, ◌+◌, ◌-◌, ◌*◌, ◌%◌, ◌<◌, ◌≤◌, length};
-ghost use Rattle.residue.specs.Modulus.{ValidModulus};
 ghost use Rattle.residue.specs.Sum.{SmallSum};
 ghost use Rattle.vector.specs.Multiple.{sum_at};
 ghost use Rattle.solve_lattice.specs.Memory.{Sums};
@@ -12,6 +11,7 @@ use vector::{Leading, add_scaled, find_leading_near};
 
 // What a step leaves of the block: a number of words behind which all are 0 modulo p, the last of them modulo p, or 0 where that
 // is not known, the number of words that are left to look at where it is 0, and the factor of the multiple.
+// `leading` is no Option: where that word is 0 and where it is not known, `find_rest` looks again, so an Option says no more.
 #[derive(Clone, Copy)]
 pub struct Remains {
     pub size: usize,
@@ -30,7 +30,7 @@ pub fn word_before(
     c: u64,
     modulus: Modulus,
 ) -> u64
-    requires valid_modulus { ValidModulus modulus × (d + n ≤ length h.now) × (a + n ≤ length s.now) }
+    requires bounds { (d + n ≤ length h.now) × (a + n ≤ length s.now) }
     requires sum { SmallSum modulus.p (sum_at h.now d s.now a c (n - 2)) }
     ensures none { n < 2 → result ≡ 0 }
     ensures some { 2 ≤ n → result ≡ sum_at h.now d s.now a c (n - 2) % modulus.p }
@@ -57,7 +57,6 @@ pub fn words_unseen(k: usize, n: usize) -> usize
 
 // Takes the multiple of the slot at the pivot off `block` that takes its leading word away. Returns what that leaves.
 pub fn take_multiple(block: &mut [u64], level: &Level, found: Leading, modulus: Modulus) -> Remains
-    requires valid_modulus { ValidModulus modulus }
     requires step { HasStep modulus.p level.now block.old found.size found.value }
     requires sums { Sums modulus.p 1 block.old }
     ensures { Takes modulus.p level.now block.old found.size found.value
@@ -87,7 +86,6 @@ pub fn take_multiple(block: &mut [u64], level: &Level, found: Leading, modulus: 
 // words. Branches on `value`, which the processor foresees where p is large: a size computed from `value` would have the next step
 // wait for it.
 pub fn find_rest(block: &[u64], n: usize, value: u64, unseen: usize, modulus: Modulus) -> Leading
-    requires valid_modulus { ValidModulus modulus }
     requires rest { Rest modulus.p block.now n value unseen }
     ensures { Left modulus.p block.now n result.size result.value }
 {

@@ -21,10 +21,8 @@ pub fn store_column(
     requires slots { (i : ℕ) → i < rows → FitsSlot area.now (first + step * i) }
     ensures { ColumnStored j area.now first step rows input.old input.new }
 {
-    let mut i = 0;
-    while i < rows {
+    for i in 0..rows {
         let f = coefficients_in(area, SYSTEM_WIDTH, first + step * i);
         store_lane(input, BLOCK * j + (LAST_LANE - i), f);
-        i += 1;
     }
 }

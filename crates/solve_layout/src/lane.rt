@@ -9,7 +9,7 @@ use solve_lattice::{DEGREES, LANES};
 pub fn coefficient(f: &[u64], e: usize) -> u64
     ensures { result ≡ get_or f.now e 0 }
 {
-    if e < f.len() { f[e] } else { 0 }
+    f.get(e).copied().unwrap_or(0)
 }
 
 // Stores coefficient e of f at h[d + LANES * e] for each degree e of a block.
@@ -17,9 +17,7 @@ pub fn store_lane(h: &mut [u64], d: usize, f: &[u64])
     requires { d + lanes * last_degree < length h.old }
     ensures { h.new ≡ lane (λ e. get_or f.now e 0) h.old d block_degrees }
 {
-    let mut e = 0;
-    while e < DEGREES {
+    for e in 0..DEGREES {
         h[d + LANES * e] = coefficient(f, e);
-        e += 1;
     }
 }

@@ -31,10 +31,8 @@ fn lay_area(input: &mut Input, area: &[u64], rows: usize, columns: usize)
     requires slots { (k : ℕ) → k < rows * columns + rows → FitsSlot area.now k }
     ensures { LaidOut area.now rows columns input.old input.new }
 {
-    let mut j = 0;
-    while j < columns {
+    for j in 0..columns {
         store_column(input, j, area, j, columns, rows);
-        j += 1;
     }
     store_column(input, columns, area, rows * columns, 1, rows);
 }

@@ -15,12 +15,10 @@ pub fn copy_level(next: &mut Level, level: &Level)
     requires zeros { (length next.old ≡ level_words) × AtMost 0 next.old }
     ensures { Copied level.now lanes next.new }
 {
-    let mut q = 0;
-    while q < LANES {
+    for q in 0..LANES {
         let size = level[SIZES + q] as usize;
         copy(next, SLOT * q, level, SLOT * q, size);
         next[SIZES + q] = level[SIZES + q];
         next[INVERSES + q] = level[INVERSES + q];
-        q += 1;
     }
 }

@@ -1,6 +1,5 @@
 // A column divided by the slots of a level.
 ghost use Rattle.std.specs.Prelude.{ℕ, ◌+◌, ◌<◌, ◌≤◌, get_or};
-ghost use Rattle.residue.specs.Modulus.{ValidModulus};
 ghost use Rattle.vector.specs.Bound.{AtMost};
 ghost use Rattle.solve_lattice.specs.Room.{block_words, input_words};
 ghost use Rattle.solve_lattice.specs.Memory.{ValidLevel};
@@ -20,7 +19,7 @@ pub fn divide_column(
     level: &Level,
     modulus: Modulus,
 ) -> usize
-    requires valid_modulus { ValidModulus modulus × ValidLevel modulus.p level.now }
+    requires level { ValidLevel modulus.p level.now }
     requires column { (at + block_words ≤ input_words) × ((i : ℕ) → get_or input.now i 0 < modulus.p) }
     requires areas { AtMost 0 rest.old × AtMost 0 factors.old }
     ensures { DividedByLevel modulus.p level.now input.now at rest.new

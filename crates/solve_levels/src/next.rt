@@ -1,6 +1,5 @@
 // The next level: a column inserted into a copy of a level.
 ghost use Rattle.std.specs.Prelude.{◌≡◌, length};
-ghost use Rattle.residue.specs.Modulus.{ValidModulus};
 ghost use Rattle.vector.specs.Bound.{AtMost};
 ghost use Rattle.solve_lattice.specs.Room.{tail_words, level_words};
 ghost use Rattle.solve_lattice.specs.Memory.{memory, ValidLevel};
@@ -24,7 +23,7 @@ pub fn start_column(
     size: usize,
     modulus: Modulus,
 ) -> Hand
-    requires valid_modulus { ValidModulus modulus × ValidLevel modulus.p level.now }
+    requires level { ValidLevel modulus.p level.now }
     requires column { ValidColumn modulus.p column.now size }
     requires next { (length next.old ≡ level_words) × AtMost 0 next.old }
     requires tail { (length tail.old ≡ tail_words) × AtMost 0 tail.old }
@@ -45,7 +44,7 @@ pub fn next_level(
     level: &Level,
     modulus: Modulus,
 ) -> usize
-    requires valid_modulus { ValidModulus modulus × ValidLevel modulus.p level.now }
+    requires level { ValidLevel modulus.p level.now }
     requires column { ValidColumn modulus.p column.old size }
     requires next { (length next.old ≡ level_words) × AtMost 0 next.old }
     ensures { NextLevel modulus.p level.now column.old next.new

@@ -1,36 +1,24 @@
 // What an insertion leaves in the hand goes where it belongs: into the empty slot at its pivot, or to the kernel.
-ghost use Rattle.residue.specs.Modulus.{ValidModulus};
-ghost use Rattle.solve_lattice.specs.Memory.{memory, Valid};
+ghost use Rattle.solve_lattice.specs.References.{memory_of, SameReferences};
 ghost use Rattle.solve_levels.specs.Settled.{InsertionStopped, Settled};
 
-use residue::modulus::Modulus;
-use solve_lattice::moves::swap_with_slot;
-use solve_lattice::{BLOCK, Block, Hand, Level, Tail};
-use vector::{clear, exchange, find_leading};
+use solve_lattice::{BLOCK, Block, Insertion};
+use vector::{clear, find_leading, store_each};
 
 // Settles the hand: where it is stuck, it fills the slot at its pivot and the kernel is 0; where its block is zero, the kernel is
 // its tail. Returns the size of the kernel.
-pub fn settle(
-    kernel: &mut Block,
-    level: &mut Level,
-    block: &mut Block,
-    tail: &mut Tail,
-    hand: Hand,
-    modulus: Modulus,
-) -> usize
-    requires valid_modulus { ValidModulus modulus }
-    requires memory { Valid modulus.p (memory level.old block.old tail.old hand) }
-    requires stopped { InsertionStopped modulus.p (memory level.old block.old tail.old hand) }
-    ensures { Settled modulus.p
-        (memory level.old block.old tail.old hand)
-        level.new kernel.new result }
+pub fn settle(kernel: &mut Block, work: &mut Insertion) -> usize
+    requires stopped { InsertionStopped work.old.modulus.p (memory_of work.old) }
+    ensures settled { Settled work.old.modulus.p (memory_of work.old) work.new.level.now kernel.new result }
+    ensures same { SameReferences work.old work.new }
 {
-    if hand.size == 0 {
-        let found = find_leading(tail, BLOCK, modulus);
-        exchange(tail, kernel, 0, BLOCK, modulus);
-        return found.size;
+    if work.hand.size == 0 {
+        let modulus = work.modulus;
+        let tail = &*work.tail;
+        store_each(kernel, 0, BLOCK, |j| modulus.reduce(tail[j]));
+        return find_leading(tail, BLOCK, modulus).size;
     }
-    swap_with_slot(level, block, tail, hand, modulus);
+    work.swap_with_slot();
     clear(kernel, 0, BLOCK);
     0
 }

@@ -1,6 +1,5 @@
 // A slot that was empty is filled with a block, and emptied again.
 ghost use Rattle.std.specs.Prelude.{◌≡◌, ◌-◌, ◌%◌, ◌<◌, ◌≤◌, get_or};
-ghost use Rattle.residue.specs.Modulus.{ValidModulus};
 ghost use Rattle.vector.specs.Bound.{Reducible};
 ghost use Rattle.solve_lattice.specs.Room.{lanes, block_words};
 ghost use Rattle.solve_levels.specs.Filled.{filled, emptied};
@@ -12,7 +11,7 @@ use vector::{clear, exchange};
 // Fills slot q of `level` with the first `size` words of `block`, reduced; stores their number and the inverse of the last. What is
 // then in `block` is left open.
 pub fn fill_slot(level: &mut Level, q: usize, block: &mut Block, size: usize, modulus: Modulus)
-    requires valid_modulus { ValidModulus modulus × (q < lanes) }
+    requires bounds { (q < lanes) }
     requires block { (size ≤ block_words) × Reducible modulus.p block.old block_words }
     requires last { (0 < size) × (0 < get_or block.old (size - 1) 0 % modulus.p) }
     ensures { level.new ≡ filled modulus.p level.old q block.old size }

@@ -1,6 +1,5 @@
 // One slot of a level less multiples of the others and of d, and put back: its last word, and with it its pivot, stays.
 ghost use Rattle.std.specs.Prelude.{◌≡◌, ◌<◌, ◌≤◌, length};
-ghost use Rattle.residue.specs.Modulus.{ValidModulus};
 ghost use Rattle.vector.specs.Bound.{AtMost, Reducible};
 ghost use Rattle.solve_lattice.specs.Room.{lanes, block_words, tail_words, most_coefficients};
 ghost use Rattle.solve_lattice.specs.Memory.{slot_size, ValidLevel};
@@ -8,7 +7,6 @@ ghost use Rattle.solve_descent.specs.Kernel.{ValidKernel};
 ghost use Rattle.solve_popov.specs.Rework.{ReducedFound, slot_stored, SlotReworked};
 
 use residue::modulus::Modulus;
-use residue::number::larger;
 use solve_descent::reduce_by_kernel;
 use solve_lattice::{BLOCK, Block, Level, SIZES, SLOT, TAIL, TAIL_SIZES, Tail, reduce_words};
 use vector::{copy, exchange};
@@ -24,7 +22,7 @@ fn find_reduced(
     size: usize,
     modulus: Modulus,
 )
-    requires valid_modulus { ValidModulus modulus × (i < lanes) × ValidLevel modulus.p level.now × (0 < slot_size level.now i) }
+    requires bounds { (i < lanes) × ValidLevel modulus.p level.now × (0 < slot_size level.now i) }
     requires kernel { ValidKernel modulus.p d.now size × (0 < size) }
     requires room { (length block.old ≡ block_words) × (length tail.old ≡ tail_words) }
     requires zeros { AtMost 0 block.old × AtMost 0 tail.old }
@@ -47,14 +45,14 @@ fn store_slot(
     size: usize,
     modulus: Modulus,
 )
-    requires valid_modulus { ValidModulus modulus × (i < lanes) × ValidLevel modulus.p level.old × (size ≤ most_coefficients) }
+    requires bounds { (i < lanes) × ValidLevel modulus.p level.old × (size ≤ most_coefficients) }
     requires room { (length block.old ≡ block_words) × (length tail.old ≡ tail_words) }
     requires sums { Reducible modulus.p block.old block_words × Reducible modulus.p tail.old block_words }
     ensures { level.new
         ≡ slot_stored modulus.p level.old i block.old tail.old size }
 {
     let words = level[SIZES + i] as usize;
-    let tail_words = larger(level[TAIL_SIZES + i] as usize, size);
+    let tail_words = (level[TAIL_SIZES + i] as usize).max(size);
     exchange(block, level, SLOT * i, words, modulus);
     exchange(tail, level, SLOT * i + BLOCK, tail_words, modulus);
     level[TAIL_SIZES + i] = size as u64;
@@ -62,7 +60,7 @@ fn store_slot(
 
 // Reduces slot i of `level` by the others, and its tail modulo d, of `size` coefficients.
 pub fn reduce_slot(level: &mut Level, i: usize, d: &Block, size: usize, modulus: Modulus)
-    requires valid_modulus { ValidModulus modulus × (i < lanes) × ValidLevel modulus.p level.old × (0 < slot_size level.old i) }
+    requires bounds { (i < lanes) × ValidLevel modulus.p level.old × (0 < slot_size level.old i) }
     requires kernel { ValidKernel modulus.p d.now size × (0 < size) × (size ≤ most_coefficients) }
     ensures { SlotReworked modulus.p level.old i d.now level.new }
 {

@@ -1,5 +1,4 @@
 // The denominator of the second system's solution.
-ghost use Rattle.residue.specs.Modulus.{ValidModulus};
 ghost use Rattle.solve_lattice.specs.Memory.{Valid};
 ghost use Rattle.solve_lattice.specs.Insertion.{Starts};
 ghost use Rattle.solve_second.specs.Laid.{starting_memory};
@@ -7,7 +6,7 @@ ghost use Rattle.solve_second.specs.Denominator.{TailFound};
 
 use crate::monic::make_monic;
 use residue::modulus::Modulus;
-use solve_lattice::{Block, Hand, Level, Product, TAIL, insert};
+use solve_lattice::{Block, Hand, Insertion, Level, Product, TAIL};
 use vector::Leading;
 
 // Inserts `block` with tail 1 into `level` and stores the tail that is left, made monic, in w. Returns the number of its
@@ -19,7 +18,6 @@ pub fn second_denominator(
     found: Leading,
     modulus: Modulus,
 ) -> usize
-    requires valid_modulus { ValidModulus modulus }
     requires memory { Valid modulus.p (starting_memory level.old block.old found) }
     requires starts { Starts modulus.p (starting_memory level.old block.old found) }
     ensures { TailFound modulus.p (starting_memory level.old block.old found) w.new result }
@@ -31,6 +29,13 @@ pub fn second_denominator(
         leading: found.value,
         tail_size: 1,
     };
-    insert(level, block, &mut tail, hand, modulus);
+    let mut work = Insertion {
+        level,
+        block,
+        tail: &mut tail,
+        hand,
+        modulus,
+    };
+    work.insert();
     make_monic(w, &tail, modulus)
 }

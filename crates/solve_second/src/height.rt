@@ -4,14 +4,14 @@ ghost use Rattle.solve_lattice.specs.Memory.{height, slot_size};
 ghost use Rattle.solve_second.specs.Greatest.{LowBlocks, greatest};
 ghost use Rattle.solve_lattice.specs.Room.{lanes};
 
-use solve_lattice::{LANES, LAST_LANE, Level, SIZES};
+use solve_lattice::{LANES, Level, SIZES};
 
 // Counts the degrees of the block of slot q.
 pub fn slot_height(level: &Level, q: usize) -> usize
     requires { (q < lanes) × LowBlocks level.now }
     ensures { result ≡ height (slot_size level.now q) }
 {
-    (level[SIZES + q] as usize + LAST_LANE) / LANES
+    (level[SIZES + q] as usize).div_ceil(LANES)
 }
 
 // Returns the greatest height of the first n slots.
@@ -19,14 +19,5 @@ pub fn greatest_height(level: &Level, n: usize) -> usize
     requires { (n ≤ lanes) × LowBlocks level.now }
     ensures { result ≡ greatest level.now n }
 {
-    let mut top = 0;
-    let mut q = 0;
-    while q < n {
-        let height = slot_height(level, q);
-        if top < height {
-            top = height;
-        }
-        q += 1;
-    }
-    top
+    (0..n).map(|q| slot_height(level, q)).max().unwrap_or(0)
 }

@@ -23,10 +23,8 @@ pub fn copy_lane(
     ensures { block.new
         ≡ lane (λ e. get_or level.now (from + step * e) 0) block.old to count }
 {
-    let mut e = 0;
-    while e < count {
+    for e in 0..count {
         block[to + LANES * e] = level[from + step * e];
-        e += 1;
     }
 }
 

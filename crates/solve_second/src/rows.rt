@@ -13,10 +13,8 @@ pub fn store_rows(rows: &mut [u64], quotients: &Product, n: usize)
     requires { (n ≤ lanes) × (rows_words ≤ length rows.old) }
     ensures { rows.new ≡ stored (quotient_word quotients.now n) rows.old 0 rows_words }
 {
-    let mut k = 0;
-    while k < n {
+    for k in 0..n {
         gather_lane(rows, BLOCK * k, quotients, LAST_LANE - (n - 1 - k));
-        k += 1;
     }
     clear(rows, BLOCK * n, ROWS - BLOCK * n);
 }

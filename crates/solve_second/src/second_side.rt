@@ -65,9 +65,7 @@ pub fn lay_side(block: &mut Product, level: &Level, n: usize, side: Side, top: u
     ensures { (length block.new ≡ product_words)
         × ((x : ℕ) → x < product_words → get_or block.new x 0 ≡ side_word (sided side level.now) n x) }
 {
-    let mut i = 0;
-    while i < n {
+    for i in 0..n {
         side_lane(block, level, n, side, top, i);
-        i += 1;
     }
 }

@@ -1,6 +1,5 @@
 // The second system of a level solved: its right side inserted, made monic, and divided.
 ghost use Rattle.std.specs.Prelude.{ℕ, ◌<◌, ◌≤◌, length, get_or};
-ghost use Rattle.residue.specs.Modulus.{ValidModulus};
 ghost use Rattle.solve_lattice.specs.Room.{rows_words, lanes};
 ghost use Rattle.solve_lattice.specs.Memory.{ValidLevel};
 ghost use Rattle.solve_second.specs.Side.{sided, side_row};
@@ -26,7 +25,7 @@ pub fn solve_second(
     side: Side,
     modulus: Modulus,
 )
-    requires valid_modulus { ValidModulus modulus × (n ≤ lanes) × (side_row side < lanes) × ValidLevel modulus.p level.now }
+    requires bounds { (n ≤ lanes) × (side_row side < lanes) × ValidLevel modulus.p level.now }
     requires tops { HasTops modulus.p n (sided side level.now) }
     requires room { (rows_words ≤ length rows.old) × ((i : ℕ) → rows_words ≤ i → get_or rows.old i 0 < modulus.p) }
     ensures { SecondSolved modulus.p n (sided side level.now) w.new rows.new }

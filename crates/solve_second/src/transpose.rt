@@ -23,8 +23,7 @@ fn transpose_slot(transposed: &mut Level, level: &Level, n: usize, top: usize, k
     if level[SIZES + q] == 0 {
         return;
     }
-    let mut i = 0;
-    while i < n {
+    for i in 0..n {
         // lane i is coordinate n - 1 - k of the block of slot n - 1 - i of the level
         transpose_lane(
             transposed,
@@ -34,7 +33,6 @@ fn transpose_slot(transposed: &mut Level, level: &Level, n: usize, top: usize, k
             q,
             top,
         );
-        i += 1;
     }
     transposed[SIZES + k] = (LANES * top - k) as u64;
     transposed[INVERSES + k] = level[INVERSES + q];
@@ -47,10 +45,8 @@ pub fn lay_slots(transposed: &mut Level, level: &Level, n: usize) -> usize
     ensures { (result ≡ greatest level.now n) × SlotsLaid n level.now transposed.new }
 {
     let top = greatest_height(level, n);
-    let mut k = 0;
-    while k < n {
+    for k in 0..n {
         transpose_slot(transposed, level, n, top, k);
-        k += 1;
     }
     top
 }

@@ -3,10 +3,6 @@ use mathlib.Core.Path.{◌≡◌, sym, ap, ◌∙◌, subst}
 use mathlib.Core.Bool.{Bool}
 use mathlib.Core.List.{List}
 use Prim.Native.Nat.{ℕ}
-use native.Mathlib.Omega.{arith}
-use lib.ListN.{length}
-use Rattle.vector.specs.Bound.{AtMost}
-use Rattle.solve_lattice.specs.Room.{output_words}
 use Rattle.words.specs.Limits.{office}
 use Rattle.words.specs.LimitsLaws.{office_fits}
 use Rattle.words.specs.Outcome.Outcome.{accepted}
@@ -16,14 +12,12 @@ use Rattle.words.specs.Systems.{read_line}
 use Rattle.words.proofs.LineLaws.{line_written_of_read, line_in_within}
 use Rattle.words.specs.Certificate.{form_when}
 use Rattle.truth.specs.Chosen.{chosen_right}
-use Rattle.solve_lattice.specs.Input.{ValidInput}
-use Rattle.solve_lattice.specs.Output.{ValidOutput}
 use Rattle.solve_certify.specs.Certifies.{HasSystem, Certifies}
 use Rattle.solve_meaning.specs.SystemIn.{system_in_lanes, SystemArea}
 use Rattle.solve_meaning.specs.SystemInLaws.{read_within, read_laid}
 use Rattle.solve_meaning.specs.Taken.{taken_certificate}
 use Rattle.solve_meaning.specs.Equations.{office_equations}
-use Rattle.solve_meaning.specs.LaidLaws.{laid_valid, laid_holds}
+use Rattle.solve_meaning.specs.LaidLaws.{laid_holds}
 use Rattle.solve_meaning.specs.TakenChosen.{taken_chosen, taken_within}
 use Rattle.solve_meaning.specs.Answers.{right_answers}
 use Rattle.solver.specs.SolvingLaws.{accepted_same}
@@ -33,18 +27,12 @@ use Rattle.solver.specs.Certified.{HasShape, Read, CertifiedOutput}
 module _ {h : Shape} (within : ShapeWithin office h) {input : List ℕ} (area : SystemArea h input) where
   -- p is the modulus in hand
   module _ (p : ℕ) (is : p ≡ h.modulus) where
-    pub area_valid : ValidInput p input
-    area_valid = subst (λ q. ValidInput q input) (sym is) (laid_valid (read_laid h within input area))
-
     pub area_system : HasSystem p h.rows h.columns input
     area_system = subst (λ q. HasSystem q h.rows h.columns input) (sym is) (record {
       prime = (read_within h within input).shape.prime;
       equations = office_equations (system_in_lanes h input) (read_within h within input);
       holds = laid_holds (system_in_lanes h input) (read_within h within input) (read_laid h within input area);
     })
-
-    pub output_cleared : (output : List ℕ) → length output ≡ output_words → AtMost 0 output → ValidOutput p output
-    output_cleared output room none = record { room = room; below = λ i. omega (arith, none i, within.prime.large) }
 
     pub area_certified : {output : List ℕ} {solved : Bool} → Certifies p h.rows h.columns input output solved
         → CertifiedOutput (system_in_lanes h input) output solved

@@ -15,7 +15,7 @@ ghost use Rattle.answers.specs.Answer.{counted_outcome, shape_of, form_of};
 ghost use Rattle.solver.specs.Certified.{Read};
 ghost use Rattle.solver.specs.Solving.{Gives, Solves};
 
-use answers::{Counted, Form, LineRead, Refusal, Shape};
+use answers::{Form, Reason, Refusal, Shape};
 use certifying::certify_words;
 use limits::Office;
 use reader::line::read_line;
@@ -23,6 +23,7 @@ use solve_lattice::OUTPUT;
 use writer::output::write_output;
 
 // Returns the form of the certificate.
+#[tactic(auto, unfolding(words::specs::Certificate::form_when))]
 fn form_for(solved: bool) -> Form
     ensures { form_of result ≡ certificate.form_when solved }
 {
@@ -46,18 +47,15 @@ fn solve_read(words: &mut [u32], system: &[u32], shape: Shape, side: usize) -> u
 
 // Solves the line of right side `side`, counted from 0: writes its certificate over the first of the lent words. Returns the number
 // of its words. Those behind it stand as before, and so do all where it refuses.
-pub fn solve(words: &mut [u32], system: &[u32], side: usize) -> Counted
+pub fn solve(words: &mut [u32], system: &[u32], side: usize) -> Result<usize, Refusal>
     ensures { Solves office side system.now words.old words.new (counted_outcome result) }
 {
-    let read = read_line(system, side, Office::limits());
-    match read {
-        LineRead::Accepted(shape) => {
-            if words.len() < Office::CERTIFICATE_WORDS {
-                let place: usize = 0;
-                return Counted::Refused(Refusal { number: 11, place });
-            }
-            Counted::Count(solve_read(words, system, shape, side))
-        }
-        LineRead::Refused(refusal) => Counted::Refused(refusal),
+    let shape = read_line(system, side, Office::limits())?;
+    if words.len() < Office::CERTIFICATE_WORDS {
+        return Err(Refusal {
+            reason: Reason::SpaceShort,
+            place: 0,
+        });
     }
+    Ok(solve_read(words, system, shape, side))
 }

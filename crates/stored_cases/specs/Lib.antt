@@ -1,2 +1,3 @@
--- interface, what contracts, other crates and documents cite: Places
+-- interface, what contracts, other crates and documents cite: Places, Codes
 pub mod Places
+pub mod Codes

@@ -1,59 +1,50 @@
 // The arithmetic of residues and polynomials: operations by their codes. Of what cannot be tried there is no line.
 ghost use Rattle.std.specs.Prelude.{◌<◌, ◌≤◌};
-ghost use Rattle.residue.specs.Modulus.{ValidModulus};
-ghost use Rattle.polynomial.specs.Value.{polynomial_room, ValidPolynomial};
+ghost use Rattle.polynomial.specs.Value.{ValidPolynomial, polynomial_room};
 
+use crate::codes::{Operation, PairOperation};
 use crate::input::{WORDS, word};
 use crate::operand::{next_operand, read_operand, residue_at};
-use crate::output::{Output, number, print, separate, text};
+use crate::output::{Output, separate, text};
 use division::{gcd, quotient, remainder};
 use polynomial::Polynomial;
 use polynomial::value::POLYNOMIAL_ROOM;
 use residue::modulus::Modulus;
 use residue::prime::is_prime;
-
-// No modulus is greater: it has 16 bits.
-const LARGEST: u32 = 65535;
-
-// Prints one of two lines.
-fn tell(output: &mut Output, holds: bool, yes: &[u8], no: &[u8]) {
-    if holds {
-        text(output, yes);
-    } else {
-        text(output, no);
-    }
-}
+use std::io::Write;
 
 // Answers a case: its code, p and operands.
 pub fn answer(output: &mut Output, case: &[u32; WORDS]) {
-    let p = word(case, 1);
-    if LARGEST < p {
+    let Ok(p) = u16::try_from(word(case, 1)) else {
         return;
-    }
-    let prime = is_prime(p as u16);
-    let code = word(case, 0);
-    if code == 1 {
-        tell(output, prime, b"prime\n", b"not prime\n");
-    } else if prime {
-        modulo(output, case, code, Modulus::new(p as u64));
+    };
+    // A code that no operation has is taken for the quotient's.
+    let other = Operation::Pair(PairOperation::Quotient);
+    let operation = Operation::try_from(word(case, 0)).unwrap_or(other);
+    if is_prime(p) {
+        modulo(output, case, operation, Modulus::new(p as u64));
+    } else if operation == Operation::Prime {
+        text(output, b"not prime\n");
     }
 }
 
-// Tries the operation that the code names, modulo a prime.
-fn modulo(output: &mut Output, case: &[u32; WORDS], code: u32, modulus: Modulus)
-    requires { ValidModulus modulus }
-{
-    match code {
-        2 => residues(
+// Tries an operation modulo a prime.
+fn modulo(output: &mut Output, case: &[u32; WORDS], operation: Operation, modulus: Modulus) {
+    match operation {
+        Operation::Prime => text(output, b"prime\n"),
+        Operation::Residues => residues(
             output,
             residue_at(case, 2, modulus),
             residue_at(case, 3, modulus),
             modulus,
         ),
-        5 => multiple(output, case, modulus),
-        _ => together(
+        Operation::Multiple => {
+            let f = read_operand(case, 3, modulus);
+            show(output, f.scale(residue_at(case, 2, modulus), modulus));
+        }
+        Operation::Pair(operation) => together(
             output,
-            code,
+            operation,
             read_operand(case, 2, modulus),
             read_operand(case, next_operand(case, 2), modulus),
             modulus,
@@ -63,74 +54,44 @@ fn modulo(output: &mut Output, case: &[u32; WORDS], code: u32, modulus: Modulus)
 
 // Prints a + b, a - b, a b, -a and the inverse of a, `-` for that of 0.
 fn residues(output: &mut Output, a: u64, b: u64, modulus: Modulus)
-    requires { ValidModulus modulus × (a < modulus.p) × (b < modulus.p) }
+    requires { (a < modulus.p) × (b < modulus.p) }
 {
     let sum = modulus.add(a, b);
     let difference = modulus.sub(a, b);
     let product = modulus.mul(a, b);
-    print(
-        output,
-        b"0 1 2 3 ",
-        [sum, difference, product, modulus.neg(a)],
-    );
-    inverse(output, a, modulus);
-    text(output, b"\n");
-}
-
-// Prints the inverse of a, `-` for that of 0.
-fn inverse(output: &mut Output, a: u64, modulus: Modulus)
-    requires { ValidModulus modulus × (a < modulus.p) }
-{
+    let negative = modulus.neg(a);
+    let _ = write!(output, "{sum} {difference} {product} {negative} ");
     if a == 0 {
-        text(output, b"-");
+        text(output, b"-\n");
     } else {
-        number(output, modulus.inverse(a));
+        let inverse = modulus.inverse(a);
+        let _ = writeln!(output, "{inverse}");
     }
 }
 
-// Prints c f.
-fn multiple(output: &mut Output, case: &[u32; WORDS], modulus: Modulus)
-    requires { ValidModulus modulus }
+// Tries an operation on f and g, or on f alone.
+fn together(
+    output: &mut Output,
+    operation: PairOperation,
+    f: Polynomial,
+    g: Polynomial,
+    modulus: Modulus,
+)
+    requires { ValidPolynomial modulus.p f × ValidPolynomial modulus.p g }
 {
-    let f = read_operand(case, 3, modulus);
-    show(output, f.scale(residue_at(case, 2, modulus), modulus));
-}
-
-// Tries the operation that the code names on f and g, or on f alone.
-fn together(output: &mut Output, code: u32, f: Polynomial, g: Polynomial, modulus: Modulus)
-    requires { ValidModulus modulus × ValidPolynomial modulus.p f × ValidPolynomial modulus.p g }
-{
-    match code {
-        3 => show(output, f.add(g, modulus)),
-        4 => show(output, f.subtract(g, modulus)),
-        6 => product(output, f, g, modulus),
-        9 => show(output, f.monic(modulus)),
-        10 => show(output, gcd(f, g, modulus)),
-        11 => tell(output, f.equal(g), b"equal\n", b"different\n"),
-        _ => by_divisor(output, code, f, g, modulus),
-    }
-}
-
-// Prints f g, where a value can hold it.
-fn product(output: &mut Output, f: Polynomial, g: Polynomial, modulus: Modulus)
-    requires { ValidModulus modulus × ValidPolynomial modulus.p f × ValidPolynomial modulus.p g }
-{
-    if f.size + g.size <= POLYNOMIAL_ROOM + 1 {
-        show(output, f.multiply(g, modulus));
-    }
-}
-
-// Prints the remainder or the quotient of f by d, which is not zero.
-fn by_divisor(output: &mut Output, code: u32, f: Polynomial, d: Polynomial, modulus: Modulus)
-    requires { ValidModulus modulus × ValidPolynomial modulus.p f × ValidPolynomial modulus.p d }
-{
-    if d.size == 0 {
-        return;
-    }
-    if code == 7 {
-        show(output, remainder(f, d, modulus));
-    } else {
-        show(output, quotient(f, d, modulus));
+    match operation {
+        PairOperation::Sum => show(output, f.add(g, modulus)),
+        PairOperation::Difference => show(output, f.subtract(g, modulus)),
+        PairOperation::Product if f.size + g.size <= POLYNOMIAL_ROOM + 1 => {
+            show(output, f.multiply(g, modulus))
+        }
+        PairOperation::Remainder if 0 < g.size => show(output, remainder(f, g, modulus)),
+        PairOperation::Quotient if 0 < g.size => show(output, quotient(f, g, modulus)),
+        PairOperation::Product | PairOperation::Remainder | PairOperation::Quotient => {}
+        PairOperation::Monic => show(output, f.monic(modulus)),
+        PairOperation::Gcd => show(output, gcd(f, g, modulus)),
+        PairOperation::Equal if f.equal(g) => text(output, b"equal\n"),
+        PairOperation::Equal => text(output, b"different\n"),
     }
 }
 
@@ -139,14 +100,11 @@ fn show(output: &mut Output, f: Polynomial)
     requires { f.size ≤ polynomial_room }
 {
     if f.size == 0 {
-        text(output, b"zero\n");
-        return;
+        text(output, b"zero");
     }
-    let mut i = 0;
-    while i < f.size {
+    for (i, c) in f.coefficients[..f.size].iter().enumerate() {
         separate(output, i);
-        number(output, f.coefficients[i]);
-        i += 1;
+        let _ = write!(output, "{c}");
     }
     text(output, b"\n");
 }

@@ -22,7 +22,7 @@ pub const LIST_BYTES: usize = 65536;
 pub fn word(words: &[u32; WORDS], place: usize) -> u32
     ensures { result ≡ cond (ltb place case_words) (get_or words.now place 0) 0 }
 {
-    if place < WORDS { words[place] } else { 0 }
+    words.get(place).copied().unwrap_or(0)
 }
 
 // Gives the word at a place where it is below a bound, else 0.
@@ -47,10 +47,8 @@ pub fn unpack_coefficients(f: &mut [u64], words: &[u32; WORDS], place: usize, bo
     requires { (place ≤ case_words) × (length f.old ≤ case_words) × (0 < bound) }
     ensures { (i : ℕ) → i < length f.new → get_or f.new i 0 < bound }
 {
-    let mut i: usize = 0;
-    while i < f.len() {
+    for i in 0..f.len() {
         f[i] = word_below(words, place + i, bound);
-        i += 1;
     }
 }
 
@@ -58,6 +56,7 @@ pub fn unpack_coefficients(f: &mut [u64], words: &[u32; WORDS], place: usize, bo
 fn read_full(input: &mut Input, bytes: &mut [u8]) -> usize
     ensures { result ≤ length bytes.new }
 {
+    // `read_exact` is no plainer: it does not tell how many bytes came before the end, and here a failed read is the end.
     let mut done: usize = 0;
     while done < bytes.len() {
         match input.read(&mut bytes[done..]) {
@@ -71,10 +70,8 @@ fn read_full(input: &mut Input, bytes: &mut [u8]) -> usize
 // Reads a number; 0 where the input has ended.
 pub fn read_number(input: &mut Input) -> u32 {
     let mut bytes = [0u8; 4];
-    let mut words = [0u32; 1];
     read_full(input, &mut bytes);
-    unpack(&mut words, &bytes);
-    words[0]
+    u32::from_le_bytes(bytes)
 }
 
 // Reads a list to the first of the lent bytes and gives their number; 0 where too few are lent.
@@ -85,7 +82,7 @@ pub fn read_bytes(input: &mut Input, bytes: &mut [u8]) -> usize
     if bytes.len() < count {
         return 0;
     }
-    read_full(input, &mut bytes[0..count])
+    read_full(input, &mut bytes[..count])
 }
 
 // Reads a list to the first of the lent words and gives their number.
@@ -94,5 +91,5 @@ pub fn read_words(input: &mut Input, words: &mut [u32]) -> usize
 {
     let mut bytes = [0u8; LIST_BYTES];
     let count = read_bytes(input, &mut bytes);
-    unpack(words, &bytes[0..count])
+    unpack(words, &bytes[..count])
 }

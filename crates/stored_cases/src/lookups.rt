@@ -1,24 +1,16 @@
 // The lookup. What is asked for is one more list of two words: 0 for the system and 1 for the certificate, and the number of the
 // polynomial.
-use crate::input::{Input, read_words};
-use crate::output::{Output, print, refused, text, words};
-use answers::Verdict;
+use crate::output::{Output, refused, text, words};
 use limits::Office;
-use lookup::part::Part;
 use lookup::{Of, lookup, lookup_part, lookup_refusal};
-
-// Gives the one that a word asks for.
-fn asked_of(n: u32) -> Of {
-    if n == 0 { Of::System } else { Of::Certificate }
-}
+use std::io::Write;
 
 // Prints from where to where a polynomial stands, and its words.
 fn show<'a>(output: &mut Output, system: &'a [u32], certificate: &'a [u32], of: Of, number: usize) {
-    let part = lookup_part(system, certificate, of, number, Office::limits());
-    let Part::Words(from, to) = part else {
+    let Ok(part) = lookup_part(system, certificate, of, number, Office::limits()) else {
         return;
     };
-    print(output, b"0 to 1: ", [from as u64, to as u64, 0, 0]);
+    let _ = write!(output, "{} to {}: ", part.start, part.end);
     words(
         output,
         lookup(system, certificate, of, number, Office::limits()),
@@ -32,24 +24,16 @@ fn look_up<'a>(
     system: &'a [u32],
     certificate: &'a [u32],
     of: Of,
-    number: u32,
+    number: usize,
 ) {
-    let number = number as usize;
-    let found = lookup_refusal(system, certificate, of, number, Office::limits());
-    match found {
-        Verdict::Accepted => show(output, system, certificate, of, number),
-        Verdict::Refused(refusal) => refused(output, refusal),
+    match lookup_refusal(system, certificate, of, number, Office::limits()) {
+        Ok(()) => show(output, system, certificate, of, number),
+        Err(refusal) => refused(output, refusal),
     }
 }
 
-// Reads what is asked for, and looks it up.
-pub fn answer<'a>(
-    input: &mut Input,
-    output: &mut Output,
-    system: &'a [u32],
-    certificate: &'a [u32],
-) {
-    let mut asked = [0u32; 2];
-    read_words(input, &mut asked);
-    look_up(output, system, certificate, asked_of(asked[0]), asked[1]);
+// Looks up what is asked for.
+pub fn answer<'a>(output: &mut Output, system: &'a [u32], certificate: &'a [u32], asked: [u32; 2]) {
+    let of = Of::from(asked[0] as u64);
+    look_up(output, system, certificate, of, asked[1] as usize);
 }

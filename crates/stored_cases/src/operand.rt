@@ -1,6 +1,5 @@
 // The operands of arithmetic.
 ghost use Rattle.std.specs.Prelude.{◌+◌, ◌<◌, ◌≤◌};
-ghost use Rattle.residue.specs.Modulus.{ValidModulus};
 ghost use Rattle.polynomial.specs.Value.{polynomial_room, ValidPolynomial};
 ghost use Rattle.stored_cases.specs.Places.{case_words};
 
@@ -11,7 +10,6 @@ use residue::modulus::Modulus;
 
 // Gives the residue at a place, 0 where there is none.
 pub fn residue_at(case: &[u32; WORDS], place: usize, modulus: Modulus) -> u64
-    requires { ValidModulus modulus }
     ensures { result < modulus.p }
 {
     word_below(case, place, modulus.p)
@@ -19,7 +17,7 @@ pub fn residue_at(case: &[u32; WORDS], place: usize, modulus: Modulus) -> u64
 
 // Reads the polynomial at a place: its number of coefficients, then these. Where there can be none, it is zero.
 pub fn read_operand(case: &[u32; WORDS], place: usize, modulus: Modulus) -> Polynomial
-    requires { ValidModulus modulus × (place < case_words) }
+    requires { place < case_words }
     ensures { ValidPolynomial modulus.p result }
 {
     let mut words = zeros();

@@ -24,13 +24,11 @@ pub fn unpack(
         × (stride * length sizes.old ≤ length coefficients.old) }
 {
     let mut place = FIRST;
-    let mut k: usize = 0;
-    while k < sizes.len() {
+    for k in 0..sizes.len() {
         sizes[k] = word(case, place) as usize;
         let n = size_at(case, place, limit);
         let from = stride * k;
         unpack_coefficients(&mut coefficients[from..from + n], case, place + 1, BOUND);
         place += 1 + n;
-        k += 1;
     }
 }

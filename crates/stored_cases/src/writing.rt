@@ -1,10 +1,12 @@
 // The writers. A case is its kind, p, n, m, the number of right sides, that of lent words, and the polynomials. Of one that lends
 // too many there is no line.
+use crate::codes::Kind;
 use crate::input::{WORDS, word};
-use crate::output::{Output, print, refused, text, words};
+use crate::output::{Output, refused, text, words};
 use crate::polynomials::unpack;
-use answers::{Counted, Form};
+use answers::{Form, Refusal};
 use limits::Office;
+use std::io::Write;
 use writer::certificate::write_certificate;
 use writer::format::{CERTIFICATE_VALUES, STRIDE, SYSTEM_VALUES};
 use writer::system::write_system;
@@ -19,29 +21,27 @@ pub fn answer(output: &mut Output, case: &[u32; WORDS]) {
         return;
     }
     let mut words = [0u32; MOST];
-    answer_lent(output, &mut words[0..lent], case);
+    answer_lent(output, &mut words[..lent], case);
 }
 
 // Writes to the lent words what the case is of, and prints it.
 fn answer_lent(output: &mut Output, words: &mut [u32], case: &[u32; WORDS]) {
-    let answer = write(words, case);
-    match answer {
-        Counted::Count(count) => show(output, words, count),
-        Counted::Refused(refusal) => refused(output, refusal),
+    match write(words, case) {
+        Ok(count) => show(output, words, count),
+        Err(refusal) => refused(output, refusal),
     }
 }
 
 // Writes what the case is of.
-fn write(words: &mut [u32], case: &[u32; WORDS]) -> Counted {
-    match case[0] {
-        0 => system(words, case),
-        1 => certificate(words, case, Form::Solution),
-        _ => certificate(words, case, Form::Absence),
+fn write(words: &mut [u32], case: &[u32; WORDS]) -> Result<usize, Refusal> {
+    match Kind::from(case[0]) {
+        Kind::System => system(words, case),
+        Kind::Certificate(form) => certificate(words, case, form),
     }
 }
 
 // Writes a system.
-fn system(words: &mut [u32], case: &[u32; WORDS]) -> Counted {
+fn system(words: &mut [u32], case: &[u32; WORDS]) -> Result<usize, Refusal> {
     let mut sizes = [0usize; Office::SYSTEM_POLYNOMIALS];
     let mut coefficients = [0u64; SYSTEM_VALUES];
     let limit = Office::COEFFICIENTS as usize;
@@ -58,7 +58,7 @@ fn system(words: &mut [u32], case: &[u32; WORDS]) -> Counted {
 }
 
 // Writes a certificate.
-fn certificate(words: &mut [u32], case: &[u32; WORDS], form: Form) -> Counted {
+fn certificate(words: &mut [u32], case: &[u32; WORDS], form: Form) -> Result<usize, Refusal> {
     let mut sizes = [0usize; Office::CERTIFICATE_POLYNOMIALS];
     let mut coefficients = [0u64; CERTIFICATE_VALUES];
     let limit = Office::CERTIFICATE_COEFFICIENTS as usize;
@@ -77,8 +77,8 @@ fn certificate(words: &mut [u32], case: &[u32; WORDS], form: Form) -> Counted {
 // Prints what was written: so many of the words lent.
 fn show(output: &mut Output, lent: &[u32], count: usize) {
     if count <= lent.len() {
-        print(output, b"wrote 0 ", [count as u64, 0, 0, 0]);
-        words(output, &lent[0..count]);
+        let _ = write!(output, "wrote {count} ");
+        words(output, &lent[..count]);
         text(output, b"\n");
     }
 }

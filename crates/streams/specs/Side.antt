@@ -1,8 +1,7 @@
 -- The number of a right side as an argument says it: decimal digits, and nothing else.
 use Rattle.std.specs.Prelude.{ℕ, ◌+◌, ◌-◌, ◌*◌, ◌≤◌, min, Bool, cond, ◌&&◌, List, [], ◌∷◌, leb}
 use Rattle.std.proofs.Math.Option.{Option, none, some}
-use Rattle.streams.specs.declared.side.SideAsked.{SideAsked}
-use Rattle.streams.specs.declared.side.SideAsked.TheVariants as side
+use Rattle.std.specs.Prelude.{Option as Asked, Some, None}
 
 -- the codes of '0' and of '9'
 abbrev pub zero_digit : ℕ
@@ -33,11 +32,11 @@ abbrev pub at_most : Option ℕ → Option ℕ
 at_most none = none
 at_most (some n) = some (min n most_side)
 
-abbrev pub side_said : SideAsked → Option ℕ
-side_said (side.Number n) = some n
-side_said side.NoNumber = none
+abbrev pub side_said : Asked ℕ → Option ℕ
+side_said (Some n) = some n
+side_said None = none
 
 -- what is asked for, where it is a number, is at most that
-abbrev pub SideWithin : SideAsked → Type 0
-SideWithin (side.Number n) = n ≤ most_side
-SideWithin side.NoNumber = Unit {0}
+abbrev pub SideWithin : Asked ℕ → Type 0
+SideWithin (Some n) = n ≤ most_side
+SideWithin None = Unit {0}

@@ -14,8 +14,7 @@ use Rattle.words.specs.Systems.{Systems, read_systems, line_of, read_line}
 use Rattle.words.specs.Bytes.{words_of, broken, too_long, read_line_file}
 use Rattle.words.proofs.SystemsLaws.{systems_written_of_read}
 use Rattle.streams.specs.Side.{zero_digit, nine_digit, digit?, digits_from, number_written, most_side, at_most, side_said, SideWithin}
-use Rattle.streams.specs.declared.side.SideAsked.{SideAsked}
-use Rattle.streams.specs.declared.side.SideAsked.TheVariants as side
+use Rattle.std.specs.Prelude.{Option as Asked, Some, None}
 
 -- one digit more
 step_capped : (value d : ℕ) → min (10 * min value most_side + d) most_side ≡ min (10 * value + d) most_side
@@ -84,12 +83,12 @@ digits_end cs value i all most =
     ap (λ l. at_most (digits_from value l)) (drop_of_length-le cs all) ∙ ap some (min-eq_left most)
 
 -- so a number that is read is at most the most
-said_most : (r : SideAsked) (o : Option ℕ) → side_said r ≡ at_most o → SideWithin r
-said_most (side.Number n) none e = absurd (let z : ◌≡◌ {A = ℕ} 0 1 = cc in omega arith)
-said_most (side.Number n) (some m) e = let same : n ≡ min m most_side = cc in capped_most m same
-said_most side.NoNumber o e = tt
+said_most : (r : Asked ℕ) (o : Option ℕ) → side_said r ≡ at_most o → SideWithin r
+said_most (Some n) none e = absurd (let z : ◌≡◌ {A = ℕ} 0 1 = cc in omega arith)
+said_most (Some n) (some m) e = let same : n ≡ min m most_side = cc in capped_most m same
+said_most None o e = tt
 
-pub said_within : (r : SideAsked) (cs : List ℕ) → side_said r ≡ at_most (number_written cs) → SideWithin r
+pub said_within : (r : Asked ℕ) (cs : List ℕ) → side_said r ≡ at_most (number_written cs) → SideWithin r
 said_within r cs e = said_most r (number_written cs) e
 
 -- ---- what is read of a line

@@ -14,22 +14,13 @@ use answers::word::WORD_BYTES;
 use limits::Office;
 pub use reason::{fail, say};
 use std::io;
-use std::io::{Error, Read, Write};
+use std::io::{Read, Write};
 
 // The bytes that are read of a sheet (a system's file): one more than the longest has. All that is longer is refused as these are.
 pub const SYSTEM_SPACE: usize = Office::SYSTEM_BYTES + 1;
 
 // Two words more than the longest certificate has: the room for the start of a file.
 pub const FILE_SPACE: usize = WORD_BYTES * (Office::CERTIFICATE_WORDS + 2);
-
-// What reading gives.
-#[derive(Clone, Copy)]
-pub enum StreamRead {
-    // The number of bytes read, which stand at the start of the space lent.
-    Bytes(usize),
-    // A read failed, for this reason.
-    Failed(Error),
-}
 
 // Returns how many bytes of a file of so many are looked at: all, or, where they would fill the space, fewer, but as many modulo
 // four.
@@ -44,19 +35,18 @@ pub fn bytes_seen(length: usize) -> usize
 }
 
 // Reads until `bytes` are full or the input ends.
-pub fn read_start<R: Read>(bytes: &mut [u8], input: &mut R) -> StreamRead
+pub fn read_start<R: Read>(bytes: &mut [u8], input: &mut R) -> io::Result<usize>
     ensures within { ReadWithin (length bytes.new) result }
     ensures start { ReadsStart (R.remaining input.old) (R.remaining input.new) bytes.new result }
 {
     let mut done: usize = 0;
     while done < bytes.len() {
-        match input.read(&mut bytes[done..]) {
-            Ok(0) => return StreamRead::Bytes(done),
-            Ok(more) => done += more,
-            Err(reason) => return StreamRead::Failed(reason),
+        match input.read(&mut bytes[done..])? {
+            0 => break,
+            more => done += more,
         }
     }
-    StreamRead::Bytes(done)
+    Ok(done)
 }
 
 // Reads the input until `bytes` are full or it ends. Where a read fails, says so of `what`.
@@ -65,12 +55,12 @@ pub fn read_input<R: Read, E: Write>(
     errors: &mut E,
     bytes: &mut [u8],
     what: &[u8],
-) -> StreamRead
+) -> io::Result<usize>
     ensures within { ReadWithin (length bytes.new) result }
     ensures start { ReadsStart (R.remaining input.old) (R.remaining input.new) bytes.new result }
 {
     let start = read_start(bytes, input);
-    if let StreamRead::Failed(reason) = start {
+    if let Err(reason) = start {
         fail(errors, what, &reason);
     }
     start

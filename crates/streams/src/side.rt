@@ -10,45 +10,29 @@ const MOST_SIDE: usize = 65535;
 // The greatest digit.
 const LAST_DIGIT: u8 = b'9';
 
-// What an argument says.
-#[derive(Clone, Copy)]
-pub enum SideAsked {
-    // A number.
-    Number(usize),
-    // Something else.
-    NoNumber,
-}
-
 // Returns the number of which `value` are the first digits and `digit` is the next, or MOST_SIDE where that is less.
 fn next_value(value: usize, digit: u8) -> usize
     requires { (value ≤ most_side) × (zero_digit ≤ digit) }
     ensures { result ≡ min (10 * value + (digit - zero_digit)) most_side }
 {
-    let next = 10 * value + (digit - b'0') as usize;
-    if next < MOST_SIDE { next } else { MOST_SIDE }
+    (10 * value + (digit - b'0') as usize).min(MOST_SIDE)
 }
 
 // Reads the number that `argument` writes: digits, one or more.
-pub fn read_side(argument: &[u8]) -> SideAsked
+pub fn read_side(argument: &[u8]) -> Option<usize>
     ensures { side_said result ≡ at_most (number_written argument.now) }
 {
-    if argument.len() == 0 {
-        return SideAsked::NoNumber;
+    if argument.is_empty() {
+        return None;
     }
     let mut value: usize = 0;
-    let mut i: usize = 0;
-    while i < argument.len() {
-        let digit = argument[i];
-        if digit < b'0' {
-            return SideAsked::NoNumber;
+    for digit in argument {
+        if *digit < b'0' || LAST_DIGIT < *digit {
+            return None;
         }
-        if LAST_DIGIT < digit {
-            return SideAsked::NoNumber;
-        }
-        value = next_value(value, digit);
-        i += 1;
+        value = next_value(value, *digit);
     }
-    SideAsked::Number(value)
+    Some(value)
 }
 
 // The bytes of the longest argument that is read.
@@ -62,13 +46,13 @@ pub fn has_argument<P: Env>(program: &P, index: usize) -> bool {
 
 // Reads the right side that argument `index` asks for: 0 where there are not as many arguments, none where it has more than 4,096
 // bytes.
-pub fn side_asked<P: Env>(program: &P, index: usize) -> SideAsked
+pub fn side_asked<P: Env>(program: &P, index: usize) -> Option<usize>
     ensures { SideWithin result }
 {
     let mut bytes = [0u8; ARGUMENT_SPACE];
     match program.arg(index, &mut bytes) {
         Ok(n) => read_side(&bytes[..n]),
-        Err(FillError::NotPresent) => SideAsked::Number(0),
-        Err(FillError::TooLong) => SideAsked::NoNumber,
+        Err(FillError::NotPresent) => Some(0),
+        Err(FillError::TooLong) => None,
     }
 }

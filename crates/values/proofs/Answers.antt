@@ -1,4 +1,5 @@
 -- What the calls answer: from what the reader says of the words, and what the loop then stores.
+use Rattle.std.specs.Prelude.{Ok, Err}
 use mathlib.Core.Path.{◌≡◌, sym, ap, ◌∙◌, subst}
 use mathlib.Core.List.{List}
 use Prim.Native.Nat.{ℕ, ◌*◌, ◌≤◌}
@@ -7,7 +8,7 @@ use lib.ListN.{length}
 use Rattle.words.specs.Limits.{office}
 use Rattle.words.specs.LimitsLaws.{office_fits}
 use Rattle.words.specs.Outcome.{Outcome, mapped}
-use Rattle.words.specs.Outcome.Outcome.{accepted, refused}
+use Rattle.words.specs.Outcome.Outcome.{accepted}
 use Rattle.words.specs.OutcomeLaws.{mapped_accepted, mapped_refused}
 use Rattle.words.specs.System.{Shape, ShapeWithin}
 use Rattle.words.specs.Systems.{Head, Systems, HeadWithin, systems_head, systems_entries, systems_due, read_systems}
@@ -19,10 +20,7 @@ use Rattle.limits.specs.Counts.{system_polynomials, certificate_polynomials}
 use Rattle.answers.specs.declared.answer.Refusal.{Refusal}
 use Rattle.answers.specs.declared.shape.Head.{Head as HeadValue}
 use Rattle.answers.specs.declared.shape.Form.{Form as FormValue}
-use Rattle.answers.specs.declared.shape.SystemRead.{SystemRead}
-use Rattle.answers.specs.declared.shape.SystemRead.TheVariants as system
-use Rattle.answers.specs.declared.shape.CertificateRead.TheVariants as certificate
-use Rattle.answers.specs.Answer.{head_of, form_of, system_outcome}
+use Rattle.answers.specs.Answer.{refused_by, head_of, form_of}
 use Rattle.write_frame.specs.declared.format.Format.{Format}
 use Rattle.write_frame.specs.Framing.{Covers}
 use Rattle.write_frame.specs.Trial.{passed}
@@ -49,14 +47,13 @@ Given format ws sizes sizes' values values' =
 
 module _ (ws : List ℕ) where
   -- a refusal
-  pub system_refused : {answer : SystemRead} (sizes values : List ℕ) (r : Refusal) → answer ≡ system.Refused r
-      → system_outcome answer ≡ mapped systems_head (read_systems office ws)
-      → LoadsSystem office ws (system.Refused r) sizes sizes values values
+  pub system_refused : (sizes values : List ℕ) (r : Refusal)
+      → refused_by r ≡ mapped systems_head (read_systems office ws)
+      → LoadsSystem office ws (Err r) sizes sizes values values
   unfolding sizes_after values_after
-  system_refused sizes values r is told =
-      let t = ap system_outcome (sym is) ∙ told in
-      let e = ap (mapped systems_entries) (mapped_refused systems_head (read_systems office ws) (sym t)) in
-      record { answer_is = t; sizes_are = rw e; values_are = rw e }
+  system_refused sizes values r told =
+      let e = ap (mapped systems_entries) (mapped_refused systems_head (read_systems office ws) (sym told)) in
+      record { answer_is = told; sizes_are = rw e; values_are = rw e }
 
   module _ {h : Head} (told : accepted h ≡ mapped systems_head (read_systems office ws)) where
     read : (s : Systems) × (read_systems office ws ≡ accepted s) × (systems_head s ≡ h)
@@ -85,7 +82,7 @@ module _ (ws : List ℕ) where
           )
 
       pub system_loads : {sizes' values' : List ℕ} (v : HeadValue) → head_of v ≡ h → Given format ws sizes sizes' values values'
-          → LoadsSystem office ws (system.Accepted v) sizes sizes' values values'
+          → LoadsSystem office ws (Ok v) sizes sizes' values values'
       unfolding sizes_after values_after
       system_loads {sizes'} {values'} v same given =
           let stored = subst (λ (f : Format). Given f ws sizes sizes' values values') is given in
@@ -102,14 +99,14 @@ module _ (h : Shape) (ws : List ℕ) where
   abbrev to_load : Outcome Certificate
   to_load = certificate_to_load office h ws
 
-  refuses : (sizes values : List ℕ) (r : Refusal) → to_load ≡ refused r.number r.place
-      → LoadsCertificate office h ws (certificate.Refused r) sizes sizes values values
+  refuses : (sizes values : List ℕ) (r : Refusal) → to_load ≡ refused_by r
+      → LoadsCertificate office h ws (Err r) sizes sizes values values
   unfolding sizes_after values_after
   refuses sizes values r is = record { answer_is = rw is; sizes_are = rw is; values_are = rw is }
 
   -- 2 or 3
-  pub shape_refused : (sizes values : List ℕ) (r : Refusal) → refused r.number r.place ≡ refuse_shape office h passed
-      → LoadsCertificate office h ws (certificate.Refused r) sizes sizes values values
+  pub shape_refused : (sizes values : List ℕ) (r : Refusal) → refused_by r ≡ refuse_shape office h passed
+      → LoadsCertificate office h ws (Err r) sizes sizes values values
   shape_refused sizes values r told =
       refuses sizes values r
       (shape_first office h (read_certificate office h ws)
@@ -123,8 +120,8 @@ module _ (h : Shape) (ws : List ℕ) where
     to_load_lem = shape_within office h (read_certificate office h ws) certificate_shape
 
     pub certificate_refused : (sizes values : List ℕ) (r : Refusal)
-        → refused r.number r.place ≡ mapped certificate_form (read_certificate office h ws)
-        → LoadsCertificate office h ws (certificate.Refused r) sizes sizes values values
+        → refused_by r ≡ mapped certificate_form (read_certificate office h ws)
+        → LoadsCertificate office h ws (Err r) sizes sizes values values
     certificate_refused sizes values r told =
         refuses sizes values r (to_load_lem ∙ mapped_refused certificate_form (read_certificate office h ws) (sym told))
 
@@ -152,7 +149,7 @@ module _ (h : Shape) (ws : List ℕ) where
             )
 
         pub certificate_loads : {sizes' values' : List ℕ} → Given format ws sizes sizes' values values'
-            → LoadsCertificate office h ws (certificate.Accepted form) sizes sizes' values values'
+            → LoadsCertificate office h ws (Ok form) sizes sizes' values values'
         unfolding sizes_after values_after
         certificate_loads {sizes'} {values'} given =
             let stored = subst (λ (f : Format). Given f ws sizes sizes' values values') is given in

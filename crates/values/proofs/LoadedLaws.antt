@@ -1,5 +1,8 @@
 -- What the calls leave in the lent arrays: values that were read, or, on a refusal, all that stood there.
-use Rattle.std.specs.Prelude.{◌≡◌, List, ℕ, ◌*◌, ◌≤◌, length}
+use Rattle.answers.specs.declared.shape.Form.{Form as FormValue}
+use Rattle.answers.specs.declared.shape.Head.{Head as HeadValue}
+use Rattle.answers.specs.declared.answer.Refusal.{Refusal}
+use Rattle.std.specs.Prelude.{◌≡◌, List, ℕ, ◌*◌, ◌≤◌, length, Result}
 use Rattle.std.proofs.Common.{sym, ◌∙◌}
 use Rattle.std.proofs.Math.Path.{ap}
 use Rattle.words.specs.Limits.{Limits, system_count, solution_count}
@@ -12,8 +15,6 @@ use Rattle.words.specs.Systems.{Systems, systems_head, systems_entries, read_sys
 use Rattle.words.proofs.SystemsLaws.{systems_written_of_read}
 use Rattle.words.specs.Certificate.{Certificate, certificate_form, certificate_entries, read_certificate}
 use Rattle.words.proofs.CertificateLaws.{certificate_written_of_read}
-use Rattle.answers.specs.declared.shape.SystemRead.{SystemRead}
-use Rattle.answers.specs.declared.shape.CertificateRead.{CertificateRead}
 use Rattle.answers.specs.Answer.{system_outcome, certificate_outcome}
 use Rattle.writer.specs.Values.{system_in_arrays, certificate_in, certificate_stride}
 use Rattle.writer.specs.WritingLaws.{shape_within}
@@ -41,11 +42,11 @@ module _ (stride : ℕ) (sizes values : List ℕ) {outcome : Outcome (List (List
 -- ---- systems
 
 -- a matrix and right sides that are accepted stand in the arrays
-pub record LoadedSystem (limits : Limits) (s : Systems) (answer : SystemRead) (sizes values : List ℕ) : Type 0 where
+pub record LoadedSystem (limits : Limits) (s : Systems) (answer : Result HeadValue Refusal) (sizes values : List ℕ) : Type 0 where
   pub answer_is : system_outcome answer ≡ accepted s.head
   pub values_are : system_in_arrays limits s.head sizes values ≡ s
 
-module _ {limits : Limits} {ws : List ℕ} {answer : SystemRead} {sizes sizes' values values' : List ℕ}
+module _ {limits : Limits} {ws : List ℕ} {answer : Result HeadValue Refusal} {sizes sizes' values values' : List ℕ}
     (loads : LoadsSystem limits ws answer sizes sizes' values values') where
   pub system_loaded : LimitsFit limits
       → limits.system_coefficients * system_count limits.rows limits.columns limits.sides ≤ length values
@@ -66,11 +67,11 @@ module _ {limits : Limits} {ws : List ℕ} {answer : SystemRead} {sizes sizes' v
 
 -- ---- certificates for a system of the shape h
 
-pub record LoadedCertificate (h : Shape) (c : Certificate) (answer : CertificateRead) (sizes values : List ℕ) : Type 0 where
+pub record LoadedCertificate (h : Shape) (c : Certificate) (answer : Result FormValue Refusal) (sizes values : List ℕ) : Type 0 where
   pub answer_is : certificate_outcome answer ≡ accepted (certificate_form c)
   pub values_are : certificate_in h (certificate_form c) sizes values ≡ c
 
-module _ {limits : Limits} {h : Shape} {cs : List ℕ} {answer : CertificateRead} {sizes sizes' values values' : List ℕ}
+module _ {limits : Limits} {h : Shape} {cs : List ℕ} {answer : Result FormValue Refusal} {sizes sizes' values values' : List ℕ}
     (loads : LoadsCertificate limits h cs answer sizes sizes' values values') where
   pub certificate_loaded : LimitsFit limits → limits.certificate_coefficients ≤ certificate_stride → ShapeWithin limits h
       → certificate_stride * solution_count limits.rows limits.columns ≤ length values

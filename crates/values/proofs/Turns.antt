@@ -113,7 +113,7 @@ module _ {ws sizes₀ values₀ : List ℕ} {stride limit count : ℕ} (has : Ha
             ∙ ap (λ (gs : List (List ℕ)). laid_over stride gs values₀) one_more
 
         -- a turn stores the size and the coefficients of polynomial k
-        pub loads_turn : Loads ws sizes₀ values₀ stride count (set sizes k size) after (at + 1 + size) (k + 1)
+        pub loads_turn : Loads ws sizes₀ values₀ stride count (set sizes k size) after (at + (1 + size)) (k + 1)
         loads_turn = record {
           within = omega arith;
           place =
@@ -127,11 +127,3 @@ module _ {ws sizes₀ values₀ : List ℕ} {stride limit count : ℕ} (has : Ha
           sizes_are = sizes_next;
           values_are = values_next;
         }
-
-  pub loads_end : count ≤ k
-      → (sizes ≡ sizes_over (first_entries ws count) sizes₀) × (values ≡ laid_over stride (first_entries ws count) values₀)
-  loads_end past =
-      let end : k ≡ count = omega (arith, so_far.within) in (
-        so_far.sizes_are ∙ ap (λ n. sizes_over (first_entries ws n) sizes₀) end,
-        so_far.values_are ∙ ap (λ n. laid_over stride (first_entries ws n) values₀) end,
-      )

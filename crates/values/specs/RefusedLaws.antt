@@ -1,6 +1,6 @@
 -- The refusals of the calls that hand out values, each under its condition only: of a system the reader's; of a certificate 2 and 3
 -- at 0, of the p, n and m that the call is given, then the reader's.
-use Rattle.std.specs.Prelude.{◌≡◌, ◌⊎◌, ◌↔◌, Bool, not, ◌&&◌, ◌||◌, List, ℕ, ltb}
+use Rattle.std.specs.Prelude.{◌≡◌, ◌⊎◌, ◌↔◌, Bool, not, ◌&&◌, ◌||◌, List, ℕ, ltb, Result}
 use Rattle.std.proofs.Common.{sym, ◌∙◌, inl, inr, ⊎_elim}
 use Rattle.modular.specs.LargestPrime.{largest_modulus}
 use Rattle.modular.specs.Prime.{prime?}
@@ -13,8 +13,9 @@ use Rattle.words.specs.Systems.{systems_head, read_systems}
 use Rattle.words.specs.Certificate.{certificate_form, read_certificate}
 use Rattle.words.specs.Table.{ByTable, system_table, certificate_table}
 use Rattle.words.proofs.RefusedLaws.{systems_refused_iff, certificate_refused_iff}
-use Rattle.answers.specs.declared.shape.SystemRead.{SystemRead}
-use Rattle.answers.specs.declared.shape.CertificateRead.{CertificateRead}
+use Rattle.answers.specs.declared.answer.Refusal.{Refusal}
+use Rattle.answers.specs.declared.shape.Form.{Form as FormValue}
+use Rattle.answers.specs.declared.shape.Head.{Head as HeadValue}
 use Rattle.answers.specs.Answer.{system_outcome, certificate_outcome}
 use Rattle.writer.specs.Writing.{refuse_shape}
 use Rattle.writer.specs.WritingLaws.{shape_within}
@@ -70,7 +71,7 @@ module _ (limits : Limits) (h : Shape) where
 
 -- ---- what the calls answer
 
-module _ {limits : Limits} {ws : List ℕ} {answer : SystemRead} {sizes sizes' values values' : List ℕ}
+module _ {limits : Limits} {ws : List ℕ} {answer : Result HeadValue Refusal} {sizes sizes' values values' : List ℕ}
     (loads : LoadsSystem limits ws answer sizes sizes' values values') (n k : ℕ) where
   pub system_load_refused_iff : (system_outcome answer ≡ refused n k) ↔ ByTable (system_table limits) 0 ws n k
   system_load_refused_iff =
@@ -82,7 +83,7 @@ pub certificate_to_load_refused_iff : (limits : Limits) (h : Shape) (cs : List �
 certificate_to_load_refused_iff limits h cs =
     shape_first_iff limits h (read_certificate limits h cs) _ (certificate_refused_iff limits h cs)
 
-module _ {limits : Limits} {h : Shape} {cs : List ℕ} {answer : CertificateRead} {sizes sizes' values values' : List ℕ}
+module _ {limits : Limits} {h : Shape} {cs : List ℕ} {answer : Result FormValue Refusal} {sizes sizes' values values' : List ℕ}
     (loads : LoadsCertificate limits h cs answer sizes sizes' values values') (n k : ℕ) where
   pub certificate_load_refused_iff : (certificate_outcome answer ≡ refused n k)
       ↔ ShapeFirst limits h (ByTable (certificate_table limits h) 20 cs) n k

@@ -15,16 +15,11 @@ pub fn load_entries(sizes: &mut [usize], values: &mut [u64], words: &[u32], form
         × (values.new
         ≡ laid_over format.stride (first_entries words.now format.count) values.old) }
 {
-    let stride = format.stride;
-    let count = format.count;
-    let mut at: usize = 1;
-    let mut k: usize = 0;
-    while k < count {
+    let mut at = 1;
+    for k in 0..format.count {
         let size = payload_of(words[at]) as usize;
-        let from = at + 1;
         sizes[k] = size;
-        copy_payloads(values, stride * k, words, from, size);
-        at = from + size;
-        k = k + 1;
+        copy_payloads(values, format.stride * k, words, at + 1, size);
+        at += 1 + size;
     }
 }

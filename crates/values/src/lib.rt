@@ -9,7 +9,7 @@ ghost use Rattle.answers.specs.Answer.{shape_of};
 ghost use Rattle.values.specs.Loading.{LoadsSystem, LoadsCertificate};
 
 use crate::entries::load_entries;
-use answers::{CertificateRead, Shape, SystemRead, Verdict};
+use answers::{Form, Head, Refusal, Shape};
 use limits::Office;
 use reader::certificate::read_certificate;
 use reader::system::read_system;
@@ -22,25 +22,20 @@ pub fn load_system(
     sizes: &mut [usize; Office::SYSTEM_POLYNOMIALS],
     values: &mut [u64; SYSTEM_VALUES],
     words: &[u32],
-) -> SystemRead
+) -> Result<Head, Refusal>
     ensures { LoadsSystem office words.now result
         sizes.old sizes.new values.old values.new }
 {
-    let read = read_system(words, Office::limits());
-    match read {
-        SystemRead::Accepted(head) => {
-            let shape = head.shape;
-            let format = format_for(
-                Kind::System(head.sides as u32),
-                shape.rows as u32,
-                shape.columns as u32,
-                shape.modulus as u32,
-            );
-            load_entries(sizes, values, words, format);
-            SystemRead::Accepted(head)
-        }
-        SystemRead::Refused(refusal) => SystemRead::Refused(refusal),
-    }
+    let head = read_system(words, Office::limits())?;
+    let shape = head.shape;
+    let format = format_for(
+        Kind::System(head.sides as u32),
+        shape.rows as u32,
+        shape.columns as u32,
+        shape.modulus as u32,
+    );
+    load_entries(sizes, values, words, format);
+    Ok(head)
 }
 
 // Tries p, n and m, 2, then 3, at place 0; then reads a certificate for a system of that shape and stores its values. Polynomial k,
@@ -51,26 +46,16 @@ pub fn load_certificate(
     values: &mut [u64; CERTIFICATE_VALUES],
     words: &[u32],
     shape: Shape,
-) -> CertificateRead
+) -> Result<Form, Refusal>
     ensures { LoadsCertificate office (shape_of shape) words.now result
         sizes.old sizes.new values.old values.new }
 {
     let rows = shape.rows as u32;
     let columns = shape.columns as u32;
     let modulus = shape.modulus as u32;
-    let found = try_shape(rows, columns, modulus);
-    match found {
-        Verdict::Accepted => {
-            let read = read_certificate(words, shape, Office::limits());
-            match read {
-                CertificateRead::Accepted(form) => {
-                    let format = format_for(Kind::Certificate(form), rows, columns, modulus);
-                    load_entries(sizes, values, words, format);
-                    CertificateRead::Accepted(form)
-                }
-                CertificateRead::Refused(refusal) => CertificateRead::Refused(refusal),
-            }
-        }
-        Verdict::Refused(refusal) => CertificateRead::Refused(refusal),
-    }
+    try_shape(rows, columns, modulus)?;
+    let form = read_certificate(words, shape, Office::limits())?;
+    let format = format_for(Kind::Certificate(form), rows, columns, modulus);
+    load_entries(sizes, values, words, format);
+    Ok(form)
 }

@@ -1,2 +1,4 @@
+pub mod Parts
 pub mod Storing
 pub mod Sums
+pub mod Zeros

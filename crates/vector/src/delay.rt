@@ -6,9 +6,5 @@ ghost use Rattle.modular.specs.Delay.{delay};
 pub fn find_delay(coefficients: &[u64]) -> usize
     ensures { result ≡ delay coefficients.now }
 {
-    let mut k: usize = 0;
-    while k < coefficients.len() && coefficients[k] == 0 {
-        k += 1;
-    }
-    k
+    coefficients.iter().take_while(|c| **c == 0).count()
 }

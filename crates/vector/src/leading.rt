@@ -2,7 +2,6 @@
 ghost use Rattle.std.specs.Prelude.{◌≡◌, ◌≤◌, length};
 ghost use Rattle.algebra.specs.Coefficients.{leading};
 ghost use Rattle.modular.specs.Modulo.{modulo};
-ghost use Rattle.residue.specs.Modulus.{ValidModulus};
 ghost use Rattle.vector.specs.Bound.{Reducible};
 ghost use Rattle.vector.specs.Reduced.{polynomial};
 
@@ -20,13 +19,14 @@ pub struct Leading {
 // Finds size and leading coefficient of the polynomial that h[0] .. h[n - 1] stand for modulo p. Passes over words that are 0, of
 // which there may be many at the end, in rows of eight.
 pub fn find_leading(h: &[u64], n: usize, modulus: Modulus) -> Leading
-    requires valid_modulus { ValidModulus modulus × (n ≤ length h.now) }
+    requires bounds { (n ≤ length h.now) }
     requires sums { Reducible modulus.p h.now n }
     ensures size { result.size ≡ length (polynomial modulus.p h.now 0 n) }
     ensures value { result.value ≡ leading (modulo modulus.p) (polynomial modulus.p h.now 0 n) }
 {
     let mut k = n;
-    // the last word first: where it is not 0, the row need not be read
+    // no plainer as a chain: it ends at a row that is not 0, and not at a count. The last word first: where it is not 0, the row need
+    // not be read
     while ROW_WORDS <= k && h[k - 1] == 0 && or_of_row(h, k - ROW_WORDS) == 0 {
         k -= ROW_WORDS;
     }
@@ -36,19 +36,16 @@ pub fn find_leading(h: &[u64], n: usize, modulus: Modulus) -> Leading
 // Does the same word by word, for a leading coefficient near the end. Reduces a word that is 0 like any other, since the processor
 // cannot foresee which are.
 pub fn find_leading_near(h: &[u64], n: usize, modulus: Modulus) -> Leading
-    requires valid_modulus { ValidModulus modulus × (n ≤ length h.now) }
+    requires bounds { (n ≤ length h.now) }
     requires sums { Reducible modulus.p h.now n }
     ensures size { result.size ≡ length (polynomial modulus.p h.now 0 n) }
     ensures value { result.value ≡ leading (modulo modulus.p) (polynomial modulus.p h.now 0 n) }
 {
-    let mut k = n;
-    while 0 < k {
-        let i = k - 1;
-        let value = modulus.reduce(h[i]);
+    for k in (0..n).rev() {
+        let value = modulus.reduce(h[k]);
         if value != 0 {
-            return Leading { size: k, value };
+            return Leading { size: k + 1, value };
         }
-        k = i;
     }
     Leading { size: 0, value: 0 }
 }

@@ -2,6 +2,7 @@
 #![tactic(auto)]
 
 pub mod delay;
+pub mod each;
 pub mod leading;
 pub mod multiple;
 pub mod range;
@@ -11,6 +12,7 @@ pub mod or;
 pub mod sum;
 
 pub use delay::find_delay;
+pub use each::store_each;
 pub use leading::{Leading, find_leading, find_leading_near};
 pub use multiple::add_scaled;
 pub use range::{clear, copy, exchange, reduce_range};

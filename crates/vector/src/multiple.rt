@@ -14,13 +14,13 @@ pub fn add_scaled(h: &mut [u64], d: usize, s: &[u64], a: usize, n: usize, c: u64
     ensures words { h.new ≡ stored (sum_at h.old d s.now a c) h.old d n }
     ensures polynomials { GainsMultiple h.old h.new d s.now a n c }
 {
-    let mut j = 0;
-    while ROW_WORDS <= n - j {
+    let rows = n / ROW_WORDS;
+    for row in 0..rows {
+        let j = ROW_WORDS * row;
         add_row(h, d + j, s, a + j, c);
-        j += ROW_WORDS;
     }
-    while j < n {
+    for left in 0..n % ROW_WORDS {
+        let j = ROW_WORDS * rows + left;
         h[d + j] = sum_at(h, d, s, a, c, j);
-        j += 1;
     }
 }

@@ -8,7 +8,7 @@ use residue::modulus::BOUND_32;
 // Words of a row.
 pub const ROW_WORDS: usize = 8;
 
-// Four words.
+// Four words, by name: eight sums in an array of `array::from_fn`, stored by `copy_from_slice`, took up to 2.7 times as long.
 #[derive(Clone, Copy)]
 pub struct Four {
     pub first: u64,

@@ -13,7 +13,10 @@ use Rattle.truth.specs.Within.{verdict_within}
 use Rattle.truth.proofs.WithinLaws.{within_room}
 use Rattle.verifier.specs.File.{bytes_verdict}
 use Rattle.verifier.specs.Loading.{Loads}
-use Rattle.verifier.specs.declared.loading.Loading.{Loading}
+use Rattle.std.specs.Prelude.{Result}
+use Rattle.answers.specs.declared.answer.Refusal.{Refusal}
+use Rattle.answers.specs.declared.shape.Form.{Form}
+use Rattle.check_conditions.specs.declared.dimensions.Dimensions.{Dimensions}
 
 module _ (kept : Limits) (limit k : ℕ) (f g : List ℕ) where
   pub none_opened : {before before' after after' : List ℕ} {number place : ℕ}
@@ -24,7 +27,7 @@ module _ (kept : Limits) (limit k : ℕ) (f g : List ℕ) where
 
   pub both_opened : {before before' after after' : List ℕ} {n m : ℕ} → WordsWithin limit f g before before' after after' n m
       → longest_system office < length before → longest_certificate office < length before'
-      → {A C : List ℕ} {found : Loading} → Loads (verdict_within office kept k (take n after) (take m after')) A C found
+      → {A C : List ℕ} {found : Result (Dimensions × Form) Refusal} → Loads (verdict_within office kept k (take n after) (take m after')) A C found
       → Loads (bytes_verdict office kept limit k f g) A C found
   unfolding bytes_verdict
   both_opened {before} {before'} opens room room' loads = record {

@@ -5,7 +5,6 @@ use Prim.Native.Nat.{ℕ, ◌+◌, ◌*◌, ◌≤◌, ◌<◌}
 use native.Mathlib.Omega.{arith}
 use lib.ListN.{length, get_or}
 use Rattle.modular.specs.Canonical.{Canonical}
-use Rattle.residue.specs.Modulus.{ValidModulus}
 use Rattle.residue.specs.declared.modulus.Modulus.{Modulus}
 use Rattle.words.specs.Limits.{office}
 use Rattle.words.specs.LimitsLaws.{office_fits}
@@ -26,13 +25,16 @@ use Rattle.loader.specs.Slot.{InSlots, SlotFilled}
 use Rattle.loader.specs.SlotLaws.{stands_filled, line_stands}
 use Rattle.loader.specs.Widths.{system_width, certificate_width}
 use Rattle.check_conditions.specs.declared.dimensions.Dimensions.{Dimensions}
-use Rattle.check_conditions.specs.Areas.{system_in_slots, vector_in, denominator_in}
+use Rattle.check_conditions.specs.Areas.{valid_dimensions, system_in_slots, vector_in, denominator_in}
 use Rattle.check_conditions.specs.Areas.{numerators_in, certifying_denominator_in, certifying_numerators_in}
 use Rattle.check_conditions.specs.Areas.{Loaded}
 use Rattle.check_conditions.specs.AreaLaws.{system_is}
 use Rattle.verifier.proofs.Parts.{solution_is, absence_is}
 use Rattle.reader.specs.BothRead.{BothLine}
-use Rattle.verifier.specs.Loading.{AreaRoom, loaded_count, area_verdict}
+use Rattle.std.specs.Prelude.{Ok}
+use Rattle.answers.specs.declared.shape.Form.{Form as FormValue}
+use Rattle.answers.specs.Answer.{form_of}
+use Rattle.verifier.specs.Loading.{AreaRoom, Loads, loaded_count, area_verdict}
 
 entries_count : {limit count : ℕ} {ws : List ℕ} {fs : List (List ℕ)} → EntriesRead limit count ws fs → length fs ≡ count
 entries_count {count = count} {ws = ws} r = ap length (sym r.same) ∙ length_first_entries ws count
@@ -56,6 +58,9 @@ module _ (k : ℕ) (ws : List ℕ) {h : Shape} {form : Form} {cs : List ℕ} (b 
 
   pub read_shape : ShapeWithin office h
   read_shape = rw b.same_head line_within.shape
+
+  pub read_within : (h.rows ≤ office.rows) × (h.columns ≤ office.columns)
+  read_within = (read_shape.rows.1, read_shape.columns.1)
 
   -- ---- what `load_line` and `load` ask
 
@@ -122,7 +127,7 @@ module _ (k : ℕ) (ws : List ℕ) {h : Shape} {form : Form} {cs : List ℕ} (b 
 
   module _
       (m : Modulus)
-      (valid : ValidModulus m)
+      (fits : (h.rows ≤ office.rows) × (h.columns ≤ office.columns))
       (same : m.p ≡ h.modulus)
       (A C : List ℕ)
       (room : AreaRoom h A C)
@@ -130,7 +135,7 @@ module _ (k : ℕ) (ws : List ℕ) {h : Shape} {form : Form} {cs : List ℕ} (b 
       (in_C : InSlots certificate_width C (certificate_entries c))
     where
       abbrev l : Dimensions
-      l = record { modulus = m; rows = h.rows; columns = h.columns }
+      l = record { modulus = m; rows = h.rows; columns = h.columns; within = fits }
 
       same_modulus : m.p ≡ s.modulus
       same_modulus = same ∙ ap (λ (g : Shape). g.modulus) b.same_head
@@ -155,7 +160,7 @@ module _ (k : ℕ) (ws : List ℕ) {h : Shape} {form : Form} {cs : List ℕ} (b 
       loaded count all few = record {
         certificate =
             record {
-              dimensions = record { modulus = valid; rows = read_shape.rows.1; columns = read_shape.columns.1 };
+              dimensions = valid_dimensions l;
               filled = λ i lt. filled_certificate (omega arith) i (omega arith);
             };
         system = filled_system;
@@ -196,16 +201,19 @@ module _ (k : ℕ) (ws : List ℕ) {h : Shape} {form : Form} {cs : List ℕ} (b 
           ap (absence_verdict s) (absence_is h.rows C q (kept.count ∙ ap (λ (g : Shape). g.rows) (sym b.same_head)) stands)
 
       -- the verdict on the words, by the form
-      pub read_loads : (f : Form) → form ≡ f → Loaded l (loaded_count l f) A C × (verdict office k ws cs ≡ area_verdict l f A C)
-      read_loads solving e = (
+      by_form : (f : Form) → form ≡ f → Loaded l (loaded_count l f) A C × (verdict office k ws cs ≡ area_verdict l f A C)
+      by_form solving e = (
         loaded_solution e,
         sym (ap (λ (t : System). solution_verdict t (denominator_in C) (numerators_in l C) (certifying_denominator_in l C)
             (certifying_numerators_in l C)) system_in
             ∙ solution_by c (sym e ∙ b.same_form) certificate_part.1 in_C
             ∙ verdict_read),
       )
-      read_loads absent e = (
+      by_form absent e = (
         loaded_absence e,
         sym (ap (λ (t : System). absence_verdict t (vector_in h.rows 0 C)) system_in
             ∙ absence_by c (sym e ∙ b.same_form) certificate_part.1 in_C ∙ verdict_read),
       )
+
+      pub read_loads : (f : FormValue) → form ≡ form_of f → Loads (verdict office k ws cs) A C (Ok (l, f))
+      read_loads f e = let found = by_form (form_of f) e in record { ready = found.0; verdict = found.1 }

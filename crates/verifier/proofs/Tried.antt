@@ -5,7 +5,6 @@ use mathlib.Core.List.{List}
 use Prim.Native.Nat.{ℕ, ◌+◌, ◌*◌}
 use native.Mathlib.Nat.{mul-le-mul}
 use native.Mathlib.Omega.{arith}
-use lib.ListN.{length}
 use Rattle.words.specs.Limits.{Limits, office, panel, solution_count}
 use Rattle.words.specs.LimitsLaws.{office_fits}
 use Rattle.words.specs.Outcome.{refuse, mapped}
@@ -23,7 +22,7 @@ use Rattle.truth.proofs.WithinLaws.{both_of, within_limits, within_passed, line_
 use Rattle.reader.specs.BothRead.{BothLine}
 use Rattle.loader.specs.Widths.{system_width, certificate_width, line_polynomials}
 use Rattle.limits.specs.Counts.{certificate_polynomials}
-use Rattle.verifier.specs.Loading.{BothSided, AreaRoom, AreasFor}
+use Rattle.verifier.specs.Loading.{BothSided, AreaRoom, AreasFor, AreasOf}
 
 -- ---- 41
 
@@ -116,18 +115,17 @@ none_read kept k ws cs e = e
 -- ---- areas
 
 -- for all that the office reads
-pub office_areas : (kept : Limits) {A C : List ℕ} → length A ≡ line_polynomials * system_width
-    → length C ≡ certificate_polynomials * certificate_width → AreasFor kept A C
-office_areas kept {A} {C} a b h valid keeps =
+pub office_areas : (kept : Limits) → AreasOf kept (line_polynomials * system_width) (certificate_polynomials * certificate_width)
+office_areas kept A C a b h valid keeps =
     let places = mul-le-mul valid.rows.1 valid.columns.1 in
     let rows = valid.rows.1 in
     let columns = valid.columns.1 in
     record { system = omega arith; certificate = omega arith }
 
 -- for all that keeps the panel's limits
-pub panel_areas : {A C : List ℕ} → length A ≡ (panel.rows * (panel.columns + 1)) * system_width
-    → length C ≡ solution_count panel.rows panel.columns * certificate_width → AreasFor panel A C
-panel_areas {A} {C} a b h valid keeps =
+pub panel_areas : AreasOf panel ((panel.rows * (panel.columns + 1)) * system_width)
+    (solution_count panel.rows panel.columns * certificate_width)
+panel_areas A C a b h valid keeps =
     let places = mul-le-mul keeps.rows.1 keeps.columns.1 in
     let rows = keeps.rows.1 in
     let columns = keeps.columns.1 in

@@ -14,18 +14,23 @@ ghost use Rattle.answers.specs.Answer.{verdict_outcome};
 ghost use Rattle.truth.specs.Verdict.{verdict};
 ghost use Rattle.truth.specs.Within.{verdict_within};
 
-pub use answers::Verdict;
+pub use answers::Refusal;
 use limits::{Limits, Office};
-use loader::width::{CERTIFICATE_WIDTH, LINE_POLYNOMIALS, SYSTEM_WIDTH};
-use loading::{conclude, load_pair};
+use loading::{CERTIFICATE_AREA, SYSTEM_AREA, conclude, load_pair};
 
-// Returns the verdict where what the office reads must keep these limits too.
-pub fn check_within(system: &[u32], certificate: &[u32], side: usize, kept: Limits) -> Verdict
+// Returns the verdict where what the office reads must keep these limits too. The areas are laid out as in `loading::check_bytes`: one
+// function for both would take the loading as a closure, with a clause on what it leaves in the areas, and be no plainer.
+pub fn check_within(
+    system: &[u32],
+    certificate: &[u32],
+    side: usize,
+    kept: Limits,
+) -> Result<(), Refusal>
     ensures { verdict_outcome result ≡
         verdict_within office (limits_of kept) side system.now certificate.now }
 {
-    let mut system_area = [0u64; LINE_POLYNOMIALS * SYSTEM_WIDTH];
-    let mut certificate_area = [0u64; Office::CERTIFICATE_POLYNOMIALS * CERTIFICATE_WIDTH];
+    let mut system_area = [0u64; SYSTEM_AREA];
+    let mut certificate_area = [0u64; CERTIFICATE_AREA];
     let loading = load_pair(
         &mut system_area,
         &mut certificate_area,
@@ -38,7 +43,7 @@ pub fn check_within(system: &[u32], certificate: &[u32], side: usize, kept: Limi
 }
 
 // Returns the verdict on the words of a system and of a certificate for its right side `side`, counted from 0.
-pub fn check(system: &[u32], certificate: &[u32], side: usize) -> Verdict
+pub fn check(system: &[u32], certificate: &[u32], side: usize) -> Result<(), Refusal>
     ensures { verdict_outcome result ≡ verdict office side system.now certificate.now }
 {
     check_within(system, certificate, side, Office::limits())

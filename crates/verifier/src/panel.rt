@@ -4,8 +4,8 @@ ghost use Rattle.std.specs.Prelude.{◌≡◌};
 ghost use Rattle.answers.specs.Answer.{verdict_outcome};
 ghost use Rattle.verifier.specs.File.{panel_verdict};
 
-use crate::loading::{conclude, load_files};
-use answers::Verdict;
+use crate::loading::check_bytes;
+use answers::Refusal;
 use limits::Panel;
 use loader::width::{CERTIFICATE_WIDTH, SYSTEM_WIDTH};
 
@@ -14,21 +14,20 @@ const SYSTEM_POLYNOMIALS: usize = Panel::ROWS as usize * (Panel::COLUMNS as usiz
 
 const CERTIFICATE_POLYNOMIALS: usize = Panel::COLUMNS as usize + 2 + Panel::ROWS as usize;
 
+// The words of the areas for these.
+const SYSTEM_AREA: usize = SYSTEM_POLYNOMIALS * SYSTEM_WIDTH;
+
+const CERTIFICATE_AREA: usize = CERTIFICATE_POLYNOMIALS * CERTIFICATE_WIDTH;
+
 // Tries number 10 on either buffer, which may have any length, then returns the verdict on their words for right side 0.
-pub fn check_panel(system: &[u8], certificate: &[u8]) -> Verdict
+pub fn check_panel(system: &[u8], certificate: &[u8]) -> Result<(), Refusal>
     ensures { verdict_outcome result ≡ panel_verdict system.now certificate.now }
 {
-    let mut system_area = [0u64; SYSTEM_POLYNOMIALS * SYSTEM_WIDTH];
-    let mut certificate_area = [0u64; CERTIFICATE_POLYNOMIALS * CERTIFICATE_WIDTH];
-    let limit = system.len();
-    let loading = load_files(
-        &mut system_area,
-        &mut certificate_area,
+    check_bytes::<SYSTEM_AREA, CERTIFICATE_AREA>(
         system,
         certificate,
         0,
         Panel::limits(),
-        limit,
-    );
-    conclude(&system_area, &certificate_area, loading)
+        system.len(),
+    )
 }

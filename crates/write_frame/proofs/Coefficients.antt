@@ -27,13 +27,6 @@ module _ (p by place : ℕ) (f : List ℕ) where
     pub within : i ≤ length f
     pub same : refuse_coefficients p by place f passed ≡ due i
 
-  pub coefficients_start : CoefficientsTried 0
-  coefficients_start =
-      let e : place ≡ place + 0 = omega arith in record {
-        within = omega arith;
-        same = ap (λ (k : ℕ). refuse_coefficients p by k f passed) e;
-      }
-
   pub coefficients_end : (i : ℕ) → CoefficientsTried i → length f ≤ i → passed ≡ refuse_coefficients p by place f passed
   unfolding refuse_coefficients
   coefficients_end i t h =

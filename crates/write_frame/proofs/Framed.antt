@@ -4,7 +4,7 @@ use mathlib.Core.List.{List, [], ◌∷◌, ◌++◌, append_assoc, append-nil}
 use Prim.Native.Nat.{ℕ, ◌+◌, ◌-◌, ◌*◌, ◌≤◌, ◌<◌}
 use native.Mathlib.Nat.{mul-le-mul_right, le_of_eq}
 use native.Mathlib.Omega.{arith}
-use lib.ListN.{length, get_or, take, drop, set, length-append, length-take, length-drop, length-set}
+use lib.ListN.{length, get_or, take, drop, set, length-append, length-take, length-drop}
 use Rattle.words.specs.Word.{AllBelow, payload_bound}
 use Rattle.words.specs.Polynomial.{polynomial_words, polynomials_words}
 use Rattle.words.proofs.PolynomialLaws.{length_polynomial_words}
@@ -68,7 +68,7 @@ module _ (stride : ℕ) (sizes coefficients : List ℕ) where
 
       pub written_one : (part : List ℕ) → stride * k + get_or sizes k 0 ≤ length coefficients
           → part ≡ overwritten (polynomial_words (part_of stride sizes coefficients k)) (take (length now - at) (drop at now))
-          → PolynomialsWritten (take at now ++ (part ++ drop (length now - at) (drop at now))) (at + 1 + get_or sizes k 0) (k + 1)
+          → PolynomialsWritten (take at now ++ (part ++ drop (length now - at) (drop at now))) (at + (1 + get_or sizes k 0)) (k + 1)
       written_one part r e =
           let f = polynomial_in stride sizes coefficients k in
           let place = t.place in
@@ -80,7 +80,7 @@ module _ (stride : ℕ) (sizes coefficients : List ℕ) where
           (part_of_polynomial stride sizes coefficients k r) in
           let w = part_written (front k) (polynomial_words f) lent now at part t.words place e'
           ∙ ap (λ (v : List ℕ). overwritten v lent) (front_next k) in
-          let l : at + 1 + get_or sizes k 0 ≡ length (front (k + 1))
+          let l : at + (1 + get_or sizes k 0) ≡ length (front (k + 1))
           = omega (arith, length-append (front k) (polynomial_words f), ap length (front_next k)) in
           record {
             within = omega arith;
@@ -135,13 +135,6 @@ module _ (head : ℕ) (fs : List (List ℕ)) (lent part : List ℕ) (n : ℕ) wh
     whole_written =
         part_written (head ∷ []) (polynomials_words fs) lent headed 1 part
         (set_written [] lent lent 0 head refl refl (omega arith)) refl w.words
-
-    pub length_whole : length whole ≡ length lent
-    length_whole = let c = w.count in ap length whole_written ∙ length_overwritten (head ∷ polynomials_words fs) lent (omega arith)
-
-    -- with a word behind it
-    pub length_ended : (v : ℕ) → length (set whole (1 + n) v) ≡ length lent
-    length_ended v = length-set whole (1 + n) v ∙ length_whole
 
     pub framed_written : Wrote (framed_words head fs) lent (set whole (1 + n) (4 * payload_bound + (1 + n + 1))) (1 + n + 1)
     unfolding framed_words

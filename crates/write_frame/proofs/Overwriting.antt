@@ -1,10 +1,10 @@
 -- Words written over the first of those lent, one list behind another.
-use mathlib.Core.Path.{◌≡◌, refl, sym, ap, ap₂, ◌∙◌}
+use mathlib.Core.Path.{◌≡◌, sym, ap, ap₂, ◌∙◌}
 use mathlib.Core.List.{List, [], ◌∷◌, ◌++◌, append_assoc, append-nil}
 use Prim.Native.Nat.{ℕ, suc, ◌+◌, ◌-◌, ◌≤◌, ◌<◌}
 use native.Mathlib.Nat.{le_of_eq}
 use native.Mathlib.Omega.{arith}
-use lib.ListN.{length, get_or, take, drop, set, length-append, length-drop, length-set, drop_of_length-le}
+use lib.ListN.{length, get_or, take, drop, set, length-append, length-drop, drop_of_length-le}
 use lib.Seq.{set_split, take_at, take-suc, drop_at, drop-drop, take_all, length-take-le}
 use Rattle.write_frame.specs.Overwriting.{overwritten}
 
@@ -55,32 +55,11 @@ part_written vs ws lent now at part e l p =
     ∙ ap (λ (r : List ℕ). take at r ++ overwritten ws (drop at r)) e
     ∙ overwritten_append vs ws lent at l
 
--- ---- word by word
-
--- the first i words of a list are written
-pub record WrittenTo (ws lent : List ℕ) (now : List ℕ) (i : ℕ) : Type 0 where
-  pub within : i ≤ length ws
-  pub size : length now ≡ length lent
-  pub words : now ≡ overwritten (take i ws) lent
-
-pub written_start : (ws lent : List ℕ) → WrittenTo ws lent lent 0
-written_start ws lent = record { within = omega arith; size = refl; words = refl }
-
-pub written_next : (ws lent now : List ℕ) (i d : ℕ) → WrittenTo ws lent now i → length ws ≤ length lent → i < length ws
-    → WrittenTo ws lent (set now i (get_or ws i d)) (i + 1)
-written_next ws lent now i d t room h =
-    let w = get_or ws i d in
-    let e : suc i ≡ i + 1 = omega arith in
-    let l : i ≡ length (take i ws) = sym (length-take-le i ws (omega arith)) in
-    let size = t.size in
-    record {
-      within = omega arith;
-      size = length-set now i w ∙ size;
-      words = set_overwritten now i w (omega arith)
-          ∙ ap (λ (r : List ℕ). take i r ++ overwritten (w ∷ []) (drop i r)) t.words
-          ∙ overwritten_append (take i ws) (w ∷ []) lent i l
-          ∙ ap (λ (v : List ℕ). overwritten v lent) (sym (take-suc ws i d h) ∙ ap (λ (n : ℕ). take n ws) e);
-    }
-
-pub written_end : (ws lent now : List ℕ) (i : ℕ) → WrittenTo ws lent now i → length ws ≤ i → now ≡ overwritten ws lent
-written_end ws lent now i t h = t.words ∙ ap (λ (v : List ℕ). overwritten v lent) (take_all i ws h)
+-- word by word: behind the first i words of a list, the next
+pub written_next : (ws lent now : List ℕ) (i d : ℕ) → now ≡ overwritten (take i ws) lent → length ws ≤ length lent → i < length ws
+    → set now i (get_or ws i d) ≡ overwritten (take (i + 1) ws) lent
+written_next ws lent now i d e room h =
+    let n : suc i ≡ i + 1 = omega arith in
+    let l = length-take-le i ws (omega arith) in
+    set_written (take i ws) lent now i (get_or ws i d) e (sym l) (omega arith)
+    ∙ ap (λ (v : List ℕ). overwritten v lent) (sym (take-suc ws i d h) ∙ ap (λ (n : ℕ). take n ws) n)

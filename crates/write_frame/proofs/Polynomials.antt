@@ -26,13 +26,6 @@ module _ (p limit stride by : ℕ) (sizes coefficients : List ℕ) (count : ℕ)
     pub most : place ≤ 1 + k * (1 + limit)
     pub same : all ≡ due place k
 
-  pub polynomials_start : PolynomialsTried 1 0
-  polynomials_start = record {
-    within = omega arith;
-    most = omega arith;
-    same = ap (λ (n : ℕ). refuse_polynomials p limit by 1 (polynomials_in stride sizes coefficients 0 n) passed) (omega arith);
-  }
-
   pub polynomials_end : (place k : ℕ) → PolynomialsTried place k → count ≤ k → passed ≡ all
   unfolding refuse_polynomials polynomials_in
   polynomials_end place k t h =
@@ -69,18 +62,20 @@ module _ (p limit stride by : ℕ) (sizes coefficients : List ℕ) (count : ℕ)
           ∙ ap (λ (f : List ℕ). next_after (refuse_coefficients p by (place + 1) f passed) rest)
           (sym (part_of_polynomial stride sizes coefficients k (omega arith))))
 
-      pub polynomial_refused : (number at : ℕ)
+      pub polynomial_refused : {number at : ℕ}
           → refused number at ≡ refuse_coefficients p by (place + 1) (part_of stride sizes coefficients k) passed
           → refused number at ≡ all
-      polynomial_refused number at e =
+      polynomial_refused e =
           sym (turn_same ∙ ap (λ (o : Outcome (Unit {0})). next_after o (due (place + 1 + size) (k + 1))) (sym e))
 
       pub polynomials_next : passed ≡ refuse_coefficients p by (place + 1) (part_of stride sizes coefficients k) passed
-          → PolynomialsTried (place + 1 + size) (k + 1)
+          → PolynomialsTried (place + (1 + size)) (k + 1)
       polynomials_next e =
           let m = t.most in
+          let n : place + 1 + size ≡ place + (1 + size) = omega arith in
           record {
             within = omega arith;
             most = omega arith;
-            same = turn_same ∙ ap (λ (o : Outcome (Unit {0})). next_after o (due (place + 1 + size) (k + 1))) (sym e);
+            same = turn_same ∙ ap (λ (o : Outcome (Unit {0})). next_after o (due (place + 1 + size) (k + 1))) (sym e)
+                ∙ ap (λ (i : ℕ). due i (k + 1)) n;
           }

@@ -16,7 +16,6 @@ pub record Covers (format : Format) (sizes coefficients : List ℕ) : Type 0 whe
   pub roomy : format.stride * format.count ≤ length coefficients
   pub apart : format.limit ≤ format.stride
   pub short : words_for format.count format.limit < payload_bound
-  pub number : format.by ≤ 20
 
 -- the polynomials keep to their room, and their coefficients fit into words
 pub record Writable (format : Format) (sizes coefficients : List ℕ) : Type 0 where

@@ -6,9 +6,9 @@ ghost use Rattle.words.specs.Word.{word, AllBelow, payload_bound};
 ghost use Rattle.words.specs.Polynomial.{polynomial_words, polynomials_words};
 ghost use Rattle.words.specs.Frame.{framed_words};
 ghost use Rattle.write_frame.specs.Overwriting.{overwritten};
-ghost use Rattle.write_frame.specs.Framing.{Covers, Writable, Wrote, entries_in};
+ghost use Rattle.write_frame.specs.Framing.{Writable, Wrote, entries_in};
 
-use crate::format::Format;
+use crate::format::Polynomials;
 use answers::word::{COEFFICIENT, END, START};
 
 // Writes the words of the coefficients of f.
@@ -16,10 +16,8 @@ fn write_coefficients(words: &mut [u32], f: &[u64])
     requires { (length f.now ≤ length words.old) × AllBelow payload_bound f.now }
     ensures { words.new ≡ overwritten (map (word 3) f.now) words.old }
 {
-    let mut i: usize = 0;
-    while i < f.len() {
-        words[i] = COEFFICIENT + f[i] as u32;
-        i = i + 1;
+    for (i, a) in f.iter().enumerate() {
+        words[i] = COEFFICIENT + *a as u32;
     }
 }
 
@@ -33,48 +31,40 @@ fn write_polynomial(words: &mut [u32], f: &[u64])
 }
 
 // Writes all polynomials, in written order. Returns the number of their words.
-fn write_polynomials(
-    words: &mut [u32],
-    sizes: &[usize],
-    coefficients: &[u64],
-    format: Format,
-) -> usize
-    requires { Covers format sizes.now coefficients.now × Writable format sizes.now coefficients.now
-        × (format.count * (1 + format.limit) ≤ length words.old) }
+fn write_polynomials(words: &mut [u32], polynomials: Polynomials) -> usize
+    requires { Writable polynomials.format polynomials.sizes.now polynomials.coefficients.now
+        × (polynomials.format.count * (1 + polynomials.format.limit) ≤ length words.old) }
     ensures { Wrote
-        (polynomials_words (entries_in format sizes.now coefficients.now))
+        (polynomials_words (entries_in polynomials.entry.format polynomials.entry.sizes.now polynomials.entry.coefficients.now))
         words.old words.new result
-        × (result ≤ format.count * (1 + format.limit)) }
+        × (result ≤ polynomials.entry.format.count * (1 + polynomials.entry.format.limit)) }
 {
-    let stride = format.stride;
-    let count = format.count;
-    let mut at: usize = 0;
-    let mut k: usize = 0;
-    while k < count {
+    let Polynomials {
+        sizes,
+        coefficients,
+        format,
+    } = polynomials;
+    let mut at = 0;
+    for k in 0..format.count {
         let size = sizes[k];
-        let from = stride * k;
+        let from = format.stride * k;
         write_polynomial(&mut words[at..], &coefficients[from..from + size]);
-        at = at + 1 + size;
-        k = k + 1;
+        at += 1 + size;
     }
     at
 }
 
 // Writes the head, the polynomials and the end. Returns the number of all words.
-pub fn write_framed(
-    words: &mut [u32],
-    sizes: &[usize],
-    coefficients: &[u64],
-    format: Format,
-) -> usize
-    requires { Covers format sizes.now coefficients.now × Writable format sizes.now coefficients.now
-        × (words_for format.count format.limit ≤ length words.old) }
+pub fn write_framed(words: &mut [u32], polynomials: Polynomials) -> usize
+    requires { Writable polynomials.format polynomials.sizes.now polynomials.coefficients.now
+        × (words_for polynomials.format.count polynomials.format.limit ≤ length words.old) }
     ensures { Wrote
-        (framed_words format.head (entries_in format sizes.now coefficients.now))
+        (framed_words polynomials.entry.format.head
+        (entries_in polynomials.entry.format polynomials.entry.sizes.now polynomials.entry.coefficients.now))
         words.old words.new result }
 {
-    words[0] = format.head;
-    let end = 1 + write_polynomials(&mut words[1..], sizes, coefficients, format);
+    words[0] = polynomials.format.head;
+    let end = 1 + write_polynomials(&mut words[1..], polynomials);
     words[end] = END + (end + 1) as u32;
     end + 1
 }

@@ -1,3 +1,4 @@
 pub mod RefusedLaws
 pub mod Answers
 pub mod Ready
+pub mod Sizes

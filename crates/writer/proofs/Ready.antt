@@ -28,13 +28,12 @@ Ready format p sizes coefficients =
 -- so many polynomials at most
 covers : (format : Format) (most : ℕ) (sizes coefficients : List ℕ) → format.count ≤ most → most ≤ length sizes
     → format.stride * most ≤ length coefficients → format.limit ≤ format.stride
-    → words_for format.count format.limit < payload_bound → format.by ≤ 20 → Covers format sizes coefficients
-covers format most sizes coefficients few s c apart short number = record {
+    → words_for format.count format.limit < payload_bound → Covers format sizes coefficients
+covers format most sizes coefficients few s c apart short = record {
   sized = le_trans few s;
   roomy = le_trans (mul-le-mul_left format.stride few) c;
   apart = apart;
   short = short;
-  number = number;
 }
 
 -- of the format that code computed
@@ -50,14 +49,14 @@ module _ (limits : Limits) (fit : LimitsFit limits) (h : Shape) (within : ShapeW
       let head : Head = record { shape = h; sides = sides } in
       let x = systems_expressible limits fit head (record { shape = within; sides = some }) in
       let few = system_count_most within.rows.1 within.columns.1 some.1 in (
-        covers (system_frame limits head) _ sizes coefficients few s c (omega arith) x.words (omega arith),
+        covers (system_frame limits head) _ sizes coefficients few s c (omega arith) x.words,
         x.modulus,
         words_for_most limits.system_coefficients few,
       )
   kind_ready (kind.Certificate form) some sizes coefficients apart s c =
       let x = certificate_expressible limits h fit within (form_of form) tt in
       let few = entry_count_most limits h within (form_of form) in (
-        covers (certificate_frame limits h (form_of form)) _ sizes coefficients few s c apart x.words (omega arith),
+        covers (certificate_frame limits h (form_of form)) _ sizes coefficients few s c apart x.words,
         x.modulus,
         words_for_most limits.certificate_coefficients few,
       )

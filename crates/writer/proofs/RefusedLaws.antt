@@ -1,5 +1,5 @@
 -- The writers refuse just what is at fault, by its number and at its place; a refusal leaves all lent words.
-use Rattle.std.specs.Prelude.{◌≡◌, refl, Bool, true, false, not, ◌&&◌, ◌||◌, ◌⊎◌, ◌↔◌, List, ℕ, ◌+◌, ◌≤◌, ◌<◌, length, ltb}
+use Rattle.std.specs.Prelude.{◌≡◌, refl, Bool, true, false, not, ◌&&◌, ◌||◌, ◌⊎◌, ◌↔◌, List, ℕ, ◌+◌, ◌≤◌, ◌<◌, length, ltb, Err}
 use Rattle.std.proofs.Common.{sym, ◌∙◌, inl, inr, arith, ltb-true, ltb-false, lt-ltb, le-ltb}
 use Rattle.std.proofs.Math.Path.{ap}
 use Rattle.std.proofs.Math.Logic.{⊎_elim}
@@ -18,7 +18,7 @@ use Rattle.words.proofs.BytesLaws.{or_left, or_right}
 use Rattle.words.specs.ReadingLaws.{and_passed}
 use Rattle.words.proofs.HeadLaws.{one_to_true, one_to_from}
 use Rattle.answers.specs.declared.answer.Refusal.{Refusal}
-use Rattle.answers.specs.declared.answer.Counted.TheVariants.{Refused}
+use Rattle.answers.specs.Answer.{reason_number, refused_by}
 use Rattle.write_frame.specs.Trial.{refuse_polynomials}
 use Rattle.write_frame.specs.Fault.{PolynomialFault}
 use Rattle.write_frame.specs.Fault.CoefficientFault.{large, last_zero}
@@ -211,9 +211,9 @@ system_fault_place (others good fault) = fault_place fault
 
 -- ---- calls
 
-module _ {outcome : Outcome (List ℕ)} {entry exit : List ℕ} {r : Refusal} (w : Writes outcome entry (Refused r) exit) where
+module _ {outcome : Outcome (List ℕ)} {entry exit : List ℕ} {r : Refusal} (w : Writes outcome entry (Err r) exit) where
   -- a call that answers with a refusal was to give it
-  pub call_refused : outcome ≡ refused r.number r.place
+  pub call_refused : outcome ≡ refused_by r
   call_refused = mapped_refused length outcome (sym w.told)
 
   -- and no lent word changes
@@ -223,13 +223,13 @@ module _ {outcome : Outcome (List ℕ)} {entry exit : List ℕ} {r : Refusal} (w
 
 -- of the two calls: what is at fault, and all lent words as they were
 pub system_call_fault : (limits : Limits) (s : Systems) {entry exit : List ℕ} {r : Refusal}
-    → Writes (write_systems limits (length entry) s) entry (Refused r) exit
-    → SystemFault limits (length entry) s r.number r.place × (exit ≡ entry)
+    → Writes (write_systems limits (length entry) s) entry (Err r) exit
+    → SystemFault limits (length entry) s (reason_number r.reason) r.place × (exit ≡ entry)
 system_call_fault limits s {entry} {r = r} w =
-    ((system_refused_iff_fault limits (length entry) s r.number r.place).0 (call_refused w), refused_lent w)
+    ((system_refused_iff_fault limits (length entry) s (reason_number r.reason) r.place).0 (call_refused w), refused_lent w)
 
 pub certificate_call_fault : (limits : Limits) (h : Shape) (c : Certificate) {entry exit : List ℕ} {r : Refusal}
-    → Writes (write_certificate limits (length entry) h c) entry (Refused r) exit
-    → CertificateFault limits (length entry) h c r.number r.place × (exit ≡ entry)
+    → Writes (write_certificate limits (length entry) h c) entry (Err r) exit
+    → CertificateFault limits (length entry) h c (reason_number r.reason) r.place × (exit ≡ entry)
 certificate_call_fault limits h c {entry} {r = r} w =
-    ((certificate_refused_iff_fault limits (length entry) h c r.number r.place).0 (call_refused w), refused_lent w)
+    ((certificate_refused_iff_fault limits (length entry) h c (reason_number r.reason) r.place).0 (call_refused w), refused_lent w)

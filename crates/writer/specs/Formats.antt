@@ -9,7 +9,8 @@ use Rattle.words.specs.Frame.{framed_words}
 use Rattle.words.specs.System.{Shape}
 use Rattle.words.specs.Systems.{Head, head_word, systems_words}
 use Rattle.words.specs.Certificate.{Form, form_word, entry_count, certificate_words}
-use Rattle.answers.specs.Answer.{form_of}
+use Rattle.answers.specs.declared.answer.Of.TheVariants as of
+use Rattle.answers.specs.Answer.{form_of, by_of}
 use Rattle.write_frame.specs.declared.format.Format.{Format}
 use Rattle.write_frame.specs.Framing.{entries_in}
 use Rattle.write_frame.specs.Trial.{refuse_polynomials}
@@ -23,7 +24,7 @@ use Rattle.writer.specs.ValuesLaws.{system_in_entries, certificate_in_entries, c
 -- all that is tried of the polynomials in arrays, in order, and their words
 abbrev pub write_framed : Format → ℕ → ℕ → List ℕ → List ℕ → Outcome (List ℕ)
 write_framed format p lent sizes coefficients =
-    refuse_polynomials p format.limit format.by 1 (entries_in format sizes coefficients)
+    refuse_polynomials p format.limit (by_of format.of) 1 (entries_in format sizes coefficients)
     (refuse_room format.longest lent
     (accepted (framed_words format.head (entries_in format sizes coefficients))))
 
@@ -33,7 +34,7 @@ system_frame limits h = record {
   count = system_count h.shape.rows h.shape.columns h.sides;
   limit = limits.system_coefficients;
   stride = limits.system_coefficients;
-  by = 0;
+  of = of.System;
   longest = longest_system limits;
 }
 
@@ -43,7 +44,7 @@ certificate_frame limits h form = record {
   count = entry_count h form;
   limit = limits.certificate_coefficients;
   stride = certificate_stride;
-  by = 20;
+  of = of.Certificate;
   longest = longest_certificate limits;
 }
 

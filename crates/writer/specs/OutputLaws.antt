@@ -120,7 +120,7 @@ module _ (h : Shape) (rows : h.rows ≤ office.rows) (columns : h.columns ≤ of
         subst (λ (f : Format). SizesTaken words sizes f.count → Ready lent f) (sym is)
         (λ sized.
         let few = entries_few form in (
-          record { sized = omega arith; roomy = omega arith; apart = omega arith; short = omega arith; number = omega arith },
+          record { sized = omega arith; roomy = omega arith; apart = omega arith; short = omega arith },
           record {
             few = λ k lt. let e = sized k lt in
                 omega (arith, size_most words (certificate_stride * k) office.certificate_coefficients);

@@ -1,6 +1,6 @@
 -- What the writers do (document 01, "Turned back"): they take values, and "the first value at fault in written order decides, ...,
 -- at the place its word would have; after these comes 11". Else the words are the written form, and the lent words behind it stay.
-use Rattle.std.specs.Prelude.{ℕ, ◌≡◌, not, ◌&&◌, ◌||◌, List, length, ltb}
+use Rattle.std.specs.Prelude.{ℕ, ◌≡◌, not, ◌&&◌, ◌||◌, List, length, ltb, Result}
 use Rattle.modular.specs.LargestPrime.{largest_modulus}
 use Rattle.modular.specs.Prime.{prime?}
 use Rattle.words.specs.Limits.{Limits, longest_system, longest_certificate}
@@ -9,7 +9,7 @@ use Rattle.words.specs.Outcome.Outcome.{accepted, refused}
 use Rattle.words.specs.System.{Shape, one_to}
 use Rattle.words.specs.Systems.{Systems, systems_entries, systems_words}
 use Rattle.words.specs.Certificate.{Certificate, certificate_entries, certificate_words}
-use Rattle.answers.specs.declared.answer.Counted.{Counted}
+use Rattle.answers.specs.declared.answer.Refusal.{Refusal}
 use Rattle.answers.specs.Answer.{counted_outcome}
 use Rattle.write_frame.specs.Overwriting.{overwritten}
 use Rattle.write_frame.specs.Trial.{refuse_polynomials}
@@ -54,6 +54,6 @@ lent_after (accepted ws) lent = overwritten ws lent
 lent_after (refused number place) lent = lent
 
 -- a writer that is to give an outcome answers with it, and leaves the lent words so
-pub record Writes (outcome : Outcome (List ℕ)) (entry : List ℕ) (answer : Counted) (exit : List ℕ) : Type 0 where
+pub record Writes (outcome : Outcome (List ℕ)) (entry : List ℕ) (answer : Result ℕ Refusal) (exit : List ℕ) : Type 0 where
   pub told : counted_outcome answer ≡ mapped length outcome
   pub lent : exit ≡ lent_after outcome entry

@@ -1,6 +1,6 @@
 -- What the writers write: the written forms of values within the limits, and of all these where there is room. So a reader gives
 -- the values back.
-use Rattle.std.specs.Prelude.{◌≡◌, List, [], ◌∷◌, ◌++◌, ℕ, ◌≤◌, length, take, drop, ltb}
+use Rattle.std.specs.Prelude.{◌≡◌, List, [], ◌∷◌, ◌++◌, ℕ, ◌≤◌, length, take, drop, ltb, Ok}
 use Rattle.std.proofs.Common.{sym, ap, ◌∙◌, arith, take_at, ltb-false, le-ltb}
 use Rattle.words.specs.Limits.{Limits, longest_system, longest_certificate}
 use Rattle.words.specs.Outcome.{Outcome}
@@ -15,7 +15,6 @@ use Rattle.words.specs.LimitsLaws.{LimitsFit}
 use Rattle.words.proofs.SystemsLaws.{systems_laws, systems_read_of_written}
 use Rattle.words.proofs.CertificateLaws.{certificate_laws, certificate_read_of_written}
 use Rattle.words.specs.OutcomeLaws.{refuse_passed}
-use Rattle.answers.specs.declared.answer.Counted.TheVariants.{Count}
 use Rattle.write_frame.specs.ValuesLaws.{length_polynomials_in}
 use Rattle.write_frame.specs.Trial.{refuse_polynomials}
 use Rattle.write_frame.specs.TrialLaws.{polynomials_passed, polynomials_within}
@@ -162,7 +161,7 @@ module _ (limits : Limits) (lent : ℕ) (h : Shape) where
 
 -- ---- a call that answers with a count: the first so many of the lent words are the written form, and read as the values
 
-pub count_words : (outcome : Outcome (List ℕ)) {entry exit : List ℕ} {n : ℕ} → Writes outcome entry (Count n) exit
+pub count_words : (outcome : Outcome (List ℕ)) {entry exit : List ℕ} {n : ℕ} → Writes outcome entry (Ok n) exit
     → outcome ≡ accepted (take n exit)
 unfolding lent_after
 count_words (accepted ws) {entry} {exit} {n} w =
@@ -173,12 +172,12 @@ count_words (refused number place) w = absurd (let t = w.told in let z : ◌≡�
 
 module _ (limits : Limits) (fit : LimitsFit limits) (sizes coefficients : List ℕ) {entry exit : List ℕ} {n : ℕ} where
   pub system_call_is_read : (h : Head)
-      → Writes (write_systems limits (length entry) (system_in_arrays limits h sizes coefficients)) entry (Count n) exit
+      → Writes (write_systems limits (length entry) (system_in_arrays limits h sizes coefficients)) entry (Ok n) exit
       → read_systems limits (take n exit) ≡ accepted (system_in_arrays limits h sizes coefficients)
   system_call_is_read h w = system_written_is_read limits (length entry) h sizes coefficients fit (take n exit) (count_words _ w)
 
   pub certificate_call_is_read : (h : Shape) (form : Form)
-      → Writes (write_certificate limits (length entry) h (certificate_in h form sizes coefficients)) entry (Count n) exit
+      → Writes (write_certificate limits (length entry) h (certificate_in h form sizes coefficients)) entry (Ok n) exit
       → read_certificate limits h (take n exit) ≡ accepted (certificate_in h form sizes coefficients)
   certificate_call_is_read h form w =
       certificate_written_is_read limits (length entry) h sizes coefficients fit form (take n exit) (count_words _ w)

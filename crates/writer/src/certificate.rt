@@ -7,7 +7,7 @@ ghost use Rattle.writer.specs.Values.{shape_with, certificate_in};
 
 use crate::format::{CERTIFICATE_VALUES, Kind};
 use crate::values::write_shaped;
-use answers::{Counted, Form};
+use answers::{Form, Refusal};
 use limits::Office;
 
 // Writes a certificate for a system of p, rows and columns over the first of the lent words. Polynomial k, of d, N, w and Z or else
@@ -20,7 +20,7 @@ pub fn write_certificate(
     rows: u32,
     columns: u32,
     modulus: u32,
-) -> Counted
+) -> Result<usize, Refusal>
     ensures { Writes
         (write_certificate office (length words.old) (shape_with modulus rows columns)
         (certificate_in (shape_with modulus rows columns) (form_of form) sizes.now coefficients.now))

@@ -6,9 +6,9 @@ ghost use Rattle.answers.specs.Answer.{form_of};
 ghost use Rattle.writer.specs.Values.{shape_with};
 ghost use Rattle.writer.specs.Formats.{KindWithin, certificate_frame, format_of};
 
-use answers::Form;
 use answers::head::{COLUMN_UNIT, ROW_UNIT, SIDE_UNIT};
 use answers::word::{CERTIFICATE_HEAD, SYSTEM_HEAD};
+use answers::{Form, Of};
 use limits::Office;
 use write_frame::format::Format;
 
@@ -23,9 +23,6 @@ pub enum Kind {
 const SOLUTION_HEAD: u32 = CERTIFICATE_HEAD + 1;
 
 const ABSENCE_HEAD: u32 = CERTIFICATE_HEAD + 2;
-
-// Refusals 26 to 28 are 6 to 8, on the certificate.
-const BY: u8 = 20;
 
 // The words of the array that hands over the polynomials of a system.
 pub const SYSTEM_VALUES: usize = Office::COEFFICIENTS as usize * Office::SYSTEM_POLYNOMIALS;
@@ -47,7 +44,7 @@ pub fn certificate_format(form: Form, rows: u32, columns: u32) -> Format
             count: (1 + columns + 1 + rows) as usize,
             limit: Office::CERTIFICATE_COEFFICIENTS as usize,
             stride: STRIDE,
-            by: BY,
+            of: Of::Certificate,
             longest: Office::CERTIFICATE_WORDS,
         },
         Form::Absence => Format {
@@ -55,7 +52,7 @@ pub fn certificate_format(form: Form, rows: u32, columns: u32) -> Format
             count: rows as usize,
             limit: Office::CERTIFICATE_COEFFICIENTS as usize,
             stride: STRIDE,
-            by: BY,
+            of: Of::Certificate,
             longest: Office::CERTIFICATE_WORDS,
         },
     }
@@ -73,7 +70,7 @@ pub fn format_for(kind: Kind, rows: u32, columns: u32, modulus: u32) -> Format
             count: (rows * columns + sides * rows) as usize,
             limit: Office::COEFFICIENTS as usize,
             stride: Office::COEFFICIENTS as usize,
-            by: 0,
+            of: Of::System,
             longest: Office::SYSTEM_WORDS,
         },
         Kind::Certificate(form) => certificate_format(form, rows, columns),

@@ -13,6 +13,7 @@ ghost use Rattle.writer.specs.Output.{size_in, SizesTaken, polynomials_of};
 use crate::format::{CERTIFICATE_VALUES, STRIDE, certificate_format};
 use answers::{Form, Shape};
 use limits::Office;
+use write_frame::format::Polynomials;
 use write_frame::frame::write_framed;
 
 // Returns the number of the coefficients of polynomial k: zeros at the end do not count.
@@ -20,14 +21,11 @@ pub fn size_of(output: &[u64; CERTIFICATE_VALUES], k: usize) -> usize
     requires { k < certificate_polynomials }
     ensures { result ≡ size_in output.now k }
 {
-    let mut size = Office::CERTIFICATE_COEFFICIENTS as usize;
-    while 0 < size {
-        if 0 < output[STRIDE * k + (size - 1)] {
-            return size;
-        }
-        size = size - 1;
-    }
-    0
+    let from = STRIDE * k;
+    output[from..from + Office::CERTIFICATE_COEFFICIENTS as usize]
+        .iter()
+        .rposition(|a| *a != 0)
+        .map_or(0, |last| last + 1)
 }
 
 // Stores the sizes of the first `count` polynomials.
@@ -40,10 +38,8 @@ fn store_sizes(
     ensures { SizesTaken output.now sizes.new count
         × (length sizes.new ≡ certificate_polynomials) }
 {
-    let mut k: usize = 0;
-    while k < count {
+    for k in 0..count {
         sizes[k] = size_of(output, k);
-        k = k + 1;
     }
 }
 
@@ -62,8 +58,12 @@ pub fn write_output(
         words.old words.new result }
 {
     let format = certificate_format(form, shape.rows as u32, shape.columns as u32);
-    let count = format.count;
-    let mut sizes = [0usize; Office::CERTIFICATE_POLYNOMIALS];
-    store_sizes(&mut sizes, output, count);
-    write_framed(words, &sizes, output, format)
+    let mut sizes = [0; Office::CERTIFICATE_POLYNOMIALS];
+    store_sizes(&mut sizes, output, format.count);
+    let polynomials = Polynomials {
+        sizes: &sizes,
+        coefficients: output,
+        format,
+    };
+    write_framed(words, polynomials)
 }

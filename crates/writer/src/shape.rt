@@ -7,7 +7,7 @@ ghost use Rattle.writer.specs.Writing.{refuse_shape};
 ghost use Rattle.writer.specs.Values.{shape_with};
 
 use answers::number::one_to;
-use answers::{Refusal, Verdict};
+use answers::{Reason, Refusal};
 use limits::Office;
 use residue::prime::is_prime;
 
@@ -15,32 +15,20 @@ use residue::prime::is_prime;
 const LARGEST_MODULUS: u32 = 65521;
 
 // Tries p, n and m: 2, then 3, at place 0.
-pub fn try_shape(rows: u32, columns: u32, modulus: u32) -> Verdict
+pub fn try_shape(rows: u32, columns: u32, modulus: u32) -> Result<(), Refusal>
     ensures { verdict_outcome result ≡ refuse_shape office (shape_with modulus rows columns) passed }
 {
-    if LARGEST_MODULUS < modulus {
-        return Verdict::Refused(Refusal {
-            number: 2,
+    if LARGEST_MODULUS < modulus || !is_prime(modulus as u16) {
+        return Err(Refusal {
+            reason: Reason::NotPrime,
             place: 0,
         });
     }
-    if !is_prime(modulus as u16) {
-        return Verdict::Refused(Refusal {
-            number: 2,
+    if !one_to(Office::ROWS as u32, rows) || !one_to(Office::COLUMNS as u32, columns) {
+        return Err(Refusal {
+            reason: Reason::BadShape,
             place: 0,
         });
     }
-    if !one_to(Office::ROWS as u32, rows) {
-        return Verdict::Refused(Refusal {
-            number: 3,
-            place: 0,
-        });
-    }
-    if !one_to(Office::COLUMNS as u32, columns) {
-        return Verdict::Refused(Refusal {
-            number: 3,
-            place: 0,
-        });
-    }
-    Verdict::Accepted
+    Ok(())
 }

@@ -7,7 +7,7 @@ ghost use Rattle.writer.specs.Values.{head_with, system_in_arrays};
 use crate::format::{Kind, SYSTEM_VALUES};
 use crate::values::write_shaped;
 use answers::number::one_to;
-use answers::{Counted, Refusal};
+use answers::{Reason, Refusal};
 use limits::Office;
 
 // Tries the number of right sides, 1, then writes a system over the first of the lent words. Polynomial k, of A row by row and then
@@ -21,15 +21,15 @@ pub fn write_system(
     columns: u32,
     sides: u32,
     modulus: u32,
-) -> Counted
+) -> Result<usize, Refusal>
     ensures { Writes
         (write_systems office (length words.old)
         (system_in_arrays office (head_with modulus rows columns sides) sizes.now coefficients.now))
         words.old result words.new }
 {
     if !one_to(Office::SIDES as u32, sides) {
-        return Counted::Refused(Refusal {
-            number: 1,
+        return Err(Refusal {
+            reason: Reason::BadSystemHead,
             place: 0,
         });
     }

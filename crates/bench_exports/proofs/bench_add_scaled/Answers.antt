@@ -1,12 +1,9 @@
-use mathlib.Core.Path.{refl, sym, ◌∙◌}
+use mathlib.Core.Path.{refl, sym, ap, ◌∙◌}
 use Prim.Native.Nat.{◌+◌}
 use native.Mathlib.Omega.{arith}
 use Rattle.bench_exports.specs.Rounds.{allowed, rounds}
 use Rattle.bench_exports.proofs.Rounding.{fits, start, sums_fit, turn, end}
 use Rattle.bench_exports.proofs.bench_add_scaled.Goals as goal
-
-pub shape_of-h-then-not-steps_fit : goal.shape_of-h-then-not-steps_fit
-shape_of-h-then-not-steps_fit c = refl
 
 pub returns-then-not-steps_fit : goal.returns-then-not-steps_fit
 unfolding allowed rounds
@@ -17,12 +14,6 @@ returns-then-not-steps_fit c = record {
 
 pub loop-t-init : goal.loop-t-init
 loop-t-init c = start (fits _ _ _ _ (sym c.steps_fit.ensures ∙ c.if-not-steps_fit.false))
-
-pub offset_bounds-counts-t : goal.offset_bounds-counts-t
-offset_bounds-counts-t c = omega (arith, c.loop-t.invariant.given.all)
-
-pub bounds-counts-t : goal.bounds-counts-t
-bounds-counts-t c = omega (arith, c.loop-t.invariant.given.all)
 
 pub add_scaled-requires : goal.add_scaled-requires
 add_scaled-requires c =
@@ -45,15 +36,11 @@ loop-t-preserved c =
     _
     c.add_scaled.ensures.words
 
-pub shape_of-h : goal.shape_of-h
-shape_of-h c = c.loop-t.invariant.same_length
-
 pub returns : goal.returns
 unfolding allowed
 returns c =
-    let passed = c in record {
-      count = rw
-          (sym passed.steps_fit.ensures ∙ passed.if-not-steps_fit.false)
-          (end c.loop-t.invariant c.loop-t-test.false);
-      words = c.loop-t.invariant.words;
+    let all = end c.loop-t.invariant c.loop-t-test.false in
+    record {
+      count = rw (sym c.steps_fit.ensures ∙ c.if-not-steps_fit.false) refl;
+      words = c.loop-t.invariant.words ∙ ap (λ t. rounds t c.args.factors.now c.args.counts.now c.args.s.now c.args.h.now) all;
     }

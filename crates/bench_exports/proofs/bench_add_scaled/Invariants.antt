@@ -1,11 +1,6 @@
 -- `bench_exports::bench_add_scaled` meets its contract: before turn t the words have had t steps. Assumes nothing.
-use Prim.Native.Nat.{◌-◌}
-use lib.ListN.{length}
 use Rattle.bench_exports.proofs.Rounding.{Rounding}
 use Rattle.bench_exports.proofs.bench_add_scaled.Given as goal
 
 abbrev pub invariant-loop-t : goal.invariant-loop-t
 invariant-loop-t l = Rounding l.initial.h l.s l.factors l.counts l.h l.t
-
-abbrev pub decreases-loop-t : goal.decreases-loop-t
-decreases-loop-t l = length l.factors - l.t

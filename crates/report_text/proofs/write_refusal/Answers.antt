@@ -1,60 +1,53 @@
 -- "refused" with the number, "at" with the place, the line's end.
-use Prim.Native.Nat.{◌<◌, ◌^◌, ℕ, ◌≤◌}
+use Prim.Native.Nat.{ℕ, ◌≤◌, ◌<◌, ◌^◌}
 use mathlib.Core.Path.{◌≡◌}
-use mathlib.Core.List.{List, [], ◌∷◌, ◌++◌}
+use mathlib.Core.List.{List}
 use native.Mathlib.Nat.{zero-add, le_trans}
 use native.Mathlib.Omega.{arith}
 use lib.ListN.{length}
-use Rattle.words.specs.Outcome.Outcome.{refused}
+use borrow.Author.Rules.{rules}
+use Rattle.answers.specs.declared.answer.Refusal.{Refusal}
+use Rattle.answers.specs.Answer.{reason_number, refused_by}
+use Rattle.report_text.specs.declared.text.Text.{Text}
 use Rattle.report_text.specs.Ascii.{ascii}
-use Rattle.report_text.specs.Decimal.{decimal}
-use Rattle.report_text.specs.Text.{spaced, report_text}
+use Rattle.report_text.specs.Text.{report_text}
 use Rattle.report_text.specs.Longest.{report_space, ReportWithin}
 use Rattle.report_text.proofs.LongestLaws.{report_fits}
-use Rattle.report_text.specs.WrittenLaws.{appended_whole}
-use Rattle.report_text.proofs.Due.{joined, Due, due_all, due_room, due_next, due_none}
-use Rattle.report_text.proofs.Lines.{line_three}
+use Rattle.report_text.proofs.Due.{Due, due_all, due_room, due_next, due_none, grown_whole}
+use Rattle.report_text.proofs.Lines.{parts_three, line_three}
 use Rattle.report_text.proofs.write_refusal.Goals as goal
 
--- what stands behind the number
-abbrev behind : ℕ → List (List ℕ)
-behind place = (ascii " at" ++ spaced (decimal place)) ∷ ascii "\n" ∷ []
+-- n is its number
+module _ (n : ℕ) (r : Refusal) (number : n ≡ reason_number r.reason) (few : n < 2 ^ 8) (far : r.place < 2 ^ 64) where
+  fits : (out : List ℕ) → report_space ≤ length out → length (report_text (refused_by r)) ≤ length out
+  unfolding ReportWithin
+  fits out room = le_trans (report_fits (refused_by r) (omega (arith, number), omega arith)) room
 
-abbrev parts : ℕ → ℕ → List (List ℕ)
-parts number place = (ascii "refused" ++ spaced (decimal number)) ∷ behind place
+  start : (out : List ℕ) (text : Text) → report_space ≤ length out → text.bytes.now ≡ out → text.length ≡ 0
+      → Due (report_text (refused_by r)) text (parts_three (ascii "refused") n (ascii "at") r.place) text
+  unfolding report_text
+  start out text room first none =
+      due_all _ (rw number (line_three (ascii "refused") (reason_number r.reason) (ascii "at") r.place))
+      (rw (first, none, zero-add) (fits out room))
 
-parts-joined : (number place : ℕ) → report_text (refused number place) ≡ joined (parts number place)
-unfolding report_text
-parts-joined number place = line_three (ascii "refused") (decimal number) (ascii "at") (decimal place)
+pub append_labelled-requires : goal.append_labelled-requires
+append_labelled-requires c =
+    due_room
+    (start _ c.args.refusal c.number-number.ensures (omega arith) (omega arith) _ c.new-text.result c.requires c.new-text.ensures.bytes c.new-text.ensures.none)
 
-fits : (number place : ℕ) (out : List ℕ) → number < 2 ^ 8 → place < 2 ^ 64 → report_space ≤ length out
-    → length (report_text (refused number place)) ≤ length out
-unfolding ReportWithin
-fits number place out few far room = le_trans (report_fits (refused number place) (omega arith, omega arith)) room
-
-start : (number place : ℕ) (out : List ℕ) → length (report_text (refused number place)) ≤ length out
-    → Due (report_text (refused number place)) out 0 (parts number place) out 0
-start number place out room = due_all _ (parts-joined number place) (rw zero-add room)
-
-pub append_labelled-numbered-requires : goal.append_labelled-numbered-requires
-append_labelled-numbered-requires c =
-    due_room (start _ c.args.refusal.place _ (fits c.args.refusal.number c.args.refusal.place _ (omega arith) (omega arith) c.requires))
-
-pub append_labelled-placed-requires : goal.append_labelled-placed-requires
-append_labelled-placed-requires c =
-    let room = fits c.args.refusal.number c.args.refusal.place c.args.out.now (omega arith) (omega arith) c.requires in
-    let numbered = due_next (start _ c.args.refusal.place _ room) c.append_labelled-numbered.ensures in
-    due_room numbered
+pub append_labelled-requires-2 : goal.append_labelled-requires-2
+append_labelled-requires-2 c =
+    let begun = start _ c.args.refusal c.number-number.ensures (omega arith) (omega arith) _ _ c.requires c.new-text.ensures.bytes c.new-text.ensures.none in
+    due_room (due_next begun c.append_labelled.ensures)
 
 pub append-requires : goal.append-requires
 append-requires c =
-    let room = fits c.args.refusal.number c.args.refusal.place c.args.out.now (omega arith) (omega arith) c.requires in
-    let numbered = due_next (start _ c.args.refusal.place _ room) c.append_labelled-numbered.ensures in
-    due_room (due_next numbered c.append_labelled-placed.ensures)
+    let begun = start _ c.args.refusal c.number-number.ensures (omega arith) (omega arith) _ _ c.requires c.new-text.ensures.bytes c.new-text.ensures.none in
+    due_room (due_next (due_next begun c.append_labelled.ensures) c.append_labelled-2.ensures)
 
 pub returns : goal.returns
 returns c =
-    let room = fits c.args.refusal.number c.args.refusal.place c.args.out.now (omega arith) (omega arith) c.requires in
-    let numbered = due_next (start _ c.args.refusal.place _ room) c.append_labelled-numbered.ensures in
-    let placed = due_next numbered c.append_labelled-placed.ensures in
-    appended_whole room (due_none (due_next placed c.append.ensures))
+    let begun = start _ c.args.refusal c.number-number.ensures (omega arith) (omega arith) _ _ c.requires c.new-text.ensures.bytes c.new-text.ensures.none in
+    let placed = due_next (due_next begun c.append_labelled.ensures) c.append_labelled-2.ensures in
+    grown_whole (fits _ c.args.refusal c.number-number.ensures (omega arith) (omega arith) _ c.requires) c.new-text.ensures.bytes c.new-text.ensures.none (search rules)
+    (due_none (due_next placed c.append.ensures))

@@ -4,24 +4,21 @@ use mathlib.Core.Path.{◌≡◌}
 use mathlib.Core.List.{List, [], ◌∷◌, ◌++◌, append_assoc, append-nil}
 use native.Mathlib.Nat.{zero-add, le_trans}
 use lib.ListN.{length}
+use borrow.Author.Rules.{rules}
 use Rattle.modular.specs.Delay.{delay, feedback}
 use Rattle.words.specs.Limits.{office}
 use Rattle.words.specs.Outcome.Outcome.{accepted}
 use Rattle.truth.specs.Solution.Answer.{least}
+use Rattle.report_text.specs.declared.text.Text.{Text}
 use Rattle.report_text.specs.Ascii.{ascii}
 use Rattle.report_text.specs.Text.{denominator_line, feedback_line, solution_text, report_text}
 use Rattle.report_text.specs.Longest.{DenominatorWithin, report_space, ReportWithin}
 use Rattle.report_text.proofs.LongestLaws.{report_fits}
-use Rattle.report_text.specs.WrittenLaws.{appended_whole}
-use Rattle.report_text.proofs.Due.{joined, Due, due_all, due_room, due_next, due_none}
+use Rattle.report_text.proofs.Due.{joined, Due, due_all, due_room, due_next, due_none, grown_whole}
 use Rattle.report_text.proofs.write_solution.Goals as goal
 
--- what stands behind the first line
-abbrev behind : List ℕ → List (List ℕ)
-behind d = denominator_line d ∷ feedback_line (feedback d) (delay d) ∷ []
-
 abbrev parts : List ℕ → List (List ℕ)
-parts d = ascii "answer solution\n" ∷ behind d
+parts d = ascii "answer solution\n" ∷ denominator_line d ∷ feedback_line (feedback d) (delay d) ∷ []
 
 three : (a b c : List ℕ) → a ++ b ++ c ≡ joined (a ∷ b ∷ c ∷ [])
 three a b c = simp (append_assoc, append-nil)
@@ -35,24 +32,19 @@ fits : (d out : List ℕ) → DenominatorWithin office d × (report_space ≤ le
 unfolding ReportWithin
 fits d out within = le_trans (report_fits (accepted (least d)) within.0) within.1
 
-start : (d out : List ℕ) → DenominatorWithin office d × (report_space ≤ length out)
-    → Due (report_text (accepted (least d))) out 0 (parts d) out 0
-start d out within = due_all _ (parts-joined d) (rw zero-add (fits d out within))
+start : (d out : List ℕ) (text : Text) → DenominatorWithin office d × (report_space ≤ length out) → text.bytes.now ≡ out
+    → text.length ≡ 0 → Due (report_text (accepted (least d))) text (parts d) text
+start d out text within first none = due_all _ (parts-joined d) (rw (first, none, zero-add) (fits d out within))
 
-pub append-first-requires : goal.append-first-requires
-append-first-requires c = due_room (start c.args.d.now _ c.requires)
-
-pub append_denominator-second-requires : goal.append_denominator-second-requires
-append_denominator-second-requires c =
-    let answered = due_next (start c.args.d.now c.args.out.now c.requires) c.append-first.ensures in due_room answered
+pub append_denominator-requires : goal.append_denominator-requires
+append_denominator-requires c = due_room (due_next (start c.args.d.now _ _ c.requires c.new-text.ensures.bytes c.new-text.ensures.none) c.append.ensures)
 
 pub append_feedback-requires : goal.append_feedback-requires
 append_feedback-requires c =
-    let answered = due_next (start c.args.d.now c.args.out.now c.requires) c.append-first.ensures in
-    due_room (due_next answered c.append_denominator-second.ensures)
+    due_room (due_next (due_next (start c.args.d.now _ _ c.requires c.new-text.ensures.bytes c.new-text.ensures.none) c.append.ensures) c.append_denominator.ensures)
 
 pub returns : goal.returns
 returns c =
-    let answered = due_next (start c.args.d.now c.args.out.now c.requires) c.append-first.ensures in
-    let divided = due_next answered c.append_denominator-second.ensures in
-    appended_whole (fits c.args.d.now _ c.requires) (due_none (due_next divided c.append_feedback.ensures))
+    let divided = due_next (due_next (start c.args.d.now _ _ c.requires c.new-text.ensures.bytes c.new-text.ensures.none) c.append.ensures) c.append_denominator.ensures in
+    grown_whole (fits c.args.d.now _ c.requires) c.new-text.ensures.bytes c.new-text.ensures.none (search rules)
+    (due_none (due_next divided c.append_feedback.ensures))

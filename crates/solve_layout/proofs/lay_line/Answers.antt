@@ -16,20 +16,17 @@ load_line-requires c =
 
 pub lay_area-requires : goal.lay_area-requires
 lay_area-requires c =
-    let S = c in
-    let R = told_as _ _ S.requires.words_value in
+    let R = told_as _ _ c.requires.words_value in
     let A = c.load_line.new.area in
     let room : length A ≡ line_polynomials * system_width = search rules in record {
-      rows_le_lanes = (few_rows R, few_columns R, S.requires.area.0);
+      rows_le_lanes = (few_rows R, few_columns R, c.requires.area.0);
       slots = loaded_fits R A room c.load_line.ensures;
     }
 
 pub returns : goal.returns
 returns c =
-    let L = c in
-    let S = L in
-    let A = L.load_line.new.area in
+    let R = told_as _ _ c.requires.words_value in
+    let A = c.load_line.new.area in
     let room : length A ≡ line_polynomials * system_width = search rules in
-    let R = told_as _ _ S.requires.words_value in
-    told_back _ _ S.requires.words_value _
-    (laid_back R A room L.load_line.ensures S.args.input.now _ S.requires.area.0 S.requires.area.1 c.lay_area.ensures)
+    told_back _ _ c.requires.words_value _
+    (laid_back R A room c.load_line.ensures c.args.input.now _ c.requires.area.0 c.requires.area.1 c.lay_area.ensures)

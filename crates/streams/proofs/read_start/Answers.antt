@@ -17,6 +17,6 @@ filled a k n xs ys within fits =
 pub loop-done-preserved : goal.loop-done-preserved
 loop-done-preserved g c = (
   search rules,
-  subst (Consumes _ _) (filled _ _ _ _ _ c.loop-done.invariant.0 c.in-Ok.ensures.bound.0)
-      (Consumes-trans _ _ _ _ _ c.loop-done.invariant.1 c.in-Ok.ensures.bytes.0),
+  subst (Consumes _ _) (filled _ _ _ _ _ c.loop-done.invariant.0 c.in_ok-more.ensures.bound.0)
+      (Consumes-trans _ _ _ _ _ c.loop-done.invariant.1 c.in_ok-more.ensures.bytes.0),
 )

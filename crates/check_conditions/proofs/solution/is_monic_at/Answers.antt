@@ -1,19 +1,28 @@
--- The leading coefficient is the last word, or there is none.
-use mathlib.Core.Path.{sym, ap, ◌∙◌}
+-- The leading coefficient is the last word; without one it is 0.
+use mathlib.Core.Path.{◌≡◌, refl, ap, ◌∙◌}
+use mathlib.Core.List.{List}
+use Prim.Native.Nat.{ℕ, ◌-◌}
+use denote.Ref.{Bor}
 use lib.Dec.{eqb}
 use lib.ListN.{length}
-use native.Mathlib.Omega.{arith}
+use Rattle.std.proofs.Common.{Option, Some, None}
+use Rattle.std.specs.Option.{option_eq, option_copied, unwrap_or}
+use Rattle.std.proofs.lemmas.Option.{unwrap_or-slice_get}
 use Rattle.algebra.specs.Coefficients.{leading}
 use Rattle.modular.specs.Modulo.{modulo}
-use Rattle.check_conditions.proofs.Monic.{last_leading, leading_none}
+use Rattle.polynomial.proofs.Made.{leading_last}
 use Rattle.check_conditions.proofs.solution.is_monic_at.Goals as goal
 
-pub returns-then-n-eq0 : goal.returns-then-n-eq0
-returns-then-n-eq0 c = λ p.
-    let is = c.coefficients_in-f.ensures in
-    sym (ap (λ a. eqb a 1) (leading_none p _ (sym (ap length is) ∙ c.if-n-eq0.true)))
+is_some_one : (o : Option (Bor ℕ)) (one : Bor ℕ) → one.now ≡ 1
+    → option_eq (λ x y. eqb x.now y.now) o (Some one) ≡ eqb (unwrap_or (option_copied o) 0) 1
+is_some_one None one e = refl
+is_some_one (Some x) one e = ap (eqb x.now) e
 
 pub returns : goal.returns
 returns c = λ p.
-    let is = c.coefficients_in-f.ensures in
-    ap (λ a. eqb a 1) (last_leading p _ (omega (arith, c.if-n-eq0.false)) ∙ ap (leading (modulo p)) is)
+    let is = c.coefficients_in.ensures in
+    let f : List ℕ = c.coefficients_in.result.now in
+    c.eq.ensures
+    ∙ is_some_one c.last.result _ refl
+    ∙ ap (λ o. eqb (unwrap_or o 0) 1) c.last.ensures.value
+    ∙ ap (λ a. eqb a 1) (unwrap_or-slice_get f (length f - 1) 0 ∙ leading_last p f ∙ ap (leading (modulo p)) is)

@@ -1,32 +1,19 @@
 use mathlib.Core.Path.{◌≡◌, refl}
-use Prim.Native.Nat.{◌+◌, ◌<◌}
+use Prim.Native.Nat.{◌<◌}
 use native.Mathlib.Omega.{arith}
 use lib.ListN.{length}
 use borrow.Author.Rules.{rules}
-use Rattle.residue.specs.Modulus.{ValidModulus}
+use Rattle.residue.specs.Modulus.{ValidModulus, valid_modulus}
 use Rattle.polynomial.specs.Value.{represents_is, polynomial_room}
 use Rattle.loader.specs.SlotLaws.{taken_canonical, taken_size, canonical_word}
 use Rattle.check_conditions.specs.Products.{product}
-use Rattle.check_conditions.proofs.Summing.{summing_start, summing_fits, summing_small, summing_turn, summing_end}
+use Rattle.check_conditions.proofs.Summing.{summing_start, summing_fits, summing_turn, summing_end}
 use Rattle.check_conditions.proofs.sum.sum_of_products.Goals as goal
 
 pub loop-k-init : goal.loop-k-init
 loop-k-init c =
     let S = c in
-    summing_start _ (omega (arith, S.requires.valid_modulus.0.prime.large)) _ _ _ c.zeros-h.ensures.0 c.zeros-h.ensures.1
-
-pub overflow_mul-k : goal.overflow_mul-k
-overflow_mul-k c =
-    omega (arith, (c.requires.system c.loop-k.k c.loop-k-test.true).room)
-
-pub overflow_add-first : goal.overflow_add-first
-overflow_add-first c =
-    omega (arith, (c.requires.system c.loop-k.k c.loop-k-test.true).room)
-
-pub coefficients_in-f-requires : goal.coefficients_in-f-requires
-coefficients_in-f-requires c =
-    let filled = c.requires.system c.loop-k.k c.loop-k-test.true in
-    (filled.room, filled.size)
+    summing_start _ (omega (arith, (valid_modulus S.args.modulus).prime.large)) _ _ _ c.zeros-h.ensures.0 c.zeros-h.ensures.1
 
 pub overflow_add-start : goal.overflow_add-start
 overflow_add-start c =
@@ -47,7 +34,7 @@ add_rows-requires c =
     let S = c in
     let L = c.loop-k in
     let taken = c.loop-k-test.true in
-    let m : ValidModulus S.args.modulus = S.requires.valid_modulus.0 in
+    let m : ValidModulus S.args.modulus = valid_modulus S.args.modulus in
     let positive : 0 < S.args.modulus.p = omega (arith, m.prime.large) in
     let f = S.requires.system L.k taken in
     let g = S.requires.certificate L.k taken in
@@ -56,7 +43,7 @@ add_rows-requires c =
     let long : length L.h ≡ polynomial_room = L.invariant.long in record {
       n_in_bounds = (omega arith, omega arith, omega (arith, taken_size is_f f, taken_size is-g g), omega (arith, taken_size is_f f));
       small = (
-        summing_fits _ positive _ _ _ _ L.invariant S.requires.valid_modulus.1 m.limit,
+        summing_fits _ positive _ _ _ _ L.invariant S.requires.bounds m.limit,
         λ i. omega (arith, canonical_word _ positive _ (taken_canonical is_f f) i, m.limit),
         λ i. omega (arith, canonical_word _ positive _ (taken_canonical is-g g) i, m.limit),
       );
@@ -68,7 +55,7 @@ loop-k-preserved c =
     let S = c in
     let L = c.loop-k in
     let taken = c.loop-k-test.true in
-    let positive : 0 < S.args.modulus.p = omega (arith, S.requires.valid_modulus.0.prime.large) in
+    let positive : 0 < S.args.modulus.p = omega (arith, (valid_modulus S.args.modulus).prime.large) in
     let f = S.requires.system L.k taken in
     let g = S.requires.certificate L.k taken in
     let is_f = c.coefficients_in-f.ensures in
@@ -93,16 +80,6 @@ loop-k-preserved c =
     called.new.h
     (search rules)
     called.ensures
-
-pub from_words-requires : goal.from_words-requires
-from_words-requires c =
-    let S = c in
-    let L = c.loop-k in
-    let m : ValidModulus S.args.modulus = S.requires.valid_modulus.0 in
-    let positive : 0 < S.args.modulus.p = omega (arith, m.prime.large) in record {
-      valid_modulus = (m, omega arith, omega (arith, L.invariant.long));
-      small = λ i lt. summing_small _ positive _ _ _ _ L.invariant S.requires.valid_modulus.1 (0 + i);
-    }
 
 pub returns : goal.returns
 returns c =

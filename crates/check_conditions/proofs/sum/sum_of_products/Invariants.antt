@@ -1,5 +1,4 @@
 -- The loop keeps a `Summing`.
-use Prim.Native.Nat.{◌-◌}
 use Rattle.check_conditions.specs.Products.{product}
 use Rattle.check_conditions.proofs.Summing.{Summing}
 use Rattle.check_conditions.proofs.sum.sum_of_products.Given as goal
@@ -7,6 +6,3 @@ use Rattle.check_conditions.proofs.sum.sum_of_products.Given as goal
 abbrev pub invariant-loop-k : goal.invariant-loop-k
 invariant-loop-k l =
     Summing l.modulus.p (product l.modulus.p l.system l.first l.step l.certificate l.start) l.count l.h l.k
-
-abbrev pub decreases-loop-k : goal.decreases-loop-k
-decreases-loop-k l = l.count - l.k

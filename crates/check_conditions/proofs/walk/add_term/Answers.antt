@@ -1,31 +1,10 @@
 -- Where there is no coefficient, 0 is added.
-use Prim.Native.Nat.{ℕ, ◌+◌, ◌*◌, ◌<◌}
-use native.Mathlib.Nat.{mul-le-mul}
-use native.Mathlib.Omega.{arith}
+use Prim.Native.Nat.{ℕ, ◌*◌}
 use lib.ListN.{get_or, get_or-eq_default}
-use Rattle.modular.specs.Bits.{most16, bound32, bound64}
 use Rattle.check_conditions.specs.Walk.{carried_width}
 use Rattle.check_conditions.proofs.Adding.{column_room, nothing_added}
 use Rattle.check_conditions.proofs.walk.add_term.Goals as goal
 use Rattle.check_conditions.proofs.walk.add_term.Goals.{else-k-f-via-then-k-f+else-f-k-ne0, else-k-f-via-else-k-f}
-
-pub add_scaled-requires : goal.add_scaled-requires
-add_scaled-requires c =
-    let S = c in
-    let given = S.requires.carried_len in
-    let small = S.requires.small in
-    let below : (i : ℕ) → get_or S.args.window.now i 0 < bound32 = λ i. omega (arith, small.2 i) in
-    let a : ℕ = get_or S.args.f.now S.args.k 0 in
-    let fits : (x i : ℕ) → get_or S.args.carried.now x 0 + a * get_or S.args.window.now i 0 < bound64 =
-    λ x i. omega (arith, small.0 x, mul-le-mul {n₂ = most16} {m₂ = most16} (small.1 S.args.k) (small.2 i)) in record {
-      n_in_bounds = (
-        column_room S.args.carried.now given.0 given.1 given.4,
-        omega (arith, given.2, given.3, given.4),
-        omega (arith, small.1 S.args.k),
-      );
-      small = λ t lt. below _;
-      fits = λ t lt. fits _ _;
-    }
 
 pub returns-else-k-f : goal.returns-else-k-f
 returns-else-k-f c =

@@ -1,5 +1,5 @@
 -- The loop keeps a `Walking`: what is carried, and what the coefficients that are left add.
-use Prim.Native.Nat.{◌+◌, ◌-◌, ◌*◌}
+use Prim.Native.Nat.{◌+◌, ◌*◌}
 use Rattle.algebra.specs.Coefficients.{mul}
 use Rattle.modular.specs.Modulo.{modulo}
 use Rattle.modular.specs.Delay.{degree}
@@ -12,12 +12,9 @@ use Rattle.check_conditions.proofs.walk.take_row.Given as goal
 
 abbrev pub invariant-loop-k : goal.invariant-loop-k
 invariant-loop-k l =
-    Walking l.dimensions.modulus.p l.w l.dimensions.columns (l.i * office.system_coefficients)
-    (λ j. slot system_width l.system (l.i * l.dimensions.columns + j))
-    (λ j. take_along l.dimensions.modulus.p l.w (carried_in l.dimensions.modulus.p (degree l.w) l.initial.carried j)
-    (mul (modulo l.dimensions.modulus.p) (slot certificate_width l.certificate (l.dimensions.columns + 2 + l.i))
-    (slot system_width l.system (l.i * l.dimensions.columns + j))))
+    Walking l.areas.dimensions.modulus.p l.w l.areas.dimensions.columns (l.i * office.system_coefficients)
+    (λ j. slot system_width l.areas.system.now (l.i * l.areas.dimensions.columns + j))
+    (λ j. take_along l.areas.dimensions.modulus.p l.w (carried_in l.areas.dimensions.modulus.p (degree l.w) l.initial.carried j)
+    (mul (modulo l.areas.dimensions.modulus.p) (slot certificate_width l.areas.certificate.now (l.areas.dimensions.columns + 2 + l.i))
+    (slot system_width l.areas.system.now (l.i * l.areas.dimensions.columns + j))))
     l.longest l.carried l.window l.k
-
-abbrev pub decreases-loop-k : goal.decreases-loop-k
-decreases-loop-k l = l.longest - l.k

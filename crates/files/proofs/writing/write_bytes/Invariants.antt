@@ -1,10 +1,8 @@
--- The invariant: the first i of the words for which there is room are written.
-use Prim.Native.Nat.{◌-◌}
-use Rattle.files.proofs.WordBytes.{BytesWritten}
+-- The bytes of the words before the loop's place are written, those from it on are as they were lent.
+use Rattle.std.proofs.Common.{◌≡◌, ◌*◌}
+use Rattle.words.specs.Bytes.{bytes_of, word_bytes}
+use Rattle.files.proofs.Filling.{filled}
 use Rattle.files.proofs.writing.write_bytes.Given as goal
 
 abbrev pub invariant-loop-i : goal.invariant-loop-i
-invariant-loop-i l = BytesWritten l.words l.initial.bytes l.count l.bytes l.i
-
-abbrev pub decreases-loop-i : goal.decreases-loop-i
-decreases-loop-i l = l.count - l.i
+invariant-loop-i l = l.bytes ≡ filled (bytes_of l.words) l.initial.bytes (word_bytes * l.i)

@@ -1,12 +1,10 @@
-use native.Mathlib.Omega.{arith}
-use lib.ListN.{length-set}
+-- The part that is copied over has the four bytes.
+use Rattle.std.proofs.Common.{◌∙◌, refl, arith}
+use Rattle.std.proofs.lemmas.Slice.{put_mid-paste}
+use Rattle.files.proofs.WordBytes.{four_set}
 use Rattle.files.proofs.writing.write_word.Goals as goal
 
-pub bounds-bytes-at-2 : goal.bounds-bytes-at-2
-bounds-bytes-at-2 c = simp length-set (omega arith)
-
-pub bounds-bytes-at-3 : goal.bounds-bytes-at-3
-bounds-bytes-at-3 c = simp length-set (omega arith)
-
-pub bounds-bytes-at-4 : goal.bounds-bytes-at-4
-bounds-bytes-at-4 c = simp length-set (omega arith)
+pub returns : goal.returns
+returns c =
+    put_mid-paste _ _ _ _ _ 4 (c.copy_from_slice.ensures.after ∙ c.to_le_bytes.ensures) (omega arith) refl
+    ∙ four_set c.args.bytes.now c.args.at _ _ _ _ _ c.requires (omega arith)

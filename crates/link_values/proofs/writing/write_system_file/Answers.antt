@@ -2,7 +2,6 @@
 use mathlib.Core.Path.{sym, subst}
 use Rattle.writer.specs.Values.{head_with}
 use Rattle.answers.specs.Packed.{packed_most, AnswerMost}
-use Rattle.link_values.specs.GivingLaws.{gives_packed}
 use Rattle.link_values.proofs.Small.{write_small}
 use Rattle.link_values.proofs.writing.write_system_file.Goals as goal
 
@@ -12,6 +11,3 @@ pack_counted-requires c =
     let a = call.args in
     subst (AnswerMost packed_most packed_most) (sym call.write_to_bytes.ensures.told)
     (write_small _ (head_with a.modulus a.rows a.columns a.sides) a.sizes.now a.coefficients.now)
-
-pub returns : goal.returns
-returns c = gives_packed c.write_to_bytes.ensures c.pack_counted.ensures

@@ -28,22 +28,20 @@ module _ (p : ℕ) (positive : 0 < p) (h s : List ℕ) (a n : ℕ) (room : n ≤
       ap (λ (l : List ℕ). polynomial p l 0 n) words
       ∙ polynomial_stored p positive (λ j. get_or s (a + j) 0 % p) h 0 n (omega arith) s a (λ j lt. mod-mod (get_or s (a + j) 0) p)
 
-pub find_leading-leading-requires : goal.find_leading-leading-requires
-find_leading-leading-requires c =
-    let S = c in
-    let positive : 0 < S.args.modulus.p = omega (arith, S.requires.valid_modulus.0.prime.large) in
+pub find_leading-requires : goal.find_leading-requires
+find_leading-requires c =
+    let positive : 0 < c.args.modulus.p = omega (arith, c.args.modulus.valid.prime.large) in
     let words = c.copy_reduced.ensures in
-    let p = S.args.modulus.p in record {
-      valid_modulus = (S.requires.valid_modulus.0, still-room p positive _ S.args.s.now S.args.a S.args.n (omega arith) words);
-      sums = reducible p positive _ S.args.s.now S.args.a S.args.n (omega arith) words;
+    let p = c.args.modulus.p in record {
+      bounds = still-room p positive _ c.args.s.now c.args.a c.args.n (omega arith) words;
+      sums = reducible p positive _ c.args.s.now c.args.a c.args.n (omega arith) words;
     }
 
 pub returns : goal.returns
 returns c =
-    let S = c in
-    let positive : 0 < S.args.modulus.p = omega (arith, S.requires.valid_modulus.0.prime.large) in
+    let positive : 0 < c.args.modulus.p = omega (arith, c.args.modulus.valid.prime.large) in
     let words = c.copy_reduced.ensures in record {
       words = words;
-      size = c.find_leading-leading.ensures.size
-          ∙ ap length (same S.args.modulus.p positive _ S.args.s.now S.args.a S.args.n (omega arith) words);
+      size = c.find_leading.ensures.size
+          ∙ ap length (same c.args.modulus.p positive _ c.args.s.now c.args.a c.args.n (omega arith) words);
     }

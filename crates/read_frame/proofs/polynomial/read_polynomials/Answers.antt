@@ -1,43 +1,26 @@
-use mathlib.Core.Path.{sym}
-use native.Mathlib.Omega.{arith}
+use Rattle.std.proofs.Common.{◌≡◌, ◌+◌, sym, ap, ◌∙◌, Err, rules}
+use Rattle.std.proofs.lemmas.Result.{err_from_is_err_and}
+use Rattle.answers.specs.Answer.{used_outcome}
+use Rattle.read_frame.proofs.Later.{told_err, told_ok}
 use Rattle.read_frame.proofs.PolynomialTurns.{passed_start, passed_next, passed_refused, passed_end}
 use Rattle.read_frame.proofs.polynomial.read_polynomials.Goals as goal
 
-pub loop-due-init : goal.loop-due-init
-loop-due-init c = passed_start _ _ _ _
+pub loop-init : goal.loop-init
+loop-init c = passed_start _ _ _ _
 
-pub overflow_add-at : goal.overflow_add-at
-overflow_add-at c =
-    let r = c in
-    let told = c.in-Count.ensures in
-    omega (
-      arith,
-      (passed_next _ _ _ _ _ _ r.loop-due.invariant r.loop-due-test.true
-          c.in-Count.used told).within,
-    )
+pub returns-in_err-at : goal.returns-in_err-at
+returns-in_err-at c =
+    let t = told_err c.read_polynomial.result c.map_err.result _ _ c.map_err.ensures.cases c.in_err-at.was in
+    let later : c.in_err-at.field-0.0 ≡ record t.0 { place = c.loop.at + t.0.place } = search rules in
+    let p = err_from_is_err_and c.from_residual.result c.from_residual.ensures.1 in
+    let e : c.from_residual.result ≡ Err (record t.0 { place = c.loop.at + t.0.place }) = cc in
+    ap used_outcome e
+    ∙ sym (passed_refused _ _ _ _ _ _ c.loop.invariant c.loop-test.true _ _ (sym (ap used_outcome t.1) ∙ c.read_polynomial.ensures)).1
 
-pub overflow_add-result : goal.overflow_add-result
-overflow_add-result c =
-    let r = c in
-    let told = c.in-Refused.ensures in
-    omega (
-      arith,
-      (passed_refused _ _ _ _ _ _ r.loop-due.invariant r.loop-due-test.true
-          c.in-Refused.refusal.number c.in-Refused.refusal.place told).0,
-    )
-
-pub returns-in-Refused : goal.returns-in-Refused
-returns-in-Refused c =
-    let r = c in
-    let told = c.in-Refused.ensures in
-    sym (passed_refused _ _ _ _ _ _ r.loop-due.invariant r.loop-due-test.true c.in-Refused.refusal.number
-    c.in-Refused.refusal.place told).1
-
-pub loop-due-preserved : goal.loop-due-preserved
-loop-due-preserved c =
-    let r = c in
-    let told = c.in-Count.ensures in
-    passed_next _ _ _ _ _ _ r.loop-due.invariant r.loop-due-test.true c.in-Count.used told
+pub loop-preserved : goal.loop-preserved
+loop-preserved c =
+    let t = told_ok c.read_polynomial.result c.map_err.result _ _ c.map_err.ensures.cases c.in_ok-at.was in
+    passed_next _ _ _ _ _ _ c.loop.invariant c.loop-test.true _ (sym (ap used_outcome t) ∙ c.read_polynomial.ensures)
 
 pub returns : goal.returns
-returns c = sym (passed_end _ _ _ _ _ _ c.loop-due.invariant (omega arith))
+returns c = sym (passed_end _ _ _ _ _ _ c.loop.invariant c.loop-test.false)

@@ -1,18 +1,13 @@
 -- `reader::certificate::entry_count` meets its contract.
-use mathlib.Core.Path.{sym, ap}
+use Rattle.std.proofs.Common.{arith}
+use Rattle.std.proofs.lemmas.Grind.{common_steps}
 use Rattle.words.specs.Certificate.{entry_count}
-use Rattle.answers.specs.declared.shape.Form.{Form}
-use Rattle.answers.specs.Answer.{shape_of, form_of}
 use Rattle.reader.proofs.certificate.entry_count.Goals as goal
 
 pub returns-in-Solution : goal.returns-in-Solution
 unfolding entry_count
-returns-in-Solution c =
-    ap (λ (f : Form). entry_count (shape_of c.args.shape) (form_of f))
-    (sym c.in-Solution.is)
+returns-in-Solution c = grind (arith, common_steps)
 
 pub returns-in-Absence : goal.returns-in-Absence
 unfolding entry_count
-returns-in-Absence c =
-    ap (λ (f : Form). entry_count (shape_of c.args.shape) (form_of f))
-    (sym c.in-Absence.is)
+returns-in-Absence c = grind (arith, common_steps)

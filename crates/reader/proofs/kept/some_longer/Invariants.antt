@@ -1,10 +1,6 @@
--- `reader::kept::some_longer` meets its contract: before turn k none of the first k polynomials is longer.
-use Prim.Native.Nat.{◌-◌}
+-- `reader::kept::some_longer` meets its contract: before each turn none of the polynomials so far is longer.
 use Rattle.reader.proofs.KeptSteps.{Walked}
 use Rattle.reader.proofs.kept.some_longer.Given as goal
 
-abbrev pub invariant-loop-k : goal.invariant-loop-k
-invariant-loop-k l = Walked l.words l.count l.most l.place l.k
-
-abbrev pub decreases-loop-k : goal.decreases-loop-k
-decreases-loop-k l = l.count - l.k
+abbrev pub invariant-loop : goal.invariant-loop
+invariant-loop l = Walked l.words l.count l.most l.place l.counter

@@ -1,59 +1,21 @@
--- `reader::kept::system_exceeds` meets its contract: the numbers of the head one after another, then the polynomials.
-use native.Mathlib.Omega.{arith}
+-- `reader::kept::system_exceeds` meets its contract: the numbers of the head, then the polynomials.
+use Rattle.std.proofs.Common.{⊎_elim}
 use Rattle.limits.specs.Value.{limits_of}
-use Rattle.reader.proofs.KeptSteps.{system_has, system_few, rows_exceed, columns_exceed, sides_exceed, entries_exceed}
+use Rattle.reader.proofs.KeptSteps.{system_has, rows_exceed, columns_exceed, sides_exceed, entries_exceed}
 use Rattle.reader.proofs.kept.system_exceeds.Goals as goal
 
 pub returns-then-kept-shape : goal.returns-then-kept-shape
 returns-then-kept-shape c =
-    let S = c in
-    rows_exceed (limits_of S.args.kept) _ _ S.requires c.if-kept-shape.true
-
-pub returns-then-kept-shape-2 : goal.returns-then-kept-shape-2
-returns-then-kept-shape-2 c =
-    let first = c in
-    let S = first in
-    columns_exceed (limits_of S.args.kept) _ _ S.requires first.if-kept-shape.false c.if-kept-shape-2.true
-
-pub returns-then-kept-head : goal.returns-then-kept-head
-returns-then-kept-head c =
-    let second = c in
-    let first = second in
-    let S = first in
-    sides_exceed (limits_of S.args.kept) _ _ S.requires first.if-kept-shape.false second.if-kept-shape-2.false c.if-kept-head.true
-
-pub overflow_mul-rows : goal.overflow_mul-rows
-overflow_mul-rows c =
-    let third = c in
-    let S = third in
-    let few = system_few (limits_of S.args.kept) _ _ S.requires in
-    omega arith
-
-pub overflow_mul-sides : goal.overflow_mul-sides
-overflow_mul-sides c =
-    let third = c in
-    let S = third in
-    let few = system_few (limits_of S.args.kept) _ _ S.requires in
-    omega arith
-
-pub overflow_add-rows : goal.overflow_add-rows
-overflow_add-rows c =
-    let third = c in
-    let S = third in
-    let few = system_few (limits_of S.args.kept) _ _ S.requires in
-    omega arith
+    let kept = limits_of c.args.kept in
+    ⊎_elim (rows_exceed kept _ _ c.requires)
+    (⊎_elim (λ h. columns_exceed kept _ _ c.requires h.0 h.1) (λ h. sides_exceed kept _ _ c.requires h.0 h.1 h.2))
+    c.then-kept-shape.either
 
 pub some_longer-requires : goal.some_longer-requires
 some_longer-requires c =
-    let third = c in
-    let S = third in
-    system_has (limits_of S.args.kept) _ _ S.requires
+    rw (c.from-rows.ensures, c.from.ensures, c.from-2.ensures) (system_has (limits_of c.args.kept) _ _ c.requires)
 
 pub returns : goal.returns
 returns c =
-    let third = c in
-    let second = third in
-    let first = second in
-    let S = first in
-    entries_exceed (limits_of S.args.kept) _ _ S.requires first.if-kept-shape.false second.if-kept-shape-2.false third.if-kept-head.false
-    c.some_longer.ensures
+    entries_exceed (limits_of c.args.kept) _ _ c.requires c.if-kept-shape.false c.if-kept-shape-2.false c.if-kept-head.false
+    (rw (c.from-rows.ensures, c.from.ensures, c.from-2.ensures, c.from-3.ensures) at c.some_longer.ensures)

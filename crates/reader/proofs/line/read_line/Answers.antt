@@ -1,18 +1,10 @@
 -- `reader::line::read_line` meets its contract: what is told of the sheet is told of its line.
-use mathlib.Core.Path.{sym, ap, ◌∙◌}
+use Rattle.std.proofs.Common.{rules, ◌∙◌}
 use Rattle.limits.specs.Value.{limits_of}
-use Rattle.answers.specs.Answer.{system_outcome}
-use Rattle.reader.proofs.LineSteps.{line_shape}
+use Rattle.reader.proofs.LineSteps.{line_shape, line_mapped}
 use Rattle.reader.proofs.line.read_line.Goals as goal
 
-pub returns-in-Accepted : goal.returns-in-Accepted
-returns-in-Accepted c =
-    let r = c in
-    let a = r.args in
-    line_shape (limits_of a.limits) a.side a.words.now (sym (ap system_outcome c.in-Accepted.is) ∙ r.read_sided-read.ensures)
-
-pub returns-in-Refused : goal.returns-in-Refused
-returns-in-Refused c =
-    let r = c in
-    let a = r.args in
-    line_shape (limits_of a.limits) a.side a.words.now (sym (ap system_outcome c.in-Refused.is) ∙ r.read_sided-read.ensures)
+pub returns : goal.returns
+returns c =
+    let m = line_mapped c.read_sided.result c.map.result _ c.map.ensures.cases in
+    m (λ h x k. search rules) ∙ line_shape (limits_of c.args.limits) c.args.side c.args.words.now c.read_sided.ensures

@@ -1,63 +1,36 @@
 -- `reader::system::read_system` meets its contract, from what its head and the words behind it tell.
-use mathlib.Core.Path.{sym, ap, ◌∙◌}
-use Prim.Native.Nat.{◌≤◌}
-use native.Mathlib.Nat.{mul-le-mul}
-use native.Mathlib.Omega.{arith}
-use Rattle.modular.specs.Bits.{most8}
+use Rattle.std.proofs.Common.{◌≡◌, sym, ap, ◌∙◌, rules}
 use Rattle.limits.specs.Value.{limits_of}
-use Rattle.answers.specs.Answer.{head_of, counted_outcome, system_outcome}
+use Rattle.answers.specs.declared.answer.Of.TheVariants.{System}
+use Rattle.answers.specs.declared.answer.Reason.TheVariants.{Words}
+use Rattle.answers.specs.Answer.{head_of, used_outcome, system_outcome}
+use Rattle.read_frame.proofs.Later.{told_ok, told_err}
+use Rattle.reader.proofs.Told.{passed_on, told_of}
 use Rattle.reader.proofs.SystemSteps.{system_head_refused, system_some, system_body_refused, system_read}
 use Rattle.reader.proofs.system.read_system.Goals as goal
 
-pub overflow_mul-rows : goal.overflow_mul-rows
-overflow_mul-rows c =
-    let h = c.in-Accepted.head in
-    let n : h.shape.rows ≤ most8 = omega arith in
-    let m : h.shape.columns ≤ most8 = omega arith in
-    omega (arith, mul-le-mul n m)
+pub returns-in_err-head : goal.returns-in_err-head
+returns-in_err-head c =
+    ap system_outcome (passed_on _ c.in_err-head.field-0.0 c.from_residual.ensures.1)
+    ∙ sym (system_head_refused (limits_of c.args.limits) _ _ _ c.in_err-head.ensures)
 
-pub overflow_mul-sides : goal.overflow_mul-sides
-overflow_mul-sides c =
-    let h = c.in-Accepted.head in
-    let n : h.shape.rows ≤ most8 = omega arith in
-    let k : h.sides ≤ most8 = omega arith in
-    omega (arith, mul-le-mul k n)
+pub read_body-body-requires : goal.read_body-body-requires
+read_body-body-requires c = system_some (limits_of c.args.limits) _ (head_of c.in_ok-head.head) c.in_ok-head.ensures
 
-pub overflow_add-rows : goal.overflow_add-rows
-overflow_add-rows c =
-    let h = c.in-Accepted.head in
-    let n : h.shape.rows ≤ most8 = omega arith in
-    let m : h.shape.columns ≤ most8 = omega arith in
-    let k : h.sides ≤ most8 = omega arith in
-    omega (arith, mul-le-mul n m, mul-le-mul k n)
+pub returns-in_err-map_err : goal.returns-in_err-map_err
+returns-in_err-map_err c =
+    let t = told_err c.read_body-body.result c.map_err.result _ _ c.map_err.ensures.cases c.in_err-map_err.was in
+    let body = rw (c.from-rows.ensures, c.from.ensures, c.from-2.ensures) at c.read_body-body.ensures in
+    let reason : c.in_err-map_err.field-0.0.reason ≡ Words System t.0.fault = search rules in
+    let place : c.in_err-map_err.field-0.0.place ≡ t.0.place = search rules in
+    ap system_outcome (passed_on _ c.in_err-map_err.field-0.0 c.from_residual-in_err-map_err.ensures.1)
+    ∙ told_of System c.in_err-map_err.field-0.0 t.0 reason place
+    ∙ sym (system_body_refused (limits_of c.args.limits) _ (head_of c.in_ok-head.head) c.in_ok-head.ensures _ _
+    (sym (ap used_outcome t.1) ∙ body))
 
-pub read_body-found-requires : goal.read_body-found-requires
-read_body-found-requires c =
-    let r = c in
-    let a = r.args in
-    system_some (limits_of a.limits) a.words.now (head_of c.in-Accepted.head) (sym (ap system_outcome c.in-Accepted.is) ∙ r.read_head-head.ensures)
-
-pub returns-in-Count : goal.returns-in-Count
-returns-in-Count c =
-    let head = c in
-    let r = head in
-    let a = r.args in
-    sym (system_read (limits_of a.limits) a.words.now (head_of c.in-Accepted.head)
-    (sym (ap system_outcome c.in-Accepted.is) ∙ r.read_head-head.ensures) _
-    (sym (ap counted_outcome c.in-Count.is) ∙ c.read_body-found.ensures))
-
-pub returns-in-Refused-found : goal.returns-in-Refused-found
-returns-in-Refused-found c =
-    let head = c in
-    let r = head in
-    let a = r.args in
-    sym (system_body_refused (limits_of a.limits) a.words.now (head_of c.in-Accepted.head)
-    (sym (ap system_outcome c.in-Accepted.is) ∙ r.read_head-head.ensures) _ _
-    (sym (ap counted_outcome c.in-Refused-found.is) ∙ c.read_body-found.ensures))
-
-pub returns-in-Refused : goal.returns-in-Refused
-returns-in-Refused c =
-    let r = c in
-    let a = r.args in
-    sym (system_head_refused (limits_of a.limits) a.words.now c.in-Refused.refusal.number c.in-Refused.refusal.place
-    (sym (ap system_outcome c.in-Refused.is) ∙ r.read_head-head.ensures))
+pub returns : goal.returns
+returns c =
+    let t = told_ok c.read_body-body.result c.map_err.result _ _ c.map_err.ensures.cases c.in_ok-map_err.was in
+    let body = rw (c.from-rows.ensures, c.from.ensures, c.from-2.ensures) at c.read_body-body.ensures in
+    sym (system_read (limits_of c.args.limits) _ (head_of c.in_ok-head.head) c.in_ok-head.ensures _
+    (sym (ap used_outcome t) ∙ body))

@@ -1,31 +1,17 @@
 -- `find_absence` meets its contract: the law is `absence-found`.
 use native.Mathlib.Omega.{arith}
-use borrow.Author.Rules.{rules}
+use Rattle.residue.specs.Modulus.{valid_modulus}
 use Rattle.solve_certify.specs.Absence.{stuck_tops, absence_found}
 use Rattle.solve_certify.proofs.absence.find_absence.Goals as goal
 
-pub solve_second-requires : goal.solve_second-requires
-solve_second-requires c =
+pub solve_second-requires-clause-tops : goal.solve_second-requires-clause-tops
+solve_second-requires-clause-tops c =
     let S = c.requires in
-    let has = S.stuck in record {
-      valid_modulus = S.valid_modulus;
-      tops = stuck_tops S.valid_modulus.1 S.valid_modulus.3 has.prime has.equations has.slots has.stuck;
-      room = (omega (arith, S.area.room), λ i ge. S.area.below i);
-    }
-
-pub negate-requires : goal.negate-requires
-negate-requires c = (c.requires.valid_modulus.0, search rules, c.solve_second.ensures.rows_below)
-
-pub slice_bounds-copy-end-2 : goal.slice_bounds-copy-end-2
-slice_bounds-copy-end-2 c = omega (arith, c.solve_second.ensures.w_room)
-
-pub copy-requires : goal.copy-requires
-copy-requires c = (search rules, omega (arith, c.solve_second.ensures.w_room))
+    let has = S.stuck in
+    stuck_tops S.bounds.0 S.bounds.2 has.prime has.equations has.slots has.stuck
 
 pub returns : goal.returns
 returns c =
-    let N = c in
-    let W = N in
-    let S = W.requires in
-    absence_found S.valid_modulus.0.prime S.valid_modulus.1 S.valid_modulus.2 S.valid_modulus.3 W.solve_second.ensures
-    (omega (arith, W.solve_second.auto, S.area.room)) N.negate.ensures c.copy.ensures
+    let S = c.requires in
+    absence_found (valid_modulus c.args.modulus).prime S.bounds.0 S.bounds.1 S.bounds.2 c.solve_second.ensures
+    (omega (arith, c.solve_second.auto, S.area.room)) c.negate.ensures c.copy.ensures

@@ -21,12 +21,12 @@ ascend-divide_column-left-requires-clause-areas t c = (zeros_none block_words, z
 pub drop_column-ascend-found-requires : goal.drop_column-ascend-found-requires
 drop_column-ascend-found-requires t c =
     let C = c.requires.column in
-    (omega (arith, c.decreases, C.inside), drop_ready c.requires.ready C)
+    (omega (arith, c.decreases, C.inside), drop_ready C c.requires.ready)
 
 pub drop_column-returns-clause-ascended_from : goal.drop_column-returns-clause-ascended_from
 drop_column-returns-clause-ascended_from t c =
     let R = c.requires in
-    drop_ascended R.ready R.column c.ascend-found.ensures.ascended_from c.leave_out.ensures
+    drop_ascended R.column c.ascend-found.ensures.ascended_from c.leave_out.ensures
 
 pub fill_column-fill_slot-requires-clause-block : goal.fill_column-fill_slot-requires-clause-block
 fill_column-fill_slot-requires-clause-block t c =
@@ -70,9 +70,9 @@ pub insert_column-returns-then-found : goal.insert_column-returns-then-found
 insert_column-returns-then-found t c =
     let R = c.requires in
     let done = c.ascend-found.ensures in
-    fall_undone R.ready R.column c.next_level-size.ensures done.ascended_from c.if-found.true done.level c.descend.ensures
+    fall_undone R.column c.next_level-size.ensures done.ascended_from c.if-found.true done.level c.descend.ensures
 
 pub insert_column-returns-else-found : goal.insert_column-returns-else-found
 insert_column-returns-else-found t c =
     let R = c.requires in
-    fall_none R.ready R.column c.next_level-size.ensures c.ascend-found.ensures.ascended_from c.if-found.false
+    fall_none R.column c.next_level-size.ensures c.ascend-found.ensures.ascended_from c.if-found.false

@@ -1,9 +1,6 @@
--- The loop keeps a `Reducing`; its measure is the number of words left.
+-- The loop keeps a `Reducing`.
 use Rattle.solve_lattice.specs.Remainder.{Reducing}
 use Rattle.solve_lattice.proofs.remainder.reduce_words.Given as goal
 
 abbrev pub invariant-loop-k : goal.invariant-loop-k
 invariant-loop-k l = Reducing l.modulus.p l.level l.initial.block l.initial.tail l.n l.k l.block l.tail
-
-abbrev pub decreases-loop-k : goal.decreases-loop-k
-decreases-loop-k l = l.k

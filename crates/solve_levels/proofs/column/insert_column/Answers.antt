@@ -1,23 +1,17 @@
 -- `insert_column` meets its contract: an insertion, and what becomes of its hand.
-use Rattle.solve_levels.specs.Linked.{inserts_stopped, after_column}
+use mathlib.Core.Path.{subst}
+use borrow.Author.Rules.{rules}
+use Rattle.residue.specs.declared.modulus.Modulus.{Modulus}
+use Rattle.solve_lattice.specs.Memory.{Level, memory}
+use Rattle.solve_lattice.specs.References.{memory_of}
+use Rattle.solve_levels.specs.Settled.{Settled}
+use Rattle.solve_levels.specs.Linked.{AfterColumn, after_column}
 use Rattle.solve_levels.proofs.column.insert_column.Goals as goal
 
-pub settle-requires : goal.settle-requires
-settle-requires c =
-    let S = c in
-    let done = c.insert-left.ensures in
-    record {
-      valid_modulus = S.requires.valid_modulus.0;
-      memory = done.valid;
-      stopped = inserts_stopped S.requires.valid_modulus.0.prime S.requires.memory S.requires.valid_modulus.1 done;
-    }
-
 pub returns : goal.returns
-returns c = after_column c.insert-left.ensures c.settle.ensures
-
-pub insert-left-requires : goal.insert-left-requires
-insert-left-requires c = record {
-  valid_modulus = c.requires.valid_modulus.0;
-  memory = c.requires.memory;
-  starts = c.requires.starts;
-}
+returns c =
+    let A = c.args in
+    let end = c.settle.new in
+    let P : Modulus → Type 0 = λ m. Settled m.p (memory_of c.insert.new.self) end.work.level.now end.kernel c.settle.result in
+    let Q : Level → Type 0 = λ l. AfterColumn A.modulus.p (memory A.level.now A.block.now A.tail.now A.hand) l end.kernel c.settle.result in
+    subst Q (search rules) (after_column c.insert.ensures.inserts (subst P c.insert.ensures.same.modulus c.settle.ensures.settled))

@@ -3,52 +3,33 @@ use mathlib.Core.Path.{◌≡◌}
 use native.Mathlib.Omega.{arith}
 use lib.ListN.{length}
 use borrow.Author.Rules.{rules}
-use Rattle.residue.specs.Modulus.{ValidModulus}
-use Rattle.solve_lattice.specs.Sums.{sums_room}
+use Rattle.std.proofs.iter.Serving.{serving}
+use Rattle.solve_lattice.specs.Sums.{sums_small}
 use Rattle.solve_lattice.specs.Room.{block_words}
-use Rattle.solve_levels.specs.Settled.{stopped_room, settled_stuck, settled_vanished}
+use Rattle.solve_levels.specs.Settled.{settled_stuck, settled_vanished}
 use Rattle.solve_levels.proofs.settling.settle.Goals as goal
 
-pub find_leading-found-requires : goal.find_leading-found-requires
-find_leading-found-requires c =
-    let S = c in
-    let valid = S.requires.memory in
-    let m : ValidModulus S.args.modulus = S.requires.valid_modulus in
-    let room = sums_room _ S.args.tail.now _ (omega (arith, m.prime.large)) valid.hand.tail_sums in
-    record { valid_modulus = (m, omega (arith, valid.hand.tail_room)); sums = λ j lt. omega (arith, room j) }
+pub find_leading-requires-clause-sums : goal.find_leading-requires-clause-sums
+find_leading-requires-clause-sums c =
+    λ j lt. sums_small _ c.args.work.now.tail.now _ (omega (arith, c.args.work.now.modulus.valid.prime.large)) c.args.work.now.valid.hand.tail_sums j
 
-pub exchange-requires : goal.exchange-requires
-exchange-requires c =
-    let S = c in
-    let valid = S.requires.memory in
-    let m : ValidModulus S.args.modulus = S.requires.valid_modulus in
-    let kernel : length S.args.kernel.now ≡ block_words = search rules in
-    let room = sums_room _ S.args.tail.now _ (omega (arith, m.prime.large)) valid.hand.tail_sums in
-    record {
-      valid_modulus = (m, omega (arith, valid.hand.tail_room), omega arith);
-      sums = λ j lt. omega (arith, room j);
-    }
+pub store_each-requires-clause-callable : goal.store_each-requires-clause-callable
+store_each-requires-clause-callable c =
+    let W = c.args.work.now in
+    let small = sums_small _ W.tail.now _ (omega (arith, W.modulus.valid.prime.large)) W.valid.hand.tail_sums in
+    grind (serving, arith, small)
 
-pub returns-then-hand-eq0 : goal.returns-then-hand-eq0
-returns-then-hand-eq0 c =
-    let S = c in
-    let kernel : length S.args.kernel.now ≡ block_words = search rules in
-    settled_vanished S.requires.valid_modulus.prime S.requires.memory S.requires.stopped S.args.kernel.now kernel (omega arith)
-    _ c.find_leading-found.ensures.size _ c.exchange.ensures.slot
+pub returns-then-work-eq0-clause-settled : goal.returns-then-work-eq0-clause-settled
+returns-then-work-eq0-clause-settled c =
+    let A = c.args in
+    let kernel : length A.kernel.now ≡ block_words = search rules in
+    settled_vanished A.work.now.modulus.valid.prime c.args.work.now.valid c.requires.stopped A.kernel.now kernel (omega arith)
+    _ c.find_leading.ensures.size _ (c.store_each.ensures _ (λ j x lt post. search rules))
 
-pub swap_with_slot-requires : goal.swap_with_slot-requires
-swap_with_slot-requires c =
-    let S = c in
-    record {
-      valid_modulus = S.requires.valid_modulus;
-      memory = S.requires.memory;
-      room = stopped_room S.requires.stopped (omega arith);
-    }
-
-pub returns : goal.returns
-returns c =
-    let S = c in
-    let kernel : length S.args.kernel.now ≡ block_words = search rules in
-    settled_stuck S.requires.valid_modulus.prime S.requires.memory S.requires.stopped S.args.kernel.now kernel
-    (omega (arith, c.if-hand-eq0.false)) c.swap_with_slot.ensures
+pub returns-clause-settled : goal.returns-clause-settled
+returns-clause-settled c =
+    let A = c.args in
+    let kernel : length A.kernel.now ≡ block_words = search rules in
+    settled_stuck A.work.now.modulus.valid.prime c.args.work.now.valid c.requires.stopped A.kernel.now kernel
+    (omega (arith, c.if-work-eq0.false)) c.swap_with_slot.ensures.swapped
     _ c.clear.ensures

@@ -1,12 +1,16 @@
 -- The insertion's contract, and that a tail of at most 121 coefficients can be made monic.
+use mathlib.Core.Path.{subst}
+use mathlib.Core.List.{List}
+use Prim.Native.Nat.{ℕ}
+use borrow.Author.Rules.{rules}
+use Rattle.solve_lattice.specs.Room.{tail_words, most_coefficients}
+use Rattle.solve_lattice.specs.Memory.{ZeroFrom, Sums}
 use Rattle.solve_second.specs.Denominator.{tail_reducible}
 use Rattle.solve_second.proofs.denominator.second_denominator.Goals as goal
 
 pub make_monic-requires : goal.make_monic-requires
 make_monic-requires c =
-    let I = c in
-    let done = I.insert.ensures in
-    record {
-      valid_modulus = I.requires.valid_modulus;
-      tail = (done.tail, tail_reducible done.valid);
-    }
+    let done = c.insert.ensures.inserts in
+    let p = c.args.modulus.p in
+    let Q : List ℕ → Type 0 = λ t. ZeroFrom p t 0 tail_words most_coefficients × Sums p 0 t in
+    record { tail = subst Q (search rules) (done.tail, tail_reducible done.valid) }

@@ -5,9 +5,8 @@ use Rattle.solve_second.proofs.layout.lay_second.Goals as goal
 
 pub returns : goal.returns
 returns c =
-    let S = c in
     let slots = c.lay_slots-top.ensures.1 in record {
-      slots = same_laid (side_blocks S.args.side S.args.level.now) S.requires.low_blocks.0 S.requires.low_blocks.3 slots;
+      slots = same_laid (side_blocks c.args.side c.args.level.now) c.requires.low_blocks.0 c.requires.low_blocks.3 slots;
       room = c.lay_side.ensures.0;
       side = c.lay_side.ensures.1;
     }

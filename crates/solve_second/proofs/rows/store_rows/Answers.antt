@@ -31,37 +31,14 @@ module _ (l : List ℕ) (n : ℕ) (o w : List ℕ) (k : ℕ) (so_far : Storing (
       (stores ∙ ap (λ d. stored (λ j. 0) w d (rows_words - block_words * n)) (omega arith))) (omega arith)
 
 pub loop-k-init : goal.loop-k-init
-loop-k-init c = (storing_start _ _ _ _, omega arith)
-
-pub gather_lane-requires : goal.gather_lane-requires
-gather_lane-requires c =
-    let L = c in
-    let S = L in
-    (omega arith, omega (arith, S.requires.0, S.requires.1, L.loop-k.invariant.0.same_length))
+loop-k-init c = storing_start _ _ _ _
 
 pub loop-k-preserved : goal.loop-k-preserved
 loop-k-preserved c =
-    let G = c in
-    let L = G in
-    let S = L in (
-      row-turn S.args.quotients.now S.args.n S.args.rows.now L.loop-k.rows L.loop-k.k L.loop-k.invariant.0
-          S.requires.0 _
-          G.loop-k-test.true G.gather_lane.ensures,
-      omega arith,
-    )
-
-pub clear-requires : goal.clear-requires
-clear-requires c =
-    let L = c in
-    let S = L in
-    omega (arith, S.requires.0, S.requires.1, L.loop-k.invariant.0.same_length)
-
-pub shape_of-rows : goal.shape_of-rows
-shape_of-rows c = omega (arith, c.clear.auto, c.loop-k.invariant.0.same_length)
+    row-turn c.args.quotients.now c.args.n c.args.rows.now c.loop-k.rows c.loop-k.k c.loop-k.invariant
+    c.requires.0 _ (omega arith) c.gather_lane.ensures
 
 pub returns : goal.returns
 returns c =
-    let L = c in
-    let S = L in
-    rows_end S.args.quotients.now S.args.n S.args.rows.now L.loop-k.rows L.loop-k.k L.loop-k.invariant.0
-    S.requires.0 _ (omega arith) c.clear.ensures
+    rows_end c.args.quotients.now c.args.n c.args.rows.now c.loop-k.rows c.loop-k.k c.loop-k.invariant
+    c.requires.0 _ (omega arith) c.clear.ensures

@@ -6,6 +6,6 @@ use Rattle.stored_cases.proofs.arithmetic.answer.Goals as goal
 
 pub new-requires : goal.new-requires
 new-requires c =
-    let p = c.word-p.result in
-    let prime = prime_of_true p (sym c.is_prime-prime.ensures ∙ c.if-prime.true) in
+    let p = c.in-Ok.p in
+    let prime = prime_of_true p (sym c.is_prime.ensures ∙ c.if-is_prime.true) in
     (prime, prime_largest p prime (omega arith))

@@ -1,30 +1,37 @@
-use Rattle.std.proofs.Common.{sym, ap, refl, ◌∙◌, add-one, arith}
+use Rattle.std.proofs.Common.{◌≡◌, length, sym, ap, refl, ◌∙◌, add-one, arith, rules}
 use Rattle.streams.specs.Side.{at_most}
 use Rattle.streams.specs.SideLaws.{none_written, first_digit, below_digits, above_digits, next_digit, capped_most, digits_end}
+use Rattle.streams.proofs.side.read_side.Goals.{then-digit-lt48-via-then-digit-lt48, then-digit-lt48-via-else-digit-lt48+then-digit-gt-LAST_DIGIT}
 use Rattle.streams.proofs.side.read_side.Goals as goal
 
-pub returns-then-argument-eq0 : goal.returns-then-argument-eq0
-returns-then-argument-eq0 c = sym (ap at_most (none_written _ c.if-argument-eq0.true))
+pub returns-then-is_empty : goal.returns-then-is_empty
+returns-then-is_empty c =
+    let none : length c.args.argument.now ≡ 0 = search rules in
+    sym (ap at_most (none_written _ none))
 
-pub loop-i-init : goal.loop-i-init
-loop-i-init c = (omega arith, omega arith, ap at_most (first_digit _ c.if-argument-eq0.false))
+pub loop-digit-init : goal.loop-digit-init
+loop-digit-init c =
+    let some : length c.args.argument.now ≡ 0 → ⊥ = search rules in
+    (omega arith, ap at_most (first_digit _ some))
 
 pub returns-then-digit-lt48 : goal.returns-then-digit-lt48
-returns-then-digit-lt48 c = sym (c.loop-i.invariant.2 ∙ ap at_most (below_digits _ _ _ c.loop-i-test.true c.if-digit-lt48.true))
+returns-then-digit-lt48 c =
+    elim c.then-digit-lt48.branch [
+      | then-digit-lt48-via-then-digit-lt48 w ↦
+          sym (c.loop-digit.invariant.1 ∙ ap at_most (below_digits _ _ _ c.loop-digit-test.true w.if-digit-lt48.true))
+      | then-digit-lt48-via-else-digit-lt48+then-digit-gt-LAST_DIGIT w ↦
+          sym (c.loop-digit.invariant.1
+          ∙ ap at_most (above_digits _ _ _ c.loop-digit-test.true w.if-digit-lt48.false w.if-digit-gt-LAST_DIGIT.true))
+    ]
 
-pub returns-then-digit-gt-LAST_DIGIT : goal.returns-then-digit-gt-LAST_DIGIT
-returns-then-digit-gt-LAST_DIGIT c =
-    sym (c.loop-i.invariant.2 ∙ ap at_most (above_digits _ _ _ c.loop-i-test.true c.if-digit-lt48.false c.if-digit-gt-LAST_DIGIT.true))
-
-pub loop-i-preserved : goal.loop-i-preserved
-loop-i-preserved c =
+pub loop-digit-preserved : goal.loop-digit-preserved
+loop-digit-preserved c =
     let n = c.next_value-value.ensures in (
-      omega arith,
       capped_most _ n,
-      c.loop-i.invariant.2
-          ∙ next_digit _ _ _ c.loop-i-test.true c.if-digit-lt48.false c.if-digit-gt-LAST_DIGIT.false
-          ∙ rw (n, add-one c.loop-i.i) refl,
+      c.loop-digit.invariant.1
+          ∙ next_digit _ _ _ c.loop-digit-test.true c.if-digit-lt48.false c.if-digit-gt-LAST_DIGIT.false
+          ∙ rw (n, add-one c.loop-digit.digit-index) refl,
     )
 
 pub returns : goal.returns
-returns c = sym (c.loop-i.invariant.2 ∙ digits_end _ _ _ c.loop-i-test.false c.loop-i.invariant.1)
+returns c = sym (c.loop-digit.invariant.1 ∙ digits_end _ _ _ c.loop-digit-test.false c.loop-digit.invariant.0)

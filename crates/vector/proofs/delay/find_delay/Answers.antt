@@ -1,36 +1,14 @@
-use mathlib.Core.Path.{◌≡◌, ◌∙◌}
-use Prim.Native.Nat.{◌+◌}
-use native.Mathlib.Omega.{arith}
-use lib.ListN.{drop}
-use Rattle.modular.specs.Delay.{delay}
-use Rattle.modular.proofs.DelayLaws.{delay_zero, delay_nonzero, delay_end}
+use Rattle.std.proofs.Common.{◌==◌, ◌∙◌, rules, tests}
+use Rattle.std.proofs.lemmas.Iterator.{YieldsList-from_slice}
+use Rattle.std.proofs.lemmas.Iterator.Consumers.{count_from_yields_List}
+use Rattle.std.proofs.lemmas.Iterator.Search.{YieldsList-from_take_while}
+use Rattle.std.proofs.lemmas.List.Folds.{length-prefix_len}
+use Rattle.vector.proofs.Zeros.{delay_is}
 use Rattle.vector.proofs.delay.find_delay.Goals as goal
 
-pub loop-k-init : goal.loop-k-init
-loop-k-init c = (omega arith, omega arith)
-
-pub loop-k-preserved : goal.loop-k-preserved
-loop-k-preserved c =
-    let L = c in
-    let f = L.args.coefficients.now in
-    let k = L.loop-k.k in
-    let zero = c.if-coefficients-k-eq0.true in
-    let more = delay_zero f k c.loop-k-test.true zero in
-    let next : k + delay (drop k f) ≡ k + 1 + delay (drop (k + 1) f) = omega (arith, more) in
-    (omega arith, L.loop-k.invariant.1 ∙ next)
-
--- at a coefficient that is not 0
-pub returns-else-coefficients-k-eq0 : goal.returns-else-coefficients-k-eq0
-returns-else-coefficients-k-eq0 c =
-    let L = c in
-    let f = L.args.coefficients.now in
-    let k = L.loop-k.k in
-    let none = delay_nonzero f k c.loop-k-test.true (c.if-coefficients-k-eq0.false) in
-    omega (arith, L.loop-k.invariant.1, none)
-
--- at the end of the coefficients
-pub returns-after-loop-k : goal.returns-after-loop-k
-returns-after-loop-k c =
-    let L = c in
-    let f = L.args.coefficients.now in
-    omega (arith, L.loop-k.invariant.1, delay_end f L.loop-k.k c.loop-k-test.false)
+pub returns : goal.returns
+returns c =
+    count_from_yields_List c.take_while.result _ c.count.ensures.ran
+    (YieldsList-from_take_while _ (λ x. x == 0) (YieldsList-from_slice c.args.coefficients.now (cc)) c.take_while.ensures.closure c.take_while.ensures.done (λ x b q k. search (rules, tests)))
+    ∙ length-prefix_len (λ x. x == 0) c.args.coefficients.now
+    ∙ delay_is c.args.coefficients.now

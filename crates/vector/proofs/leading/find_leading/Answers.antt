@@ -22,7 +22,7 @@ pub find_leading_near-requires : goal.find_leading_near-requires
 find_leading_near-requires c =
     let given = c.requires in
     record {
-      valid_modulus = (given.valid_modulus.0, omega arith);
+      bounds = omega arith;
       sums = λ j lt. given.sums j (omega arith);
     }
 

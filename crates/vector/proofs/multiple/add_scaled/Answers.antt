@@ -1,60 +1,46 @@
-use native.Mathlib.Omega.{arith}
+use Rattle.std.proofs.Common.{add_assoc, ◌≡◌, ◌*◌, ◌/◌, ◌+◌, arith}
 use Rattle.vector.specs.Multiple.{gains_multiple}
 use Rattle.vector.specs.RowStored.{row_words}
 use Rattle.vector.proofs.Storing.{storing_start, storing_turn, storing_end}
 use Rattle.vector.proofs.Sums.{next_sum, next_fits, row_fits, row_stored_lem}
 use Rattle.vector.proofs.multiple.add_scaled.Goals as goal
 
-pub loop-j-init : goal.loop-j-init
-loop-j-init c = storing_start _ _ _ _
+pub loop-row-init : goal.loop-row-init
+loop-row-init c = storing_start _ _ _ _
 
 pub add_row-requires : goal.add_row-requires
 add_row-requires c =
-    let L = c in
-    let start = L in
-    let A = start.args in
-    row_fits A.h.now A.d A.s.now A.a A.n A.c L.loop-j.invariant (start.requires.n_in_bounds, (start.requires.small, start.requires.fits)) row_words (omega arith)
+    let A = c.args in
+    row_fits A.h.now A.d A.s.now A.a A.n A.c c.loop-row.invariant (c.requires.n_in_bounds, (c.requires.small, c.requires.fits)) row_words (omega arith)
 
-pub loop-j-preserved : goal.loop-j-preserved
-loop-j-preserved c =
-    let L = c in
-    let A = L.args in
-    let row = c.add_row.ensures in
-    row_stored_lem A.h.now A.d A.s.now A.a A.n A.c L.loop-j.invariant _ (omega arith) row
+pub loop-row-preserved : goal.loop-row-preserved
+loop-row-preserved c =
+    let A = c.args in
+    let next : row_words * (c.loop-row.row + 1) ≡ row_words * c.loop-row.row + row_words = omega arith in
+    rw next (row_stored_lem A.h.now A.d A.s.now A.a A.n A.c c.loop-row.invariant _ (omega arith) c.add_row.ensures)
 
-pub loop-j-2-init : goal.loop-j-2-init
-loop-j-2-init c l first = first
+pub loop-left-init : goal.loop-left-init
+loop-left-init c =
+    let all : row_words * (c.args.n / row_words) + 0 ≡ row_words * c.loop-row.row = omega arith in
+    rw all c.loop-row.invariant
 
 pub sum_at-requires : goal.sum_at-requires
 sum_at-requires c =
-    let L = c in
-    let start = L in
-    let A = start.args in
-    next_fits A.h.now A.d A.s.now A.a A.n A.c (L.loop-j-2.invariant _ L.loop-j.invariant) (start.requires.n_in_bounds, (start.requires.small, start.requires.fits)) c.loop-j-2-test.true
+    let A = c.args in
+    next_fits A.h.now A.d A.s.now A.a A.n A.c c.loop-left.invariant (c.requires.n_in_bounds, (c.requires.small, c.requires.fits)) (omega arith)
 
-pub bounds-h-d : goal.bounds-h-d
-bounds-h-d c = let so_far = (c.loop-j-2.invariant _ c.loop-j.invariant) in omega arith
-
-pub loop-j-2-preserved : goal.loop-j-2-preserved
-loop-j-2-preserved c l first =
-    let L = c in
-    let A = L.args in
-    let so_far = L.loop-j-2.invariant l first in
-    storing_turn
-    so_far
-    _
-    c.loop-j-2-test.true
-    (next_sum l A.d A.s.now A.a A.n A.c so_far _ c.sum_at.ensures)
-
-pub shape_of-h : goal.shape_of-h
-shape_of-h c = (c.loop-j-2.invariant _ c.loop-j.invariant).same_length
+pub loop-left-preserved : goal.loop-left-preserved
+loop-left-preserved c =
+    let A = c.args in
+    let so_far = c.loop-left.invariant in
+    let next : row_words * (A.n / row_words) + c.loop-left.left + 1 ≡ row_words * (A.n / row_words) + (c.loop-left.left + 1) = add_assoc _ _ _ in
+    rw (← next) (storing_turn so_far _ (omega arith) (next_sum A.h.now A.d A.s.now A.a A.n A.c so_far _ c.sum_at.ensures))
 
 pub returns : goal.returns
 returns c =
-    let words = storing_end (c.loop-j-2.invariant _ c.loop-j.invariant) c.loop-j-2-test.false in
-    let start = c in
-    let A = start.args in
+    let A = c.args in
+    let words = storing_end c.loop-left.invariant (omega arith) in
     record {
       words = words;
-      polynomials = gains_multiple _ _ _ A.s.now A.a _ A.c start.requires.n_in_bounds.0 words;
+      polynomials = gains_multiple _ _ _ A.s.now A.a _ A.c c.requires.n_in_bounds.0 words;
     }

@@ -1,15 +1,13 @@
-use mathlib.Core.Path.{refl}
-use Rattle.vector.proofs.Storing.{storing_start, storing_turn, storing_end}
+use Rattle.std.proofs.Common.{◌≡◌, ◌-◌, ◌+◌, ap, get_or, ◌∙◌, arith, rules}
+use Rattle.std.proofs.lemmas.List.{get_or-replicate}
+use Rattle.vector.proofs.Parts.{range_length, range_stored}
 use Rattle.vector.proofs.range.clear.Goals as goal
 
-pub loop-j-init : goal.loop-j-init
-loop-j-init c = storing_start _ _ _ _
-
-pub loop-j-preserved : goal.loop-j-preserved
-loop-j-preserved c = storing_turn c.loop-j.invariant _ c.loop-j-test.true refl
-
-pub shape_of-h : goal.shape_of-h
-shape_of-h c = c.loop-j.invariant.same_length
-
 pub returns : goal.returns
-returns c = storing_end c.loop-j.invariant c.loop-j-test.false
+returns c =
+    let A = c.args in
+    let long : A.a + A.n - A.a ≡ A.n = omega arith in
+    let same = range_length A.h.now A.a _ A.n c.requires long in
+    let zeros = c.fill.ensures.after (search rules) in
+    range_stored A.h.now A.a _ A.n c.requires long (λ j. 0) _ (c.fill.ensures.len ∙ same)
+    (λ j lt. ap (λ w. get_or w j 0) zeros ∙ get_or-replicate _ j 0 0 (omega arith))

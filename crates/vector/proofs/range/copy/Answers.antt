@@ -1,15 +1,11 @@
-use mathlib.Core.Path.{refl}
-use Rattle.vector.proofs.Storing.{storing_start, storing_turn, storing_end}
+use Rattle.std.proofs.Common.{◌≡◌, ◌-◌, ◌+◌, ap, get_or, ◌∙◌, arith}
+use Rattle.vector.proofs.Parts.{range_length, range_word, range_stored}
 use Rattle.vector.proofs.range.copy.Goals as goal
 
-pub loop-j-init : goal.loop-j-init
-loop-j-init c = storing_start _ _ _ _
-
-pub loop-j-preserved : goal.loop-j-preserved
-loop-j-preserved c = storing_turn c.loop-j.invariant _ c.loop-j-test.true refl
-
-pub shape_of-h : goal.shape_of-h
-shape_of-h c = c.loop-j.invariant.same_length
-
 pub returns : goal.returns
-returns c = storing_end c.loop-j.invariant c.loop-j-test.false
+returns c =
+    let A = c.args in
+    let long : A.d + A.n - A.d ≡ A.n = omega arith in
+    let from : A.a + A.n - A.a ≡ A.n = omega arith in
+    range_stored A.h.now A.d _ A.n c.requires.0 long _ _ (c.copy_from_slice.ensures.len ∙ range_length A.h.now A.d _ A.n c.requires.0 long)
+    (λ j lt. ap (λ w. get_or w j 0) c.copy_from_slice.ensures.after ∙ range_word A.s.now A.a _ A.n c.requires.1 from j lt)

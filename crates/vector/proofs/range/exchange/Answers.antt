@@ -1,8 +1,6 @@
-use mathlib.Core.Path.{sym, ap, ◌∙◌}
-use Prim.Native.Nat.{ℕ, ◌%◌}
-use native.Mathlib.Nat.{zero-add}
-use Rattle.vector.proofs.Storing.{storing_start, storing_end}
-use Rattle.vector.proofs.Storing.{storing_reads, storing_reads_at, storing_turn, storing_turn_at}
+use Rattle.std.proofs.Common.{◌≡◌, ◌+◌, ◌<◌, ◌≤◌, ◌%◌, length, get_or, refl, ap, ◌∙◌, zero-add, arith}
+use Rattle.vector.proofs.Parts.{range_length, range_reads, range_turn, range_end}
+use Rattle.vector.proofs.Storing.{storing_start, storing_reads, storing_turn, storing_end}
 use Rattle.vector.proofs.range.exchange.Goals as goal
 
 pub loop-j-init : goal.loop-j-init
@@ -10,30 +8,31 @@ loop-j-init c = (storing_start _ _ _ _, storing_start _ _ _ _)
 
 pub reduce-value-requires : goal.reduce-value-requires
 reduce-value-requires c =
-    let L = c in
-    let given = L.requires in
-    let reads = storing_reads_at L.loop-j.invariant.0 L.loop-j.j (sym (zero-add L.loop-j.j)) in
-    (given.valid_modulus.0, rw reads (given.sums L.loop-j.j c.loop-j-test.true))
+    let A = c.args in
+    let j = c.loop-j.j in
+    let room : 0 + A.n ≤ length A.h.now = omega arith in
+    let lt : j < A.n = omega (arith, range_length A.h.now 0 A.n A.n room refl) in
+    let reads = range_reads A.h.now 0 A.n A.n room refl c.loop-j.invariant.0 lt in
+    rw (reads, zero-add) (c.requires.sums j lt)
 
 pub loop-j-preserved : goal.loop-j-preserved
 loop-j-preserved c =
-    let L = c in
-    let I = L.loop-j.invariant in
-    let here = sym (zero-add L.loop-j.j) in
-    let p = L.args.modulus.p in
-    let lt = c.loop-j-test.true in (
-      storing_turn_at I.0 _ here _ lt (storing_reads I.1),
-      storing_turn I.1 _ lt (c.reduce-value.ensures ∙ ap (λ (x : ℕ). x % p) (storing_reads_at I.0 _ here)),
+    let A = c.args in
+    let I = c.loop-j.invariant in
+    let j = c.loop-j.j in
+    let room : 0 + A.n ≤ length A.h.now = omega arith in
+    let lt : j < A.n = omega (arith, range_length A.h.now 0 A.n A.n room refl) in
+    let reads : _ ≡ get_or A.h.now j 0 = range_reads A.h.now 0 A.n A.n room refl I.0 lt ∙ ap (λ i. get_or A.h.now i 0) (zero-add j) in (
+      range_turn A.h.now 0 A.n A.n room refl I.0 _ lt (storing_reads I.1),
+      storing_turn I.1 _ lt (c.reduce-value.ensures ∙ ap (λ x. x % A.modulus.p) reads),
     )
 
-pub shape_of-h : goal.shape_of-h
-shape_of-h c = c.loop-j.invariant.0.same_length
-
-pub shape_of-s : goal.shape_of-s
-shape_of-s c = c.loop-j.invariant.1.same_length
-
 pub returns : goal.returns
-returns c = record {
-  hand = storing_end c.loop-j.invariant.0 c.loop-j-test.false;
-  slot = storing_end c.loop-j.invariant.1 c.loop-j-test.false;
-}
+returns c =
+    let A = c.args in
+    let room : 0 + A.n ≤ length A.h.now = omega arith in
+    let past : A.n ≤ c.loop-j.j = omega (arith, range_length A.h.now 0 A.n A.n room refl) in
+    record {
+      hand = range_end A.h.now 0 A.n A.n room refl c.loop-j.invariant.0 past;
+      slot = storing_end c.loop-j.invariant.1 past;
+    }

@@ -1,12 +1,8 @@
--- `vector::range::exchange` meets its contract: before turn j the first j words have changed places. Assumes nothing.
-use Prim.Native.Nat.{◌+◌, ◌-◌, ◌%◌}
-use lib.ListN.{get_or}
+use Rattle.std.proofs.Common.{◌+◌, ◌%◌, get_or}
 use Rattle.vector.proofs.Storing.{Storing}
 use Rattle.vector.proofs.range.exchange.Given as goal
 
 abbrev pub invariant-loop-j : goal.invariant-loop-j
 invariant-loop-j l =
-    Storing (λ i. get_or l.initial.s (l.a + i) 0) l.initial.h 0 l.n l.h l.j × Storing (λ i. get_or l.initial.h i 0 % l.modulus.p) l.initial.s l.a l.n l.s l.j
-
-abbrev pub decreases-loop-j : goal.decreases-loop-j
-decreases-loop-j l = l.n - l.j
+    Storing (λ i. get_or l.initial.s (l.a + i) 0) l.initial.word-items 0 l.n l.word-items l.j
+    × Storing (λ i. get_or l.fn.h i 0 % l.modulus.p) l.initial.s l.a l.n l.s l.j

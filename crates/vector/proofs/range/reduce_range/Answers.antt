@@ -1,29 +1,31 @@
-use mathlib.Core.Path.{sym, ap, ◌∙◌}
-use Prim.Native.Nat.{ℕ, ◌%◌}
-use native.Mathlib.Nat.{zero-add}
-use Rattle.vector.proofs.Storing.{storing_start, storing_reads_at, storing_turn_at, storing_end}
+use Rattle.std.proofs.Common.{◌≡◌, ◌+◌, ◌<◌, ◌≤◌, ◌%◌, length, get_or, refl, ap, ◌∙◌, zero-add, arith}
+use Rattle.vector.proofs.Parts.{range_length, range_reads, range_turn, range_end}
+use Rattle.vector.proofs.Storing.{storing_start}
 use Rattle.vector.proofs.range.reduce_range.Goals as goal
 
-pub loop-j-init : goal.loop-j-init
-loop-j-init c = storing_start _ _ _ _
+pub loop-word-init : goal.loop-word-init
+loop-word-init c = storing_start _ _ _ _
 
 pub reduce-requires : goal.reduce-requires
 reduce-requires c =
-    let L = c in
-    let given = L.requires in
-    let reads = storing_reads_at L.loop-j.invariant L.loop-j.j (sym (zero-add L.loop-j.j)) in
-    (given.valid_modulus.0, rw reads (given.sums L.loop-j.j c.loop-j-test.true))
+    let A = c.args in
+    let j = c.loop-word.word-index in
+    let room : 0 + A.n ≤ length A.h.now = omega arith in
+    let lt : j < A.n = omega (arith, range_length A.h.now 0 A.n A.n room refl) in
+    let reads = range_reads A.h.now 0 A.n A.n room refl c.loop-word.invariant lt in
+    rw (reads, zero-add) (c.requires.sums j lt)
 
-pub loop-j-preserved : goal.loop-j-preserved
-loop-j-preserved c =
-    let L = c in
-    let here = sym (zero-add L.loop-j.j) in
-    let p = L.args.modulus.p in
-    let value = c.reduce.ensures ∙ ap (λ (x : ℕ). x % p) (storing_reads_at L.loop-j.invariant _ here) in
-    storing_turn_at L.loop-j.invariant _ here _ c.loop-j-test.true value
-
-pub shape_of-h : goal.shape_of-h
-shape_of-h c = c.loop-j.invariant.same_length
+pub loop-word-preserved : goal.loop-word-preserved
+loop-word-preserved c =
+    let A = c.args in
+    let j = c.loop-word.word-index in
+    let room : 0 + A.n ≤ length A.h.now = omega arith in
+    let lt : j < A.n = omega (arith, range_length A.h.now 0 A.n A.n room refl) in
+    let reads : _ ≡ get_or A.h.now j 0 = range_reads A.h.now 0 A.n A.n room refl c.loop-word.invariant lt ∙ ap (λ i. get_or A.h.now i 0) (zero-add j) in
+    range_turn A.h.now 0 A.n A.n room refl c.loop-word.invariant _ lt (c.reduce.ensures ∙ ap (λ x. x % A.modulus.p) reads)
 
 pub returns : goal.returns
-returns c = storing_end c.loop-j.invariant c.loop-j-test.false
+returns c =
+    let A = c.args in
+    let room : 0 + A.n ≤ length A.h.now = omega arith in
+    range_end A.h.now 0 A.n A.n room refl c.loop-word.invariant (omega (arith, range_length A.h.now 0 A.n A.n room refl))

@@ -1,11 +1,6 @@
--- `vector::range::reduce_range` meets its contract: before turn j the first j words are reduced. Assumes nothing.
-use Prim.Native.Nat.{◌-◌, ◌%◌}
-use lib.ListN.{get_or}
+use Rattle.std.proofs.Common.{◌%◌, get_or}
 use Rattle.vector.proofs.Storing.{Storing}
 use Rattle.vector.proofs.range.reduce_range.Given as goal
 
-abbrev pub invariant-loop-j : goal.invariant-loop-j
-invariant-loop-j l = Storing (λ i. get_or l.initial.h i 0 % l.modulus.p) l.initial.h 0 l.n l.h l.j
-
-abbrev pub decreases-loop-j : goal.decreases-loop-j
-decreases-loop-j l = l.n - l.j
+abbrev pub invariant-loop-word : goal.invariant-loop-word
+invariant-loop-word l = Storing (λ i. get_or l.fn.h i 0 % l.modulus.p) l.initial.word-items 0 l.n l.word-items l.word-index

@@ -2,13 +2,13 @@
 use mathlib.Core.Path.{◌≡◌, refl, subst}
 use native.Mathlib.Omega.{arith}
 use lib.ListN.{length}
-use Rattle.answers.specs.Answer.{shape_of, form_of}
+use Rattle.answers.specs.Answer.{shape_of}
 use Rattle.words.specs.Starts.{first_entries}
 use Rattle.loader.specs.Slot.{InSlots}
 use Rattle.loader.specs.SlotLaws.{read_stands}
 use Rattle.loader.specs.Widths.{certificate_width}
 use Rattle.verifier.specs.Loading.{AreaRoom}
-use Rattle.verifier.proofs.Read.{read_shape, read_certificate_lem, read_few, line_has, line_loaded, read_loads}
+use Rattle.verifier.proofs.Read.{read_shape, read_within, read_certificate_lem, read_few, line_has, line_loaded, read_loads}
 use borrow.Author.Rules.{rules}
 use Rattle.verifier.proofs.loading.load_read.Goals as goal
 
@@ -33,6 +33,9 @@ load-requires c =
       omega (arith, count, read_few _ _ b, S.requires.room.certificate),
     )
 
+pub invariant_of-result : goal.invariant_of-result
+invariant_of-result c = record { within = read_within _ _ c.requires.both_line }
+
 pub returns : goal.returns
 returns c =
     let b = c.requires.both_line in
@@ -44,10 +47,9 @@ returns c =
       system = omega (arith, c.requires.room.system);
       certificate = omega (arith, c.requires.room.certificate);
     } in
-    let found = read_loads _ _ b _ c.new-modulus.ensures.0 c.new-modulus.ensures.1 A C room
+    read_loads _ _ b _ _ c.new-modulus.ensures A C room
     (line_loaded _ _ b c.load_line.ensures)
     (read_stands (read_certificate_lem _ _ b)
     (subst (λ n. InSlots certificate_width C (first_entries c.args.certificate.now n)) c.entry_count-count.ensures
     c.load.ensures))
-    (form_of c.args.form) refl in
-    record { ready = found.0; verdict = found.1 }
+    _ refl

@@ -1,44 +1,34 @@
 -- One multiple added to the words, then the value of these (`Multiple`).
-use mathlib.Core.Path.{◌≡◌}
-use Prim.Native.Nat.{◌+◌, ◌<◌, ◌≤◌}
+use Prim.Native.Nat.{◌+◌, ◌<◌}
 use native.Mathlib.Omega.{arith}
-use lib.ListN.{length}
-use borrow.Author.Rules.{rules}
-use Rattle.residue.specs.Modulus.{ValidModulus}
-use Rattle.polynomial.specs.Value.{polynomial_room, word_below, represents_is}
+use Rattle.residue.specs.Modulus.{ValidModulus, valid_modulus}
+use Rattle.polynomial.specs.Value.{word_below, represents_is}
 use Rattle.polynomial.proofs.Multiple.{multiple_fits, multiple_small, multiple_is}
 use Rattle.polynomial.proofs.value.Polynomial.add_multiple.Goals as goal
 
-pub add_scaled-requires : goal.add_scaled-requires
-add_scaled-requires c =
-    let S = c in
-    let m : ValidModulus S.args.modulus = S.requires.0 in
-    let positive : 0 < S.args.modulus.p = omega (arith, m.prime.large) in
-    let g = S.requires.3 in record {
-      n_in_bounds = (omega (arith, S.requires.1.room, g.within), omega (arith, g.room, g.within), omega (arith, m.limit, S.requires.2));
-      small = (λ j lt. omega (arith, word_below S.args.modulus.p S.args.g g positive (0 + j), m.limit));
-      fits = λ j lt. multiple_fits S.args.modulus.p positive S.requires.1 g S.args.c S.requires.2 m.limit j;
-    }
+pub add_scaled-requires-clause-small : goal.add_scaled-requires-clause-small
+add_scaled-requires-clause-small c =
+    let m : ValidModulus c.args.modulus = valid_modulus c.args.modulus in
+    let positive : 0 < c.args.modulus.p = omega (arith, m.prime.large) in
+    λ j lt. omega (arith, word_below c.args.modulus.p c.args.g c.requires.2 positive (0 + j), m.limit)
 
-pub from_words-requires : goal.from_words-requires
-from_words-requires c =
-    let S = c in
-    let m : ValidModulus S.args.modulus = S.requires.0 in
-    let positive : 0 < S.args.modulus.p = omega (arith, m.prime.large) in
-    let called = c.add_scaled in
-    let p = S.args.modulus.p in
-    let small = multiple_small p positive S.requires.1 S.requires.3 S.args.c S.requires.2 _ called.ensures.words in
-    let long : length called.new.h ≡ polynomial_room = search rules in
-    let fits : c.larger.result ≤ polynomial_room = omega (arith, c.larger.ensures, S.requires.1.within, S.requires.3.within) in
-    record {
-      valid_modulus = (m, fits, omega arith);
-      small = λ i lt. small (0 + i);
-    }
+pub add_scaled-requires-clause-fits : goal.add_scaled-requires-clause-fits
+add_scaled-requires-clause-fits c =
+    let m : ValidModulus c.args.modulus = valid_modulus c.args.modulus in
+    let positive : 0 < c.args.modulus.p = omega (arith, m.prime.large) in
+    λ j lt. multiple_fits c.args.modulus.p positive c.requires.0 c.requires.2 c.args.c c.requires.1 m.limit j
+
+pub from_words-requires-clause-small : goal.from_words-requires-clause-small
+from_words-requires-clause-small c =
+    let m : ValidModulus c.args.modulus = valid_modulus c.args.modulus in
+    let positive : 0 < c.args.modulus.p = omega (arith, m.prime.large) in
+    let small = multiple_small c.args.modulus.p positive c.requires.0 c.requires.2 c.args.c c.requires.1 _ c.add_scaled.ensures.words in
+    λ i lt. small (0 + i)
 
 pub returns : goal.returns
 returns c =
     let S = c in
-    let m : ValidModulus S.args.modulus = S.requires.0 in
+    let m : ValidModulus S.args.modulus = valid_modulus S.args.modulus in
     let positive : 0 < S.args.modulus.p = omega (arith, m.prime.large) in
     let called = c.add_scaled in
     represents_is
@@ -46,12 +36,12 @@ returns c =
     (multiple_is
     S.args.modulus.p
     positive
-    S.requires.1
-    S.requires.3
-    S.args.c
+    S.requires.0
     S.requires.2
+    S.args.c
+    S.requires.1
     called.new.h
-    c.larger.result
+    c.max.result
     called.ensures.polynomials
-    (omega (arith, c.larger.ensures))
-    (omega (arith, c.larger.ensures)))
+    (omega (arith, c.max.ensures))
+    (omega (arith, c.max.ensures)))

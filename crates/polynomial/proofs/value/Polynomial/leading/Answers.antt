@@ -1,22 +1,19 @@
 -- The last of the coefficients, 0 where there is none.
-use mathlib.Core.Path.{◌≡◌, sym, ap}
-use Prim.Native.Nat.{ℕ}
-use native.Mathlib.Omega.{arith}
+use mathlib.Core.Path.{ap, ◌∙◌}
+use mathlib.Core.List.{List}
 use lib.ListN.{length, take}
-use borrow.Author.Rules.{rules}
-use Rattle.algebra.specs.Coefficients.{leading}
-use Rattle.modular.specs.Modulo.{modulo}
-use Rattle.polynomial.specs.Value.{polynomial_room, coefficients_of}
+use Prim.Native.Nat.{ℕ, ◌-◌}
+use Rattle.std.specs.Option.{unwrap_or}
+use Rattle.std.proofs.lemmas.Option.{unwrap_or-slice_get}
+use Rattle.polynomial.specs.Value.{coefficients_of}
 use Rattle.polynomial.proofs.Made.{leading_last}
 use Rattle.polynomial.proofs.value.Polynomial.leading.Goals as goal
 
-pub returns-then-n-eq0 : goal.returns-then-n-eq0
-unfolding coefficients_of leading modulo
-returns-then-n-eq0 c = λ p. ap (λ (n : ℕ). leading (modulo p) (take n c.args.self.coefficients)) (sym c.if-n-eq0.true)
-
 pub returns : goal.returns
 unfolding coefficients_of
-returns c =
-    let f = c.args.self in
-    let room : length f.coefficients ≡ polynomial_room = search rules in
-    λ p. leading_last p f.size f.coefficients (omega arith) (omega arith)
+returns c = λ p.
+    let words : List ℕ = take c.args.self.size c.args.self.coefficients in
+    c.unwrap_or.ensures
+    ∙ ap (λ o. unwrap_or o 0) (c.copied.ensures ∙ c.last.ensures.value)
+    ∙ unwrap_or-slice_get words (length words - 1) 0
+    ∙ leading_last p words

@@ -7,14 +7,6 @@ use Rattle.modular.specs.Modulo.{modulo}
 use Rattle.polynomial.specs.Value.{coefficients_of, represents_is}
 use Rattle.polynomial.proofs.value.Polynomial.multiply.Goals as goal
 
-pub add_product-requires : goal.add_product-requires
-add_product-requires c =
-    let S = c in
-    record {
-      valid_modulus = (S.requires.0, (c.zero.ensures S.args.modulus.p).valid, S.requires.1, S.requires.2);
-      room = S.requires.3;
-    }
-
 pub returns : goal.returns
 unfolding add
 returns c =

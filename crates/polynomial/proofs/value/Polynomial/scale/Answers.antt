@@ -2,16 +2,10 @@
 use mathlib.Core.Path.{ap}
 use mathlib.Core.List.{List}
 use Prim.Native.Nat.{ℕ}
-use native.Mathlib.Omega.{arith}
 use Rattle.algebra.specs.Coefficients.{add, scale}
 use Rattle.modular.specs.Modulo.{modulo}
 use Rattle.polynomial.specs.Value.{coefficients_of, represents_is}
 use Rattle.polynomial.proofs.value.Polynomial.scale.Goals as goal
-
-pub add_multiple-requires : goal.add_multiple-requires
-add_multiple-requires c =
-    let S = c in
-    (S.requires.0, (c.zero.ensures S.args.modulus.p).valid, omega arith, S.requires.1)
 
 pub returns : goal.returns
 unfolding add

@@ -3,4 +3,4 @@ use Rattle.polynomial.proofs.Made.{represents_zero}
 use Rattle.polynomial.proofs.value.Polynomial.zero.Goals as goal
 
 pub returns : goal.returns
-returns c = λ p. represents_zero p c.zeros-words.result c.zeros-words.ensures.0 c.zeros-words.ensures.1
+returns c = λ p. represents_zero p _ c.zeros-words.ensures.0 c.zeros-words.ensures.1
