@@ -3,7 +3,7 @@ use mathlib.Core.Path.{◌≡◌, refl, ap, ◌∙◌}
 use mathlib.Core.Bool.{true}
 use mathlib.Core.List.{List}
 use Prim.Native.Nat.{ℕ, ◌+◌, ◌*◌, ◌≤◌, ◌<◌}
-use native.Mathlib.Nat.{mul-le-mul, le_antisymm}
+use native.Mathlib.Nat.{mul-le-mul}
 use native.Mathlib.Numerals.{add-one}
 use native.Mathlib.Omega.{arith}
 use lib.ListN.{length, get_or}
@@ -48,7 +48,6 @@ fits h s factors counts e =
 -- t steps are made
 pub record Rounding (h₀ s factors counts h : List ℕ) (t : ℕ) : Type 0 where
   pub given : Fits h₀ s factors counts
-  pub within : t ≤ length factors
   pub same_length : length h ≡ length h₀
   pub small : AtMost (most32 + t * bound32) h
   pub words : h ≡ rounds t factors counts s h₀
@@ -57,16 +56,12 @@ pub start : {h s factors counts : List ℕ} → Fits h s factors counts → Roun
 unfolding rounds
 start given = record {
   given = given;
-  within = omega arith;
   same_length = refl;
   small = λ i. omega (arith, given.hand i);
   words = refl;
 }
 
 module _ {h₀ s factors counts h : List ℕ} {t : ℕ} (r : Rounding h₀ s factors counts h t) where
-  pub end : length factors ≤ t → t ≡ length factors
-  end past = le_antisymm r.within past
-
   abbrev c : ℕ
   c = get_or factors t 0
 
@@ -91,7 +86,6 @@ module _ {h₀ s factors counts h : List ℕ} {t : ℕ} (r : Rounding h₀ s fac
         let grown = at_most_sum (most32 + t * bound32) bound32 h 0 s 0 n c r.small product_small in
         record {
           given = r.given;
-          within = omega arith;
           same_length = ap length e ∙ length_stored (sum_at h 0 s 0 c) h 0 n ∙ r.same_length;
           small = λ i. rw e (omega (arith, grown i));
           words = e ∙ rw (add-one, ← r.words);

@@ -55,8 +55,8 @@ pub extern "C" fn bench_add_scaled(
     if !steps_fit(h, s, factors, counts) {
         return 0;
     }
-    for (t, factor) in factors.iter().enumerate() {
-        vector::add_scaled(h, 0, s, 0, counts[t] as usize, *factor);
+    for (factor, count) in factors.iter().zip(counts) {
+        vector::add_scaled(h, 0, s, 0, *count as usize, *factor);
     }
     factors.len()
 }

@@ -1,5 +1,5 @@
 -- How the end of a file is found.
-use Rattle.std.specs.Prelude.{ℕ, Result, Ok, Err}
+use Rattle.std.specs.Prelude.{ℕ, Result, Ok, Err, Option, Some, None, cond, ltb}
 
 -- the bytes that one turn reads
 abbrev pub turn_bytes : ℕ
@@ -9,7 +9,7 @@ turn_bytes = 65536
 abbrev pub most_bytes : ℕ
 most_bytes = 16777216
 
--- a length that the system tells; 0 where it tells none
-abbrev pub length_told : {E : Type 0} → Result ℕ E → ℕ
-length_told (Ok length) = length
-length_told (Err reason) = 0
+-- the end that the system tells, where it is behind so many bytes
+abbrev pub end_told : {E : Type 0} → Result ℕ E → ℕ → Option ℕ
+end_told (Ok end) count = cond (ltb count end) (Some end) None
+end_told (Err reason) count = None

@@ -1,7 +1,7 @@
 // Files by their names. What is wrong with one is said on standard error.
 ghost use Rattle.std.specs.Prelude.{◌≡◌};
 ghost use Rattle.streams.specs.Reading.{ReadWithin};
-ghost use Rattle.cardcheck.specs.End.{turn_bytes, length_told};
+ghost use Rattle.cardcheck.specs.End.{turn_bytes, end_told};
 
 use crate::name::mask;
 use std::io::{Error, ErrorKind, Read, Seek, SeekFrom, Write};
@@ -30,11 +30,12 @@ const MOST: usize = 16777216;
 // The bytes that one turn reads.
 const TURN: usize = 65536;
 
-// Returns the length that an answer of the system tells; 0 where it tells none.
-fn length_told(answer: io::Result<u64>) -> usize
-    ensures { result ≡ length_told answer }
+// Returns the end that an answer of the system tells, where it is behind `count` bytes.
+fn end_told(answer: io::Result<u64>, count: usize) -> Option<usize>
+    ensures { result ≡ end_told answer count }
 {
-    answer.map_or(0, |length| length as usize)
+    let end = answer.ok()? as usize;
+    (count < end).then_some(end)
 }
 
 // Reads up to `TURN` bytes more.
@@ -62,11 +63,10 @@ fn read_on<R: Read>(file: &mut R, count: usize) -> Result<usize, Unread> {
 // Finds the length of a file of which `count` bytes were read. The system tells that of a regular file; where it tells of no bytes
 // behind these, reads on.
 fn find_end<R: Read + Seek>(file: &mut R, count: usize) -> Result<usize, Unread> {
-    let end = length_told(file.seek(SeekFrom::End(0)));
-    if end <= count {
-        return read_on(file, count);
+    match end_told(file.seek(SeekFrom::End(0)), count) {
+        Some(end) => Ok(end),
+        None => read_on(file, count),
     }
-    Ok(end)
 }
 
 // Reads as much of a file as `bytes` have room for, and finds its length.

@@ -6,7 +6,7 @@ ghost use Rattle.cardcheck.specs.Name.{masked_byte};
 fn mask_byte(byte: u8) -> u8
     ensures { result ≡ masked_byte byte }
 {
-    if byte < 32 || byte == 127 { b'?' } else { byte }
+    if byte.is_ascii_control() { b'?' } else { byte }
 }
 
 // Makes a name one that can be said in a line.

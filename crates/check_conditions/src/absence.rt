@@ -8,6 +8,7 @@ ghost use Rattle.check_conditions.specs.Table.{product_wrong, try_products, try_
 
 use crate::areas::AbsenceAreas;
 use crate::dimensions::Dimensions;
+use crate::first::refuse_first;
 use crate::matrix::side;
 use answers::{Reason, Refusal};
 
@@ -24,15 +25,8 @@ impl AbsenceAreas<'_> {
     fn try_products(&self) -> Result<(), Refusal>
         ensures { verdict_outcome result ≡ try_products (absent_system_of self.now) (kernel_of self.now) }
     {
-        for j in 0..self.dimensions.columns {
-            if self.product_wrong(j) {
-                return Err(Refusal {
-                    reason: Reason::NotAKernel,
-                    place: j,
-                });
-            }
-        }
-        Ok(())
+        let columns = self.dimensions.columns;
+        refuse_first(columns, Reason::NotAKernel, |j| self.product_wrong(j))
     }
 
     // Tries 36: q·b zero.

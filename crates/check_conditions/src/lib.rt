@@ -6,6 +6,7 @@
 pub mod absence;
 pub mod areas;
 pub mod dimensions;
+mod first;
 pub mod matrix;
 pub mod solution;
 pub mod sum;

@@ -12,6 +12,7 @@ ghost use Rattle.check_conditions.specs.Table.{try_monic, row_wrong, try_rows, t
 
 use crate::areas::SolutionAreas;
 use crate::dimensions::Dimensions;
+use crate::first::refuse_first;
 use crate::matrix::side;
 use crate::walk::{REMAINDERS, leaves_remainder, walk_columns};
 use answers::{Reason, Refusal};
@@ -62,15 +63,8 @@ impl SolutionAreas<'_> {
         ensures { verdict_outcome result ≡
             try_rows (system_of self.now) (denominator_of self.now) (numerators_of self.now) }
     {
-        for i in 0..self.dimensions.rows {
-            if self.row_wrong(i) {
-                return Err(Refusal {
-                    reason: Reason::NotASolution,
-                    place: i,
-                });
-            }
-        }
-        Ok(())
+        let rows = self.dimensions.rows;
+        refuse_first(rows, Reason::NotASolution, |i| self.row_wrong(i))
     }
 
     // Tries 33: w does not divide Z·A; first such column. One walk down the columns leaves the remainders.
@@ -88,15 +82,10 @@ impl SolutionAreas<'_> {
         let e = w.len() - 1;
         let mut carried = [0; REMAINDERS];
         walk_columns(&mut carried, self);
-        for j in 0..self.dimensions.columns {
-            if leaves_remainder(&carried, e, j, modulus) {
-                return Err(Refusal {
-                    reason: Reason::ColumnNotDivisible,
-                    place: j,
-                });
-            }
-        }
-        Ok(())
+        let columns = self.dimensions.columns;
+        refuse_first(columns, Reason::ColumnNotDivisible, |j| {
+            leaves_remainder(&carried, e, j, modulus)
+        })
     }
 
     // Tries 34: the denominators differ: w divided by the greatest common divisor of w and Z·b, made monic, is not d.

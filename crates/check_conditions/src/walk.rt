@@ -122,12 +122,10 @@ fn longest_entry(areas: &SolutionAreas, i: usize) -> usize
         length (slot system_width areas.now.system.now (i * areas.now.dimensions.columns + j)) ≤ result) }
 {
     let columns = areas.dimensions.columns;
-    let mut longest: usize = 0;
-    for j in 0..columns {
-        let f = coefficients_in(areas.system, SYSTEM_WIDTH, i * columns + j);
-        longest = longest.max(f.len());
-    }
-    longest
+    (0..columns)
+        .map(|j| coefficients_in(areas.system, SYSTEM_WIDTH, i * columns + j).len())
+        .max()
+        .unwrap_or(0)
 }
 
 // Takes row i along in every column: what is carried on is the remainder by w of what was carried and of Z_i·A_ij, added. So it is

@@ -11,7 +11,6 @@ ghost use Rattle.linksolve.specs.declared.Unsolved.TheVariants.{Refused};
 
 use answers::Refusal;
 use limits::Office;
-use report_text::{SPACE, write_refusal};
 use solver::file::solve_file;
 use std::io;
 use std::io::{IsTerminal, Write};
@@ -36,9 +35,7 @@ impl From<Refusal> for Unsolved {
 
 // Prints a refusal on standard error, as the report does.
 fn refuse<E: Write>(errors: &mut E, refusal: Refusal) {
-    let mut line = [0u8; SPACE];
-    let n = write_refusal(&mut line, refusal);
-    say(errors, &line[0..n]);
+    let _ = writeln!(errors, "{refusal}");
 }
 
 // Writes a certificate to standard output, but to no terminal.

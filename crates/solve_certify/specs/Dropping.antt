@@ -19,7 +19,7 @@ use Rattle.reduction.specs.Link.{link_drop}
 use Rattle.reduction.specs.Levels.{level_of}
 use Rattle.reduction.specs.Descent.{turn_drop}
 use Rattle.solve_lattice.specs.declared.stage.Stage.{Stage}
-use Rattle.solve_lattice.specs.Stage.{valid_stage}
+use Rattle.solve_lattice.specs.Stage.{valid_stage, next_stage}
 use Rattle.solve_lattice.specs.Memory.{Level}
 use Rattle.solve_lattice.specs.Range.{words_zero}
 use Rattle.solve_lattice.specs.Reading.{ends_zero}
@@ -32,7 +32,7 @@ use Rattle.solve_lattice.specs.Output.{ValidOutput, HoldsAt}
 use Rattle.solve_certify.specs.Ascended.{HoldsLevels, HoldsDescended, HoldsAscended, Ascended}
 use Rattle.solve_certify.specs.Extending.{Extension, extended, extended_next, extended_last}
 use Rattle.solve_certify.specs.Undoing.{above, undone, has_extended}
-use Rattle.solve_certify.specs.Ready.{Ready, Within, AscendedFrom, AscendedNext, next_stage, ready_next}
+use Rattle.solve_certify.specs.Ready.{Ready, AscendedFrom, AscendedNext, ready_next}
 
 -- nothing is left of the stage's column
 pub record ColumnSpanned (s : Stage) (L : Level) (input : List ℕ) : Type 0 where
@@ -148,7 +148,7 @@ module _ {p : ℕ} {n m j : ℕ} {input : List ℕ} {L : Level} (inside : j < m)
 
 -- at a stage
 module _ {s : Stage} {input : List ℕ} {L : Level} (C : ColumnSpanned s L input) where
-  pub drop_ready : {quotients output : List ℕ} {within : Within s} → Ready s input L quotients output → Ready (next_stage s within) input L quotients output
+  pub drop_ready : {quotients output : List ℕ} → Ready s input L quotients output → Ready (next_stage s) input L quotients output
   drop_ready given = ready_next given C.inside given.valid_level
       (has_extended (λ prime X H. dropping C.inside C.divided C.nothing prime H) given.levels)
 

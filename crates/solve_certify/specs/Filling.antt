@@ -20,7 +20,7 @@ use Rattle.reduction.specs.Levels.{level_of}
 use Rattle.reduction.specs.Descent.{Descent, Turn, descent_turn}
 use Rattle.residue.specs.Modulus.{valid_modulus}
 use Rattle.solve_lattice.specs.declared.stage.Stage.{Stage}
-use Rattle.solve_lattice.specs.Stage.{valid_stage}
+use Rattle.solve_lattice.specs.Stage.{valid_stage, next_stage}
 use Rattle.solve_lattice.specs.Room.{block_words, last_degree, slot_places, lanes, most_coefficients}
 use Rattle.solve_lattice.specs.Memory.{row, height, Level, slot_size, slot_inverse, ValidLevel}
 use Rattle.solve_lattice.specs.Sums.{sums_room}
@@ -34,7 +34,7 @@ use Rattle.solve_lattice.specs.Input.{Equations, input_system}
 use Rattle.solve_certify.specs.Ascended.{HoldsLevels, HoldsDescended}
 use Rattle.solve_certify.specs.Extending.{Extension, extended, extended_next, extended_last}
 use Rattle.solve_certify.specs.Undoing.{above, undone, has_extended, ascended_undone, ascended_none}
-use Rattle.solve_certify.specs.Ready.{Ready, Within, AscendedFrom, AscendedNext, next_stage, ready_next}
+use Rattle.solve_certify.specs.Ready.{Ready, AscendedFrom, AscendedNext, ready_next}
 
 -- the last word that is left is not 0
 pub left_leading : {p : ℕ} {L : Level} {input : List ℕ} {at : ℕ} {rest factors : List ℕ} {left : ℕ}
@@ -176,8 +176,8 @@ module _ {s : Stage} {input : List ℕ} {L : Level} {quotients output : List ℕ
 
   -- the level with the slot filled, before and after the columns behind it
   module _ {L' : Level} (fills : L' ≡ filled s.modulus.p L (row left) rest left) where
-    pub fill_ready : {within : Within s} → Ready (next_stage s within) input L' quotients output
-    fill_ready {within} = subst (λ l. Ready (next_stage s within) input l quotients output) (sym fills)
+    pub fill_ready : Ready (next_stage s) input L' quotients output
+    fill_ready = subst (λ l. Ready (next_stage s) input l quotients output) (sym fills)
         (ready_next given C.inside fill_valid (has_extended fill given.levels))
 
     pub fill_emptied : {L'' L''' : Level} → L'' ≡ L' → L''' ≡ emptied L'' (row left) (slot_inverse L (row left)) → L''' ≡ L

@@ -3,8 +3,8 @@ use Rattle.std.specs.Prelude.{ℕ, ◌+◌, ◌<◌, ◌≤◌, Bool, List}
 use Rattle.std.proofs.Common.{arith}
 use Rattle.vector.specs.Bound.{AtMost}
 use Rattle.solve_lattice.specs.declared.stage.Stage.{Stage}
+use Rattle.solve_lattice.specs.Stage.{next_stage}
 use Rattle.solve_lattice.specs.Memory.{Level, ValidLevel}
-use Rattle.solve_lattice.specs.Room.{lanes}
 use Rattle.solve_lattice.specs.Input.{ValidInput}
 use Rattle.solve_lattice.specs.Output.{ValidOutput}
 use Rattle.solve_certify.specs.Ascended.{HasLevels, Ascended}
@@ -21,21 +21,13 @@ pub record Ready (s : Stage) (input : List ℕ) (L : Level) (quotients output : 
 abbrev pub AscendedFrom : Stage → (input : List ℕ) (L : Level) (quotients output : List ℕ) → Bool → Type 0
 AscendedFrom s = Ascended s.modulus.p s.rows s.columns s.column
 
--- the system of a stage keeps the limits, as every Stage knows of itself
-abbrev pub Within : Stage → Type 0
-Within s = (s.rows ≤ lanes) × (s.columns ≤ lanes)
-
--- the next stage, by whatever shows that it keeps them
-abbrev pub next_stage : (s : Stage) → Within s → Stage
-next_stage s within = record { rows = s.rows; columns = s.columns; column = s.column + 1; modulus = s.modulus; within = within }
-
 -- what is left at the next stage
 abbrev pub AscendedNext : Stage → (input : List ℕ) (L : Level) (quotients output : List ℕ) → Bool → Type 0
 AscendedNext s = Ascended s.modulus.p s.rows s.columns (s.column + 1)
 
 pub ready_next : {s : Stage} {input : List ℕ} {L L' : Level} {quotients output : List ℕ}
-    {within : Within s} → Ready s input L quotients output → s.column < s.columns → ValidLevel s.modulus.p L'
-    → HasLevels s.modulus.p s.rows s.columns (s.column + 1) input L' → Ready (next_stage s within) input L' quotients output
+    → Ready s input L quotients output → s.column < s.columns → ValidLevel s.modulus.p L'
+    → HasLevels s.modulus.p s.rows s.columns (s.column + 1) input L' → Ready (next_stage s) input L' quotients output
 ready_next given inside valid has = record {
   column = omega arith;
   valid_input = given.valid_input;

@@ -8,6 +8,7 @@ use Rattle.modular.specs.Residue.{residues}
 use Rattle.reduction.specs.Slots.{same_refl, same_blocks}
 use Rattle.reduction.specs.Link.{link_shift, link_same}
 use Rattle.solve_lattice.specs.declared.stage.Stage.{Stage}
+use Rattle.solve_lattice.specs.Stage.{next_stage}
 use Rattle.solve_lattice.specs.Memory.{Level}
 use Rattle.solve_lattice.specs.Reading.{ends_pivot}
 use Rattle.solve_lattice.specs.Coefficients.{coefficients_blocks}
@@ -19,7 +20,7 @@ use Rattle.solve_lattice.specs.Room.{block_words, last_degree}
 use Rattle.solve_certify.specs.Ascended.{HoldsLevels}
 use Rattle.solve_certify.specs.Extending.{Extension}
 use Rattle.solve_certify.specs.Undoing.{has_extended}
-use Rattle.solve_certify.specs.Ready.{Ready, Within, next_stage, ready_next}
+use Rattle.solve_certify.specs.Ready.{Ready, ready_next}
 
 -- so many words are left of the stage's column, in `rest`
 pub record Leaves (s : Stage) (L : Level) (input rest : List ℕ) (left : ℕ) : Type 0 where
@@ -67,5 +68,5 @@ module _ {s : Stage} {input : List ℕ} {L L' : Level} {rest kernel : List ℕ} 
       (H : HoldsLevels s.modulus.p prime s.rows s.columns X s.column input L) → Extension s.modulus.p prime H L'
   rise prime X H = rising C.inside C.divided C.some next prime H
 
-  pub rise_ready : {quotients output : List ℕ} {within : Within s} → Ready s input L quotients output → Ready (next_stage s within) input L' quotients output
+  pub rise_ready : {quotients output : List ℕ} → Ready s input L quotients output → Ready (next_stage s) input L' quotients output
   rise_ready given = ready_next given C.inside next.valid (has_extended rise given.levels)

@@ -6,13 +6,13 @@ ghost use Rattle.solve_certify.specs.Filling.{Fills};
 ghost use Rattle.solve_certify.specs.Rising.{Leaves};
 
 use crate::descending::descend;
-use crate::dropping::leave_out;
 use crate::witness::find_witness;
 use solve_descent::lower_quotients;
 use solve_lattice::{
-    BLOCK, Block, INVERSES, Input, LANES, LAST_LANE, LEVEL, Level, Output, Product, SIZES, Stage,
+    BLOCK, Block, INVERSES, Input, LEVEL, Level, Output, Product, SIZES, Stage, pivot_row,
 };
 use solve_levels::{divide_column, empty_slot, fill_slot, next_level};
+use vector::clear;
 
 // Makes a certificate in `output`, but for the numerators of the columns that are in `level`, the first of the stage; stores the
 // coefficients of what is left of d b in the blocks of `level` in `quotients`, which are 0. Leaves `level` as before. Returns
@@ -48,7 +48,7 @@ pub fn ascend(
     if left == 0 {
         return drop_column(output, quotients, level, input, stage);
     }
-    if level[SIZES + (LAST_LANE - (left - 1) % LANES)] == 0 {
+    if level[SIZES + pivot_row(left)] == 0 {
         return fill_column(
             output,
             quotients,
@@ -77,11 +77,10 @@ fn drop_column(
     ensures ascended_from { AscendedFrom stage input.now level.old quotients.new output.new result }
     ensures level { level.new ≡ level.old }
 {
-    let mut next = stage;
-    next.column += 1;
-    let found = ascend(output, quotients, level, input, next);
-    let column = stage.column;
-    leave_out(output, column, found);
+    let found = ascend(output, quotients, level, input, stage.next_column());
+    if found {
+        clear(output, BLOCK * (1 + stage.column), BLOCK);
+    }
     found
 }
 
@@ -104,12 +103,10 @@ fn fill_column(
     ensures level { level.new ≡ level.old }
 {
     let modulus = stage.modulus;
-    let q = LAST_LANE - (left - 1) % LANES;
+    let q = pivot_row(left);
     let inverse = level[INVERSES + q];
     fill_slot(level, q, rest, left, modulus);
-    let mut next = stage;
-    next.column += 1;
-    let found = ascend(output, quotients, level, input, next);
+    let found = ascend(output, quotients, level, input, stage.next_column());
     empty_slot(level, q, inverse);
     if found {
         let column = stage.column;
@@ -138,9 +135,7 @@ fn insert_column(
     let mut upper = [0u64; LEVEL];
     let mut kernel = [0u64; BLOCK];
     let size = next_level(&mut upper, &mut kernel, rest, left, level, modulus);
-    let mut next = stage;
-    next.column += 1;
-    let found = ascend(output, quotients, &mut upper, input, next);
+    let found = ascend(output, quotients, &mut upper, input, stage.next_column());
     if found {
         descend(
             output, quotients, level, &upper, &kernel, size, input, stage,

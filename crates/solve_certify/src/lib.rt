@@ -1,11 +1,10 @@
-// The solver on memory, from a system to its certificate: up over the columns and down again (ascending; descending, dropping), and
-// at the top the right side inserted and the second system solved (witness; insertion, solution, absence).
+// The solver on memory, from a system to its certificate: up over the columns and down again (ascending; descending), and at the top
+// the right side inserted and the second system solved (witness; insertion, solution, absence).
 #![tactic(auto)]
 
 pub mod absence;
 pub mod ascending;
 pub mod descending;
-pub mod dropping;
 pub mod insertion;
 pub mod solution;
 pub mod witness;

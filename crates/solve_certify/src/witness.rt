@@ -8,7 +8,7 @@ ghost use Rattle.solve_certify.specs.Witnessed.{HasLast, Witnessed};
 use crate::absence::find_absence;
 use crate::insertion::insert_side;
 use crate::solution::find_solution;
-use solve_lattice::{Input, LANES, LAST_LANE, LEVEL, Level, Output, Product, Stage, TAIL};
+use solve_lattice::{Input, LEVEL, Level, Output, Product, Stage, TAIL, pivot_row};
 
 // Finds what decides whether a system has a solution, from its last level. Where it has one: stores d, w and Z in `output` and the
 // coefficients of d b in the blocks of `level` in `quotients`, which are 0; returns true. Where it has none: stores q in `output`
@@ -37,6 +37,6 @@ pub fn find_witness(
         find_solution(output, quotients, &mut next, level, &tail, input, stage);
         return true;
     }
-    find_absence(output, level, rows, LAST_LANE - (size - 1) % LANES, modulus);
+    find_absence(output, level, rows, pivot_row(size), modulus);
     false
 }

@@ -33,6 +33,10 @@ pub cancelled : {K : Type 0} (R : Ring K) (h u i : K) → R.mul u i ≡ R.one �
 cancelled R h u i e = combination R (R.add h (R.neg (R.mul (R.mul h i) u))) R.zero (given (R.neg h) e ∷ [])
     (identity R (h ∷ u ∷ i ∷ []) (λ ρ qh qu qi. search quotes depth 16) refl)
 
+-- the words of the degrees of k words
+pub whole_degrees : {w : ℕ} (k : ℕ) → w ≡ k + (lanes - k % lanes) % lanes → w ≡ height k * lanes
+whole_degrees k same = omega (arith, same)
+
 -- the leading word and its slot's inverse are factors
 pub value_below : {p : ℕ} {L : Level} {block : List ℕ} {k value : ℕ} → 0 < p → HasMultiple p L block k value → value < p
 value_below {p} {L} {block} {k} positive S = subst (λ x. x < p) (sym S.leading) (mod-lt (get_or block (k - 1) 0) positive)

@@ -5,7 +5,8 @@ ghost use Rattle.solve_lattice.specs.Room.{lanes, product_words, most_places};
 ghost use Rattle.solve_lattice.specs.Memory.{height, ValidLevel, ZeroFrom, Sums};
 ghost use Rattle.solve_lattice.specs.Quotients.{BlockDivided};
 
-use crate::room::{LANES, LAST_LANE, Level, SIZES};
+use crate::pivot::pivot_row;
+use crate::room::{LAST_LANE, Level, SIZES};
 use crate::step::{find_rest, take_multiple};
 use residue::modulus::Modulus;
 use vector::find_leading;
@@ -30,7 +31,7 @@ pub fn divide(
     let mut found = find_leading(block, n, modulus);
     while 0 < found.size {
         let k = found.size;
-        let q = LAST_LANE - (k - 1) % LANES;
+        let q = pivot_row(k);
         let size = level[SIZES + q] as usize;
         if size == 0 || k < size {
             return k;

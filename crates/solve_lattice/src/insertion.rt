@@ -4,7 +4,8 @@ ghost use Rattle.solve_lattice.specs.Moves.{GoesOn, Lengthened, Stepped};
 ghost use Rattle.solve_lattice.specs.Insertion.{Starts, Inserts};
 
 use crate::hand::Hand;
-use crate::room::{LANES, LAST_LANE, Level, SIZES, Tail};
+use crate::pivot::pivot_row;
+use crate::room::{Level, SIZES, Tail};
 use residue::modulus::Modulus;
 
 // What an insertion works on: a level, the words of the vector in hand and what is kept beside them, and the modulus.
@@ -28,7 +29,7 @@ impl Insertion<'_> {
         ensures same { SameReferences self.old self.new }
     {
         let k = self.hand.size;
-        let q = LAST_LANE - (k - 1) % LANES;
+        let q = pivot_row(k);
         if k < self.level[SIZES + q] as usize {
             self.swap_with_slot();
         }
@@ -52,7 +53,7 @@ impl Insertion<'_> {
         ensures same { SameReferences self.old self.new }
     {
         while 0 < self.hand.size {
-            let q = LAST_LANE - (self.hand.size - 1) % LANES;
+            let q = pivot_row(self.hand.size);
             if self.level[SIZES + q] == 0 {
                 return;
             }

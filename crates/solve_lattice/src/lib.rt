@@ -5,6 +5,7 @@ pub mod division;
 pub mod hand;
 pub mod insertion;
 pub mod moves;
+pub mod pivot;
 pub mod remainder;
 pub mod room;
 pub mod stage;
@@ -13,6 +14,7 @@ pub mod step;
 pub use division::divide;
 pub use hand::Hand;
 pub use insertion::Insertion;
+pub use pivot::pivot_row;
 pub use remainder::reduce_words;
 pub use room::{
     BLOCK, Block, COEFFICIENTS, DEGREES, INPUT, INVERSES, Input, LANES, LAST_LANE, LEVEL, Level,

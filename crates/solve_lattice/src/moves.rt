@@ -7,7 +7,8 @@ ghost use Rattle.solve_lattice.specs.Moves.{Fits, HasRoom, Stepped, Swapped};
 
 use crate::hand::Hand;
 use crate::insertion::Insertion;
-use crate::room::{BLOCK, INVERSES, LANES, LAST_LANE, SIZES, SLOT, TAIL_SIZES};
+use crate::pivot::pivot_row;
+use crate::room::{BLOCK, INVERSES, LANES, SIZES, SLOT, TAIL_SIZES};
 use crate::step::{find_rest, take_multiple};
 use vector::{Leading, add_scaled, exchange, find_leading};
 
@@ -39,7 +40,7 @@ impl Insertion<'_> {
         let block = &mut *self.block;
         let tail = &mut *self.tail;
         let k = hand.size;
-        let q = LAST_LANE - (k - 1) % LANES;
+        let q = pivot_row(k);
         let shift = (k - level[SIZES + q] as usize) / LANES;
         let size = level[TAIL_SIZES + q] as usize;
         let found = Leading {
@@ -50,7 +51,7 @@ impl Insertion<'_> {
         let rest = find_rest(block, left.size, left.leading, left.unseen, modulus);
         let minus = modulus.p - left.factor;
         // all words of its degrees, as in `take_multiple`
-        let words = (size + LAST_LANE) / LANES * LANES;
+        let words = size.next_multiple_of(LANES);
         add_tail(tail, shift, level, SLOT * q + BLOCK, words, minus);
         self.hand = Hand {
             size: rest.size,
@@ -71,7 +72,7 @@ impl Insertion<'_> {
         let block = &mut *self.block;
         let tail = &mut *self.tail;
         let k = hand.size;
-        let q = LAST_LANE - (k - 1) % LANES;
+        let q = pivot_row(k);
         let size = level[SIZES + q] as usize;
         let slot_tail = level[TAIL_SIZES + q] as usize;
         let hand_tail = find_leading(tail, hand.tail_size, modulus).size;

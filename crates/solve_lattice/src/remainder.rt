@@ -7,7 +7,8 @@ ghost use Rattle.solve_lattice.specs.Step.{HasMultiple};
 ghost use Rattle.solve_lattice.specs.Remainder.{WordFound, TakesWord, Reducing};
 
 use crate::moves::add_tail;
-use crate::room::{BLOCK, Block, INVERSES, LANES, LAST_LANE, Level, SIZES, SLOT, TAIL_SIZES, Tail};
+use crate::pivot::pivot_row;
+use crate::room::{BLOCK, Block, INVERSES, LANES, Level, SIZES, SLOT, TAIL_SIZES, Tail};
 use residue::modulus::Modulus;
 use vector::{Leading, add_scaled};
 
@@ -17,7 +18,7 @@ pub fn word_to_take(block: &Block, level: &Level, k: usize, modulus: Modulus) ->
     ensures { MatchOption result (WordFound modulus.p level.now block.now k 0)
         (λ value. (0 < value) × WordFound modulus.p level.now block.now k value) }
 {
-    let size = level[SIZES + (LAST_LANE - (k - 1) % LANES)] as usize;
+    let size = level[SIZES + pivot_row(k)] as usize;
     if size == 0 || k < size {
         return None;
     }
@@ -34,14 +35,14 @@ pub fn take_word(block: &mut Block, tail: &mut Tail, level: &Level, word: Leadin
         block.new tail.new }
 {
     let k = word.size;
-    let q = LAST_LANE - (k - 1) % LANES;
+    let q = pivot_row(k);
     let size = level[SIZES + q] as usize;
     let tail_size = level[TAIL_SIZES + q] as usize;
     let minus = modulus.p - modulus.mul(word.value, level[INVERSES + q]);
     // all words of their degrees, as in `take_multiple`
-    let words = (size + LAST_LANE) / LANES * LANES;
+    let words = size.next_multiple_of(LANES);
     add_scaled(block, k - size, level, SLOT * q, words, minus);
-    let tail_words = (tail_size + LAST_LANE) / LANES * LANES;
+    let tail_words = tail_size.next_multiple_of(LANES);
     add_tail(
         tail,
         (k - size) / LANES,

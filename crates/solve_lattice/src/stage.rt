@@ -1,5 +1,5 @@
 // Where an ascent stands.
-ghost use Rattle.std.specs.Prelude.{◌≤◌};
+ghost use Rattle.std.specs.Prelude.{◌≡◌, ◌<◌, ◌≤◌};
 ghost use Rattle.solve_lattice.specs.Room.{lanes};
 
 use residue::modulus::Modulus;
@@ -12,4 +12,17 @@ pub struct Stage {
     pub column: usize,
     pub modulus: Modulus,
     pub ghost within: { (rows ≤ lanes) × (columns ≤ lanes) },
+}
+
+impl Stage {
+    ghost use Rattle.solve_lattice.specs.Stage.{next_stage};
+
+    // Returns the stage with one more column in the level.
+    pub fn next_column(mut self) -> Stage
+        requires { self.column < self.columns }
+        ensures { result ≡ next_stage self }
+    {
+        self.column += 1;
+        self
+    }
 }

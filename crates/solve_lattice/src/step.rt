@@ -5,7 +5,8 @@ ghost use Rattle.vector.specs.Multiple.{sum_at};
 ghost use Rattle.solve_lattice.specs.Memory.{Sums};
 ghost use Rattle.solve_lattice.specs.Step.{HasStep, Takes, Rest, Left};
 
-use crate::room::{INVERSES, LANES, LAST_LANE, Level, SIZES, SLOT};
+use crate::pivot::pivot_row;
+use crate::room::{INVERSES, LANES, Level, SIZES, SLOT};
 use residue::modulus::Modulus;
 use vector::{Leading, add_scaled, find_leading_near};
 
@@ -63,12 +64,12 @@ pub fn take_multiple(block: &mut [u64], level: &Level, found: Leading, modulus: 
         block.new result }
 {
     let k = found.size;
-    let q = LAST_LANE - (k - 1) % LANES;
+    let q = pivot_row(k);
     let size = level[SIZES + q] as usize;
     let factor = modulus.mul(found.value, level[INVERSES + q]);
     let minus = modulus.p - factor;
     // all words of the slot's degrees: those behind its size are 0, and the loop has none left over from its vectors
-    let words = (size + LAST_LANE) / LANES * LANES;
+    let words = size.next_multiple_of(LANES);
     // in most cases the next leading word: with it before the loop, the processor works out the next factor during the loop
     let next = word_before(block, k - size, level, SLOT * q, size, minus, modulus);
     add_scaled(block, k - size, level, SLOT * q, words, minus);

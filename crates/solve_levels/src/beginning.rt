@@ -6,6 +6,7 @@ ghost use Rattle.solve_levels.specs.Begun.{begun};
 
 use residue::modulus::Modulus;
 use solve_lattice::{Block, Hand, Tail};
+use vector::Leading;
 
 // Makes the hand (column | 1): stores 1 in `tail`, which is 0. The first `size` words of `column` are those that count; it is the
 // hand's block as it stands. Returns what the hand is.
@@ -15,10 +16,6 @@ pub fn lay_hand(tail: &mut Tail, column: &Block, size: usize, modulus: Modulus) 
     ensures tail { tail.new ≡ set tail.old 0 1 }
     ensures hand { result ≡ begun modulus.p column.now size }
 {
-    tail[0] = 1;
-    Hand {
-        size,
-        leading: modulus.reduce(column[size.saturating_sub(1)]),
-        tail_size: 1,
-    }
+    let value = modulus.reduce(column[size.saturating_sub(1)]);
+    Hand::begin(tail, Leading { size, value })
 }

@@ -23,12 +23,7 @@ pub fn second_denominator(
     ensures { TailFound modulus.p (starting_memory level.old block.old found) w.new result }
 {
     let mut tail = [0u64; TAIL];
-    tail[0] = 1;
-    let hand = Hand {
-        size: found.size,
-        leading: found.value,
-        tail_size: 1,
-    };
+    let hand = Hand::begin(&mut tail, found);
     let mut work = Insertion {
         level,
         block,

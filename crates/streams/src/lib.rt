@@ -34,7 +34,7 @@ pub fn bytes_seen(length: usize) -> usize
     }
 }
 
-// Reads until `bytes` are full or the input ends.
+// Reads until `bytes` are full or the input ends. (The standard library's `read_exact` does not tell how many bytes came before the end.)
 pub fn read_start<R: Read>(bytes: &mut [u8], input: &mut R) -> io::Result<usize>
     ensures within { ReadWithin (length bytes.new) result }
     ensures start { ReadsStart (R.remaining input.old) (R.remaining input.new) bytes.new result }

@@ -1,24 +1,22 @@
 // The right side that an argument asks for.
-ghost use Rattle.std.specs.Prelude.{◌+◌, ◌-◌, ◌*◌, ◌≤◌, min, ◌≡◌};
-ghost use Rattle.streams.specs.Side.{zero_digit, number_written, most_side, at_most, side_said, SideWithin};
+ghost use Rattle.std.specs.Prelude.{◌+◌, ◌*◌, ◌≤◌, min, ◌≡◌};
+ghost use Rattle.streams.specs.Side.{number_written, most_side, at_most, side_said, SideWithin};
 
 use std::env::{Env, FillError};
 
 // Numbers from this one on are taken for it: no sheet has as many right sides.
 const MOST_SIDE: usize = 65535;
 
-// The greatest digit.
-const LAST_DIGIT: u8 = b'9';
-
 // Returns the number of which `value` are the first digits and `digit` is the next, or MOST_SIDE where that is less.
-fn next_value(value: usize, digit: u8) -> usize
-    requires { (value ≤ most_side) × (zero_digit ≤ digit) }
-    ensures { result ≡ min (10 * value + (digit - zero_digit)) most_side }
+fn next_value(value: usize, digit: u32) -> usize
+    requires { value ≤ most_side }
+    ensures { result ≡ min (10 * value + digit) most_side }
 {
-    (10 * value + (digit - b'0') as usize).min(MOST_SIDE)
+    (10 * value + digit as usize).min(MOST_SIDE)
 }
 
-// Reads the number that `argument` writes: digits, one or more.
+// Reads the number that `argument` writes: digits, one or more. (The standard library's `parse` takes a sign too, and fails where a
+// number is too large.)
 pub fn read_side(argument: &[u8]) -> Option<usize>
     ensures { side_said result ≡ at_most (number_written argument.now) }
 {
@@ -26,11 +24,9 @@ pub fn read_side(argument: &[u8]) -> Option<usize>
         return None;
     }
     let mut value: usize = 0;
-    for digit in argument {
-        if *digit < b'0' || LAST_DIGIT < *digit {
-            return None;
-        }
-        value = next_value(value, *digit);
+    for byte in argument {
+        let digit = char::from(*byte).to_digit(10)?;
+        value = next_value(value, digit);
     }
     Some(value)
 }

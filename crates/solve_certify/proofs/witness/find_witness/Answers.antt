@@ -27,10 +27,11 @@ returns-then-size-eq0 c =
 pub find_absence-requires-clause-stuck : goal.find_absence-requires-clause-stuck
 find_absence-requires-clause-stuck c =
     let some : 0 < c.insert_side-size.result = omega arith in
-    last_stuck c.insert_side-size.ensures c.requires.last some
+    rw c.pivot_row.ensures (last_stuck c.insert_side-size.ensures c.requires.last some)
 
 pub returns : goal.returns
 returns c =
     let S = c.requires in
     let some : 0 < c.insert_side-size.result = omega arith in
-    absence_witnessed c.insert_side-size.ensures (valid_stage c.args.stage).modulus.prime S.areas.0 some c.find_absence.ensures
+    absence_witnessed c.insert_side-size.ensures (valid_stage c.args.stage).modulus.prime S.areas.0 some
+    (rw c.pivot_row.ensures at c.find_absence.ensures)

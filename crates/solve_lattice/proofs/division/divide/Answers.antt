@@ -33,8 +33,8 @@ loop-found-init c =
 pub returns-then-size-eq0 : goal.returns-then-size-eq0
 returns-then-size-eq0 c =
     dividing_end c.args.modulus.valid.prime c.loop-found.invariant c.requires.level (inr (elim c.then-size-eq0.branch [
-      | then-size-eq0-via-then-size-eq0 w ↦ inl w.if-size-eq0.true
-      | then-size-eq0-via-else-size-eq0+then-k-size w ↦ inr w.if-k-size.true
+      | then-size-eq0-via-then-size-eq0 w ↦ inl (rw c.pivot_row-q.ensures at w.if-size-eq0.true)
+      | then-size-eq0-via-else-size-eq0+then-k-size w ↦ inr (rw c.pivot_row-q.ensures at w.if-k-size.true)
     ]))
 
 pub take_multiple-left-requires-clause-sums : goal.take_multiple-left-requires-clause-sums
@@ -46,15 +46,17 @@ pub add-requires : goal.add-requires
 add-requires c =
     let prime = c.args.modulus.valid.prime in
     let I = c.loop-found.invariant in
-    let filled = pos_of_ne-zero c.if-size-eq0.false in
-    let step = dividing_step prime I c.requires.level c.loop-found-test.true filled c.if-k-size.false in
+    let q = c.pivot_row-q.ensures in
+    let filled = pos_of_ne-zero (rw q at c.if-size-eq0.false) in
+    let step = dividing_step prime I c.requires.level c.loop-found-test.true filled (rw q at c.if-k-size.false) in
     (I.below _, Stepping.step_factor _ prime step.multiple _ c.take_multiple-left.ensures.factor)
 
 pub loop-found-preserved : goal.loop-found-preserved
 loop-found-preserved c =
     let prime = c.args.modulus.valid.prime in
     let I = c.loop-found.invariant in
-    let filled = pos_of_ne-zero c.if-size-eq0.false in
-    let step = dividing_step prime I c.requires.level c.loop-found-test.true filled c.if-k-size.false in
-    dividing_turn prime I step.multiple
-    (takes_left step.multiple.some c.take_multiple-left.ensures c.find_rest-found.ensures) _ c.add.ensures
+    let q = c.pivot_row-q.ensures in
+    let filled = pos_of_ne-zero (rw q at c.if-size-eq0.false) in
+    let step = dividing_step prime I c.requires.level c.loop-found-test.true filled (rw q at c.if-k-size.false) in
+    rw q (dividing_turn prime I step.multiple
+    (takes_left step.multiple.some c.take_multiple-left.ensures c.find_rest-found.ensures) _ (rw q at c.add.ensures))

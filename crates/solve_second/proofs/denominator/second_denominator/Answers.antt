@@ -14,3 +14,13 @@ make_monic-requires c =
     let p = c.args.modulus.p in
     let Q : List ℕ → Type 0 = λ t. ZeroFrom p t 0 tail_words most_coefficients × Sums p 0 t in
     record { tail = subst Q (search rules) (done.tail, tail_reducible done.valid) }
+
+pub invariant_of-work : goal.invariant_of-work
+invariant_of-work c = record { valid = rw (c.begin-hand.ensures.tail, c.begin-hand.ensures.hand) c.requires.memory }
+
+pub returns : goal.returns
+returns c = record {
+  after = _;
+  inserts = rw (c.begin-hand.ensures.tail, c.begin-hand.ensures.hand) at c.insert.ensures.inserts;
+  monic = search rules;
+}

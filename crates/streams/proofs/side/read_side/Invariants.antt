@@ -3,6 +3,6 @@ use Rattle.std.proofs.Common.{◌≡◌, ◌≤◌, drop}
 use Rattle.streams.specs.Side.{number_written, digits_from, most_side, at_most}
 use Rattle.streams.proofs.side.read_side.Given as goal
 
-abbrev pub invariant-loop-digit : goal.invariant-loop-digit
-invariant-loop-digit l =
-    (l.value ≤ most_side) × (at_most (number_written l.argument) ≡ at_most (digits_from l.value (drop l.digit-index l.argument)))
+abbrev pub invariant-loop-byte : goal.invariant-loop-byte
+invariant-loop-byte l =
+    (l.value ≤ most_side) × (at_most (number_written l.argument) ≡ at_most (digits_from l.value (drop l.byte-index l.argument)))

@@ -1,4 +1,4 @@
-use mathlib.Core.Path.{◌≡◌, sym, ap, ◌∙◌}
+use mathlib.Core.Path.{◌≡◌, ap, ◌∙◌}
 use mathlib.Core.Bool.{Bool, not}
 use mathlib.Core.List.{List}
 use Prim.Native.Nat.{ℕ, ◌+◌, ◌-◌, ◌<◌}
@@ -15,7 +15,7 @@ use Rattle.check_conditions.specs.Areas.{system_in_slots, certifying_denominator
 use Rattle.check_conditions.specs.Table.{column_wrong, try_columns}
 use Rattle.check_conditions.specs.Walk.{carried_words, carried_in, Carries, column_so_far_lem}
 use Rattle.check_conditions.specs.declared.dimensions.Dimensions.{Dimensions}
-use Rattle.check_conditions.proofs.FirstPlace.{passing_turn, passing_found, passing_end}
+use Rattle.std.proofs.iter.Serving.{serving}
 use Rattle.check_conditions.proofs.areas.SolutionAreas.try_columns.Goals as goal
 
 -- the remainder that is carried is that of the column
@@ -39,42 +39,24 @@ walk_columns-requires c =
       zeros = record { room = search rules; small = λ i. omega (arith, zeros_none carried_words i) };
     }
 
-pub leaves_remainder-requires : goal.leaves_remainder-requires
-leaves_remainder-requires c =
+pub refuse_first-requires : goal.refuse_first-requires
+refuse_first-requires c =
     let S = c in
     let D = S.args.self.now.dimensions in
-    let p : ℕ = D.modulus.p in
     let loaded = S.args.self.now.loaded.certificate in
     let walked = c.walk_columns.ensures in
     let is = c.coefficients_in-w.ensures in
-    let size = taken_size is (loaded.filled (D.columns + 1) (omega arith)) in record {
-      bounds = (omega (arith, size), omega (arith, c.loop-j-test.true, loaded.dimensions.columns));
-      reduced = (walked.carries.sums.room, walked.reduced);
-    }
-
-pub returns-then-leaves_remainder : goal.returns-then-leaves_remainder
-unfolding system_in_slots try_columns
-returns-then-leaves_remainder c =
-    let S = c in
-    let L = c.loop-j in
-    let taken = c.loop-j-test.true in
-    let walked = c.walk_columns in
-    let is = c.coefficients_in-w.ensures in
-    let called = tells S.args.self.now.dimensions S.args.self.now.system.now _ _ walked.new.carried is walked.ensures.carries _ taken
-    c.leaves_remainder.ensures in
-    passing_found L.invariant _ taken (sym called ∙ c.if-leaves_remainder.true)
-
-pub loop-j-preserved : goal.loop-j-preserved
-loop-j-preserved c =
-    let S = c in
-    let L = c.loop-j in
-    let taken = c.loop-j-test.true in
-    let walked = c.walk_columns in
-    let is = c.coefficients_in-w.ensures in
-    let called = tells S.args.self.now.dimensions S.args.self.now.system.now _ _ walked.new.carried is walked.ensures.carries _ taken
-    c.leaves_remainder.ensures in
-    passing_turn L.invariant taken (sym called ∙ c.if-leaves_remainder.false)
+    let size = taken_size is (loaded.filled (D.columns + 1) (omega arith)) in
+    let few = loaded.dimensions.columns in
+    let room = walked.carries.sums.room in
+    let reduced = walked.reduced in
+    grind (serving, arith, size, few, room, reduced)
 
 pub returns : goal.returns
 unfolding system_in_slots try_columns
-returns c = passing_end c.loop-j.invariant _ c.loop-j-test.false
+returns c =
+    let S = c in
+    let walked = c.walk_columns in
+    let is = c.coefficients_in-w.ensures in
+    c.refuse_first.ensures _ (λ j told lt post.
+    tells S.args.self.now.dimensions S.args.self.now.system.now _ _ walked.new.carried is walked.ensures.carries _ lt (search rules))

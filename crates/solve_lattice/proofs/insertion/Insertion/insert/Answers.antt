@@ -17,7 +17,7 @@ pub returns-then-self-q-eq0-clause-inserts : goal.returns-then-self-q-eq0-clause
 returns-then-self-q-eq0-clause-inserts c =
     let given = c.requires in
     inserting_end c.args.self.now.modulus.valid.prime c.args.self.now.valid given.starts c.loop-self.invariant.0
-    (λ some. c.if-self-q-eq0.true)
+    (λ some. rw c.pivot_row-q.ensures at c.if-self-q-eq0.true)
 
 pub turn-requires : goal.turn-requires
 turn-requires c =
@@ -26,7 +26,7 @@ turn-requires c =
     record {
       filled = subst P (sym c.loop-self.invariant.1.modulus)
           (inserting_on c.args.self.now.modulus.valid.prime c.args.self.now.valid given.starts c.loop-self.invariant.0 c.loop-self-test.true
-          (pos_of_ne-zero c.if-self-q-eq0.false));
+          (pos_of_ne-zero (rw c.pivot_row-q.ensures at c.if-self-q-eq0.false)));
     }
 
 pub loop-self-preserved : goal.loop-self-preserved

@@ -1,9 +1,9 @@
 -- The step on the block is that of `take_multiple`, and the same multiple is taken off the tail.
-use mathlib.Core.Path.{refl}
 use native.Mathlib.Nat.{le_of_lt, le_trans}
 use native.Mathlib.Omega.{arith}
 use Rattle.solve_lattice.specs.Sums.{sums_fewer}
 use Rattle.solve_lattice.specs.Step.{takes_left}
+use Rattle.solve_lattice.proofs.Stepping.{whole_degrees}
 use Rattle.solve_lattice.proofs.Taking
 use Rattle.solve_lattice.proofs.insertion.Insertion.take_from_hand.Goals as goal
 
@@ -22,18 +22,23 @@ add_tail-requires-clause-fits c =
     let valid = c.args.self.now.valid in
     let fits = c.requires.fits in
     let taken = takes_left fits.some c.take_multiple-left.ensures c.find_rest-rest.ensures in
-    λ j lt. Taking.taking_sum m.prime valid fits taken m.limit j
-    (le_trans lt (Taking.taking_fits m.prime valid fits taken _ refl))
+    let words = whole_degrees _ (rw c.pivot_row-q.ensures at c.next_multiple_of-words.ensures.value) in
+    λ j lt. rw c.pivot_row-q.ensures (Taking.taking_sum m.prime valid fits taken m.limit j
+    (le_trans lt (Taking.taking_fits m.prime valid fits taken _ words)))
 
 pub returns-clause-stepped : goal.returns-clause-stepped
 returns-clause-stepped c =
+    let q = c.pivot_row-q.ensures in
     Taking.taking_stepped c.args.self.now.modulus.valid.prime c.args.self.now.valid c.requires.fits
     (takes_left c.requires.fits.some c.take_multiple-left.ensures c.find_rest-rest.ensures)
-    _ refl _ c.add_tail.ensures _ c.max.ensures
+    _ (whole_degrees _ (rw q at c.next_multiple_of-words.ensures.value))
+    _ (rw q at c.add_tail.ensures) _ (rw q at c.max.ensures)
 
 pub invariant_of-self : goal.invariant_of-self
 invariant_of-self c =
+    let q = c.pivot_row-q.ensures in
     let done = Taking.taking_stepped c.args.self.now.modulus.valid.prime c.args.self.now.valid c.requires.fits
     (takes_left c.requires.fits.some c.take_multiple-left.ensures c.find_rest-rest.ensures)
-    _ refl _ c.add_tail.ensures _ c.max.ensures in
+    _ (whole_degrees _ (rw q at c.next_multiple_of-words.ensures.value))
+    _ (rw q at c.add_tail.ensures) _ (rw q at c.max.ensures) in
     record { valid = done.moved.valid }
