@@ -3,13 +3,15 @@ ghost use Rattle.std.specs.Prelude.{◌≡◌, ℕ, ◌+◌, ◌<◌, ◌≤◌,
 ghost use Rattle.modular.specs.Bits.{bound32, bound64};
 ghost use Rattle.vector.specs.Multiple.{sum_at};
 ghost use Rattle.vector.specs.Stored.{stored};
+ghost use Rattle.solve_lattice.specs.Memory.{memory, Valid};
 ghost use Rattle.solve_lattice.specs.Moves.{Fits, HasRoom, Stepped, Swapped};
 
 use crate::hand::Hand;
 use crate::insertion::Insertion;
 use crate::pivot::pivot_row;
-use crate::room::{BLOCK, INVERSES, LANES, SIZES, SLOT, TAIL_SIZES};
+use crate::room::{BLOCK, INVERSES, LANES, Level, SIZES, SLOT, TAIL_SIZES, Tail};
 use crate::step::{find_rest, take_multiple};
+use residue::modulus::Modulus;
 use vector::{Leading, add_scaled, exchange, find_leading};
 
 // Adds c times n words of s from a on to h from d on, by a call only where there are words: many slots have no tail.
@@ -24,6 +26,42 @@ pub fn add_tail(h: &mut [u64], d: usize, s: &[u64], a: usize, n: usize, c: u64)
     }
 }
 
+// Takes the multiple of the slot at the pivot off the hand, `block` and `tail`, that takes its leading word away. Returns what the
+// hand then is.
+pub fn take_from_hand(
+    block: &mut [u64],
+    tail: &mut Tail,
+    level: &Level,
+    hand: Hand,
+    modulus: Modulus,
+) -> Hand
+    requires memory { Valid modulus.p (memory level.now block.old tail.old hand) }
+    requires fits { Fits (memory level.now block.old tail.old hand) }
+    ensures { Stepped modulus.p
+        (memory level.now block.old tail.old hand)
+        (memory level.now block.new tail.new result) }
+{
+    let k = hand.size;
+    let q = pivot_row(k);
+    let shift = (k - level[SIZES + q] as usize) / LANES;
+    let size = level[TAIL_SIZES + q] as usize;
+    let found = Leading {
+        size: k,
+        value: hand.leading,
+    };
+    let left = take_multiple(block, level, found, modulus);
+    let rest = find_rest(block, left.size, left.leading, left.unseen, modulus);
+    let minus = modulus.p - left.factor;
+    // all words of its degrees, as in `take_multiple`
+    let words = size.next_multiple_of(LANES);
+    add_tail(tail, shift, level, SLOT * q + BLOCK, words, minus);
+    Hand {
+        size: rest.size,
+        leading: rest.value,
+        tail_size: hand.tail_size.max(shift + size),
+    }
+}
+
 impl Insertion<'_> {
     ghost use Rattle.solve_lattice.specs.References.{memory_of, SameReferences};
 
@@ -34,30 +72,7 @@ impl Insertion<'_> {
         ensures level { self.new.level.now ≡ self.old.level.now }
         ensures same { SameReferences self.old self.new }
     {
-        let hand = self.hand;
-        let modulus = self.modulus;
-        let level = &*self.level;
-        let block = &mut *self.block;
-        let tail = &mut *self.tail;
-        let k = hand.size;
-        let q = pivot_row(k);
-        let shift = (k - level[SIZES + q] as usize) / LANES;
-        let size = level[TAIL_SIZES + q] as usize;
-        let found = Leading {
-            size: k,
-            value: hand.leading,
-        };
-        let left = take_multiple(block, level, found, modulus);
-        let rest = find_rest(block, left.size, left.leading, left.unseen, modulus);
-        let minus = modulus.p - left.factor;
-        // all words of its degrees, as in `take_multiple`
-        let words = size.next_multiple_of(LANES);
-        add_tail(tail, shift, level, SLOT * q + BLOCK, words, minus);
-        self.hand = Hand {
-            size: rest.size,
-            leading: rest.value,
-            tail_size: hand.tail_size.max(shift + size),
-        };
+        self.hand = take_from_hand(self.block, self.tail, self.level, self.hand, self.modulus);
     }
 
     // Exchanges the hand with the slot at its pivot, which may be empty; reduces what goes into the slot.

@@ -1,44 +1,4 @@
--- The step on the block is that of `take_multiple`, and the same multiple is taken off the tail.
-use native.Mathlib.Nat.{le_of_lt, le_trans}
-use native.Mathlib.Omega.{arith}
-use Rattle.solve_lattice.specs.Sums.{sums_fewer}
-use Rattle.solve_lattice.specs.Step.{takes_left}
-use Rattle.solve_lattice.proofs.Stepping.{whole_degrees}
-use Rattle.solve_lattice.proofs.Taking
 use Rattle.solve_lattice.proofs.insertion.Insertion.take_from_hand.Goals as goal
 
-pub take_multiple-left-requires-clause-sums : goal.take_multiple-left-requires-clause-sums
-take_multiple-left-requires-clause-sums c =
-    sums_fewer _ c.args.self.now.block.now _ 1 (omega (arith, c.requires.fits.some)) c.args.self.now.valid.hand.sums
-
-pub overflow_sub-minus : goal.overflow_sub-minus
-overflow_sub-minus c =
-    le_of_lt (Taking.factor_below c.args.self.now.modulus.valid.prime c.args.self.now.valid c.requires.fits
-    (takes_left c.requires.fits.some c.take_multiple-left.ensures c.find_rest-rest.ensures))
-
-pub add_tail-requires-clause-fits : goal.add_tail-requires-clause-fits
-add_tail-requires-clause-fits c =
-    let m = c.args.self.now.modulus.valid in
-    let valid = c.args.self.now.valid in
-    let fits = c.requires.fits in
-    let taken = takes_left fits.some c.take_multiple-left.ensures c.find_rest-rest.ensures in
-    let words = whole_degrees _ (rw c.pivot_row-q.ensures at c.next_multiple_of-words.ensures.value) in
-    λ j lt. rw c.pivot_row-q.ensures (Taking.taking_sum m.prime valid fits taken m.limit j
-    (le_trans lt (Taking.taking_fits m.prime valid fits taken _ words)))
-
-pub returns-clause-stepped : goal.returns-clause-stepped
-returns-clause-stepped c =
-    let q = c.pivot_row-q.ensures in
-    Taking.taking_stepped c.args.self.now.modulus.valid.prime c.args.self.now.valid c.requires.fits
-    (takes_left c.requires.fits.some c.take_multiple-left.ensures c.find_rest-rest.ensures)
-    _ (whole_degrees _ (rw q at c.next_multiple_of-words.ensures.value))
-    _ (rw q at c.add_tail.ensures) _ (rw q at c.max.ensures)
-
 pub invariant_of-self : goal.invariant_of-self
-invariant_of-self c =
-    let q = c.pivot_row-q.ensures in
-    let done = Taking.taking_stepped c.args.self.now.modulus.valid.prime c.args.self.now.valid c.requires.fits
-    (takes_left c.requires.fits.some c.take_multiple-left.ensures c.find_rest-rest.ensures)
-    _ (whole_degrees _ (rw q at c.next_multiple_of-words.ensures.value))
-    _ (rw q at c.add_tail.ensures) _ (rw q at c.max.ensures) in
-    record { valid = done.moved.valid }
+invariant_of-self c = record { valid = c.take_from_hand-self.ensures.moved.valid }
