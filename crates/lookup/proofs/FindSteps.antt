@@ -18,7 +18,6 @@ use Rattle.words.specs.OutcomeLaws.{mapped_accepted, mapped_refused}
 use Rattle.words.proofs.FramedLaws.{systems_framed, certificate_framed, start_inside}
 use Rattle.lookup.proofs.LookupLaws.{lookup_system_refused, lookup_certificate_refused, lookup_read}
 use Rattle.std.specs.Prelude.{Result, Err}
-use Rattle.std.specs.declared.ops.Range.{Range}
 use Rattle.answers.specs.Answer.{reason_number}
 use Rattle.answers.specs.declared.answer.Refusal.{Refusal}
 
@@ -27,7 +26,7 @@ module _ (limits : Limits) (ss cs : List ℕ) (of : Of) (k : ℕ) where
   Told = polynomial_lookup limits ss cs of k
 
   -- a value of the code tells the part
-  abbrev pub Tells : Result (Range ℕ) Refusal → Type 0
+  abbrev pub Tells : Result (ℕ × ℕ) Refusal → Type 0
   Tells r = part_outcome r ≡ bounds_shown Told
 
   pub find_system_refused : (r : Refusal) → refused (reason_number r.reason) r.place ≡ mapped systems_head (read_systems limits ss)
@@ -81,5 +80,5 @@ module _ (limits : Limits) (ss cs : List ℕ) (of : Of) (k : ℕ) where
         pub find_inside : (ws : List ℕ) → ws ≡ on of ss cs → StartsInside ws
         find_inside ws e = rw e (inside_on of)
 
-        pub find_part : (ws : List ℕ) → ws ≡ on of ss cs → (r : Result (Range ℕ) Refusal) → part_outcome r ≡ part_in ws k → Tells r
+        pub find_part : (ws : List ℕ) → ws ≡ on of ss cs → (r : Result (ℕ × ℕ) Refusal) → part_outcome r ≡ part_in ws k → Tells r
         find_part ws e r found = found ∙ ap (λ v. part_in v k) e ∙ part_on of

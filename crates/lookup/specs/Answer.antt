@@ -4,7 +4,6 @@ use Rattle.std.specs.Prelude.{ℕ, Result}
 use Rattle.words.specs.Outcome.{Outcome}
 use Rattle.lookup.specs.Lookup.{Of}
 use Rattle.lookup.specs.Lookup.Of.{system, certificate}
-use Rattle.std.specs.declared.ops.Range.{Range}
 use Rattle.answers.specs.declared.answer.Of.{Of as OfValue}
 use Rattle.answers.specs.declared.answer.Of.TheVariants.{System, Certificate}
 use Rattle.answers.specs.declared.answer.Refusal.{Refusal}
@@ -15,5 +14,5 @@ of_asked System = system
 of_asked Certificate = certificate
 
 -- from one place up to before another, or why nowhere
-abbrev pub part_outcome : Result (Range ℕ) Refusal → Outcome (ℕ × ℕ)
-part_outcome = outcome (λ part. (part.start, part.end))
+abbrev pub part_outcome : Result (ℕ × ℕ) Refusal → Outcome (ℕ × ℕ)
+part_outcome = outcome (λ part. part)

@@ -16,7 +16,6 @@ use answers::Refusal;
 use limits::Limits;
 use reader::certificate::read_certificate;
 use reader::system::read_system;
-use std::ops::Range;
 
 // Borrows the words of the one that is asked for.
 fn words_on<'a>(of: Of, system: &'a [u32], certificate: &'a [u32]) -> &'a [u32]
@@ -29,15 +28,15 @@ fn words_on<'a>(of: Of, system: &'a [u32], certificate: &'a [u32]) -> &'a [u32]
     }
 }
 
-// Finds where polynomial `number` of the one that is asked for stands, from its start word to its last coefficient. Both are read
-// first.
+// Finds where polynomial `number` of the one that is asked for stands, from its start word up to behind its last coefficient. Both
+// are read first.
 pub fn lookup_part(
     system: &[u32],
     certificate: &[u32],
     of: Of,
     number: usize,
     limits: Limits,
-) -> Result<Range<usize>, Refusal>
+) -> Result<(usize, usize), Refusal>
     ensures { part_outcome result ≡
         bounds_shown
         (polynomial_lookup (limits_of limits) system.now certificate.now (of_asked of) number) }
@@ -61,7 +60,7 @@ pub fn lookup<'a>(
 {
     let words = words_on(of, system, certificate);
     match lookup_part(system, certificate, of, number, limits) {
-        Ok(part) => &words[part],
+        Ok((from, to)) => &words[from..to],
         Err(_) => &words[..0],
     }
 }

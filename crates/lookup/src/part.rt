@@ -7,7 +7,6 @@ ghost use Rattle.lookup.specs.Standing.{StartsInside, part_in};
 
 use answers::{Reason, Refusal};
 use read_frame::word::{kind_of, payload_of};
-use std::ops::Range;
 
 // Finds the place of the start word of polynomial `number`; behind the last polynomial that of the end word.
 fn start_of(words: &[u32], number: usize) -> usize
@@ -25,8 +24,8 @@ fn start_of(words: &[u32], number: usize) -> usize
     at
 }
 
-// Finds where polynomial `number` stands.
-pub fn part_of(words: &[u32], number: usize) -> Result<Range<usize>, Refusal>
+// Finds where polynomial `number` stands: from the first place up to before the second.
+pub fn part_of(words: &[u32], number: usize) -> Result<(usize, usize), Refusal>
     requires { StartsInside words.now }
     ensures { part_outcome result ≡ part_in words.now number }
 {
@@ -38,5 +37,5 @@ pub fn part_of(words: &[u32], number: usize) -> Result<Range<usize>, Refusal>
             place: 0,
         });
     }
-    Ok(from..from + 1 + payload_of(word) as usize)
+    Ok((from, from + 1 + payload_of(word) as usize))
 }

@@ -7,10 +7,10 @@ use std::io::Write;
 
 // Prints from where to where a polynomial stands, and its words.
 fn show<'a>(output: &mut Output, system: &'a [u32], certificate: &'a [u32], of: Of, number: usize) {
-    let Ok(part) = lookup_part(system, certificate, of, number, Office::limits()) else {
+    let Ok((from, to)) = lookup_part(system, certificate, of, number, Office::limits()) else {
         return;
     };
-    let _ = write!(output, "{} to {}: ", part.start, part.end);
+    let _ = write!(output, "{from} to {to}: ");
     words(
         output,
         lookup(system, certificate, of, number, Office::limits()),

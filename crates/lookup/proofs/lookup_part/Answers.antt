@@ -12,7 +12,9 @@ pub returns-in_err-head : goal.returns-in_err-head
 returns-in_err-head c =
     let a = c.args in
     let p = err_from_is_err_and c.from_residual.result c.from_residual.ensures.1 in
-    rw (p.1, p.2) (find_system_refused (limits_of a.limits) a.system.now a.certificate.now (of_asked a.of) a.number _ c.in_err-head.ensures)
+    rw (p.1, p.2)
+    (find_system_refused (limits_of a.limits) a.system.now a.certificate.now (of_asked a.of) a.number c.in_err-head.field-0.0
+    c.in_err-head.ensures)
 
 pub returns-in_err-read_certificate : goal.returns-in_err-read_certificate
 returns-in_err-read_certificate c =
@@ -21,7 +23,7 @@ returns-in_err-read_certificate c =
     let p = err_from_is_err_and r.result r.ensures.1 in
     rw (p.1, p.2)
     (find_certificate_refused (limits_of a.limits) a.system.now a.certificate.now (of_asked a.of) a.number
-    (head_of c.in_ok-head.head) c.in_ok-head.ensures _ c.in_err-read_certificate.ensures)
+    (head_of c.in_ok-head.head) c.in_ok-head.ensures c.in_err-read_certificate.field-0.0 c.in_err-read_certificate.ensures)
 
 pub part_of-requires : goal.part_of-requires
 part_of-requires c =
