@@ -57,6 +57,7 @@ reason_number reason.NotAKernel = 35
 reason_number reason.NoContradiction = 36
 reason_number reason.NoSuchSide = 40
 reason_number reason.BeyondPanel = 41
+reason_number (reason.Other other) = other.number
 
 -- ---- number and place
 

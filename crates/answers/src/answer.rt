@@ -1,8 +1,10 @@
-// A refusal of document 01's table. `specs/Answer.antt` gives the table's number for each reason, and what the answers of calls say.
+// A refusal: a row of document 01's table, or a caller's own number. `specs/Answer.antt` gives the number for each reason, and what the
+// answers of calls say.
 ghost use Rattle.std.specs.Prelude.{◌≡◌, Some};
 ghost use Rattle.answers.specs.Answer.{fault_number, by_of, numbered, reason_number, refusal_text};
 ghost use Rattle.answers.specs.declared.answer.Reason.TheVariants.{Words};
 
+use crate::other::OtherNumber;
 use std::fmt;
 
 // Of which of the two something is said.
@@ -23,7 +25,8 @@ pub enum Fault {
     BadEnd,
 }
 
-// Why something is turned back: the rows of document 01's table. docs/REFUSALS.md has a sentence for each.
+// Why something is turned back: the rows of document 01's table, for each of which docs/REFUSALS.md has a sentence, or a number of a
+// caller's own, with which no call here refuses.
 #[derive(Clone, Copy, Debug, PartialEq, Eq)]
 pub enum Reason {
     BadSystemHead,
@@ -43,6 +46,7 @@ pub enum Reason {
     NoContradiction,
     NoSuchSide,
     BeyondPanel,
+    Other(OtherNumber),
 }
 
 // A fault, and the place of the word.
@@ -121,6 +125,47 @@ impl Reason {
             Reason::NoContradiction => 36,
             Reason::NoSuchSide => 40,
             Reason::BeyondPanel => 41,
+            Reason::Other(other) => other.number,
+        }
+    }
+}
+
+impl From<u8> for Reason {
+    ghost from_gives = { λ number reason. reason_number reason ≡ number };
+
+    // Returns the row that has a number, or the number alone where none has it.
+    fn from(number: u8) -> Reason {
+        match number {
+            1 => Reason::BadSystemHead,
+            2 => Reason::NotPrime,
+            3 => Reason::BadShape,
+            4 => Reason::Words(Of::System, Fault::EndsEarly),
+            5 => Reason::Words(Of::System, Fault::WrongKind),
+            6 => Reason::Words(Of::System, Fault::TooManyCoefficients),
+            7 => Reason::Words(Of::System, Fault::CoefficientTooLarge),
+            8 => Reason::Words(Of::System, Fault::LastCoefficientZero),
+            9 => Reason::Words(Of::System, Fault::BadEnd),
+            10 => Reason::BadFileLength,
+            11 => Reason::SpaceShort,
+            12 => Reason::NoSuchPolynomial,
+            21 => Reason::BadCertificateHead,
+            24 => Reason::Words(Of::Certificate, Fault::EndsEarly),
+            25 => Reason::Words(Of::Certificate, Fault::WrongKind),
+            26 => Reason::Words(Of::Certificate, Fault::TooManyCoefficients),
+            27 => Reason::Words(Of::Certificate, Fault::CoefficientTooLarge),
+            28 => Reason::Words(Of::Certificate, Fault::LastCoefficientZero),
+            29 => Reason::Words(Of::Certificate, Fault::BadEnd),
+            31 => Reason::NotMonic,
+            32 => Reason::NotASolution,
+            33 => Reason::ColumnNotDivisible,
+            34 => Reason::DenominatorsDiffer,
+            35 => Reason::NotAKernel,
+            36 => Reason::NoContradiction,
+            40 => Reason::NoSuchSide,
+            41 => Reason::BeyondPanel,
+            0 | 13..=20 | 22..=23 | 30 | 37..=39 | 42..=255 => Reason::Other(OtherNumber {
+                number,
+            }),
         }
     }
 }

@@ -5,10 +5,12 @@
 pub mod answer;
 pub mod head;
 pub mod number;
+pub mod other;
 pub mod packed;
 pub mod shape;
 pub mod version;
 pub mod word;
 
 pub use answer::{Fault, Misread, Of, Reason, Refusal};
+pub use other::OtherNumber;
 pub use shape::{Form, Head, Shape};

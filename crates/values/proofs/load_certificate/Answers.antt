@@ -9,7 +9,8 @@ use Rattle.values.proofs.load_certificate.Goals as goal
 
 pub returns-in_err-try_shape : goal.returns-in_err-try_shape
 returns-in_err-try_shape c =
-    let l = shape_refused (shape_of c.args.shape) c.args.words.now c.args.sizes.now c.args.values.now _ c.in_err-try_shape.ensures in
+    let l = shape_refused (shape_of c.args.shape) c.args.words.now c.args.sizes.now c.args.values.now c.in_err-try_shape.field-0.0
+    c.in_err-try_shape.ensures in
     search rules
 
 pub returns-in_err-form : goal.returns-in_err-form

@@ -13,8 +13,8 @@ use Rattle.writer.proofs.values.write_shaped.Goals as goal
 pub returns-in_err-try_shape : goal.returns-in_err-try_shape
 returns-in_err-try_shape c =
     let h = shape_with c.args.modulus c.args.rows c.args.columns in
-    let w = shape_refused office h (format_of office h c.args.kind) c.args.sizes.now c.args.coefficients.now c.args.words.now _
-    c.in_err-try_shape.ensures in
+    let w = shape_refused office h (format_of office h c.args.kind) c.args.sizes.now c.args.coefficients.now c.args.words.now
+    c.in_err-try_shape.field-0.0 c.in_err-try_shape.ensures in
     search rules
 
 pub format_for-format-requires : goal.format_for-format-requires

@@ -5,7 +5,8 @@ use Rattle.writer.proofs.values.write_values.Goals as goal
 
 pub returns-in_err-try_polynomials : goal.returns-in_err-try_polynomials
 returns-in_err-try_polynomials c =
-    let w = values_refused c.args.polynomials.format _ _ _ c.args.words.now _ c.in_err-try_polynomials.ensures in
+    let w = values_refused c.args.polynomials.format _ _ _ c.args.words.now c.in_err-try_polynomials.field-0.0
+    c.in_err-try_polynomials.ensures in
     search rules
 
 pub returns-then-words-polynomials : goal.returns-then-words-polynomials
