@@ -11,6 +11,7 @@ ghost use Rattle.linksolve.specs.declared.Unsolved.TheVariants.{Refused};
 
 use answers::Refusal;
 use limits::Office;
+use report_text::{SPACE, write_refusal};
 use solver::file::solve_file;
 use std::io;
 use std::io::{IsTerminal, Write};
@@ -33,9 +34,12 @@ impl From<Refusal> for Unsolved {
     }
 }
 
-// Prints a refusal on standard error, as the report does.
+// Prints a refusal on standard error, as the report does. The line is written whole: `writeln!` would write each of its parts by
+// itself.
 fn refuse<E: Write>(errors: &mut E, refusal: Refusal) {
-    let _ = writeln!(errors, "{refusal}");
+    let mut line = [0u8; SPACE];
+    let n = write_refusal(&mut line, refusal);
+    say(errors, &line[..n]);
 }
 
 // Writes a certificate to standard output, but to no terminal.
