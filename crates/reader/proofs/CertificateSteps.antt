@@ -3,7 +3,7 @@ use mathlib.Core.Path.{◌≡◌, refl, sym, ap, ◌∙◌}
 use mathlib.Core.List.{List}
 use Prim.Native.Nat.{ℕ, ◌+◌, ◌≤◌}
 use native.Mathlib.Omega.{arith}
-use lib.ListN.{length, drop}
+use lib.ListN.{length, drop, length-drop}
 use Rattle.words.specs.Limits.{Limits}
 use Rattle.words.specs.Outcome.{Outcome, mapped}
 use Rattle.words.specs.Outcome.Outcome.{accepted, refused}
@@ -15,6 +15,7 @@ use Rattle.words.specs.Certificate.{Form, certificate_form, certificate_head_fro
 use Rattle.words.specs.Certificate.{certificate_of, certificate_from, read_certificate}
 use Rattle.words.specs.Certificate.Form.{solving, absent}
 use Rattle.words.proofs.CertificateLaws.{certificate_from_shown, form_read}
+use Rattle.words.proofs.ForwardLaws.{forward_more, body_forward, forward_refused}
 use Rattle.read_frame.specs.Due.{due_of}
 use Rattle.reader.proofs.FrameSteps.{mapped_outcome, OfFrame, OfBody, frame_head_refused, frame_some, frame_body_refused}
 use Rattle.reader.proofs.FrameSteps.{frame_read}
@@ -59,9 +60,15 @@ module _ (limits : Limits) (h : Shape) (ws : List ℕ) where
           ap (λ (n : ℕ). words_used (length ws) (body_from (due_of h.modulus limits.certificate_coefficients n) (length ws)
           (drop 1 ws))) counted
 
-      pub certificate_body_refused : (number place : ℕ) → refused number place ≡ OfEntries → OfCertificate ≡ refused (number + 20) place
+      pub certificate_body_refused : (number place : ℕ) → refused number place ≡ OfEntries
+          → (number ≤ 9) × (OfCertificate ≡ refused (number + 20) place)
       certificate_body_refused number place t =
-          shown ∙ frame_body_refused 20 certificate_head_from (certificate_due limits h) ws one_word form told number place (t ∙ same)
+          let due = due_of h.modulus limits.certificate_coefficients count in
+          let f = forward_more (length ws) (omega (arith, length-drop 1 ws)) (body_forward due (length ws) (drop 1 ws)) in (
+            (forward_refused (length ws) (body_from due (length ws) (drop 1 ws)) number place f t).0,
+            shown ∙ frame_body_refused 20 certificate_head_from (certificate_due limits h) ws one_word form told number place
+                (t ∙ same),
+          )
 
       pub certificate_read : (used : ℕ) → accepted used ≡ OfEntries → OfCertificate ≡ accepted form
       certificate_read used t =

@@ -10,6 +10,7 @@ use Rattle.answers.specs.declared.answer.Refusal.{Refusal}
 use Rattle.answers.specs.Answer.{reason_number, refused_by}
 use Rattle.report_text.specs.declared.text.Text.{Text}
 use Rattle.report_text.specs.Ascii.{ascii}
+use Rattle.report_text.specs.Decimal.{decimal}
 use Rattle.report_text.specs.Text.{report_text}
 use Rattle.report_text.specs.Longest.{report_space, ReportWithin}
 use Rattle.report_text.proofs.LongestLaws.{report_fits}
@@ -24,10 +25,10 @@ module _ (n : ℕ) (r : Refusal) (number : n ≡ reason_number r.reason) (few : 
   fits out room = le_trans (report_fits (refused_by r) (omega (arith, number), omega arith)) room
 
   start : (out : List ℕ) (text : Text) → report_space ≤ length out → text.bytes.now ≡ out → text.length ≡ 0
-      → Due (report_text (refused_by r)) text (parts_three (ascii "refused") n (ascii "at") r.place) text
+      → Due (report_text (refused_by r)) text (parts_three (ascii "refused") (decimal n) (ascii "at") (decimal r.place)) text
   unfolding report_text
   start out text room first none =
-      due_all _ (rw number (line_three (ascii "refused") (reason_number r.reason) (ascii "at") r.place))
+      due_all _ (rw number (line_three (ascii "refused") (decimal (reason_number r.reason)) (ascii "at") (decimal r.place)))
       (rw (first, none, zero-add) (fits out room))
 
 pub append_labelled-requires : goal.append_labelled-requires

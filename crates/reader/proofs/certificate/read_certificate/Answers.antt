@@ -26,8 +26,8 @@ returns-in_err-map_err c =
     let place : c.in_err-map_err.field-0.0.place ≡ t.0.place = search rules in
     ap certificate_outcome (passed_on _ c.in_err-map_err.field-0.0 c.from_residual-in_err-map_err.ensures.1)
     ∙ told_of Certificate c.in_err-map_err.field-0.0 t.0 reason place
-    ∙ sym (certificate_body_refused (limits_of c.args.limits) (shape_of c.args.shape) _ (form_of c.in_ok-form.form)
-    c.in_ok-form.ensures _ c.entry_count-count.ensures _ _ (sym (ap used_outcome t.1) ∙ c.read_body-body.ensures))
+    ∙ sym ((certificate_body_refused (limits_of c.args.limits) (shape_of c.args.shape) _ (form_of c.in_ok-form.form)
+    c.in_ok-form.ensures _ c.entry_count-count.ensures _ _ (sym (ap used_outcome t.1) ∙ c.read_body-body.ensures)).1)
 
 pub returns : goal.returns
 returns c =

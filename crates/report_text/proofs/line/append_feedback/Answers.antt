@@ -8,6 +8,7 @@ use Rattle.modular.specs.Delay.{delay, feedback}
 use Rattle.modular.proofs.DelayLaws.{length_undelayed}
 use Rattle.report_text.specs.declared.text.Text.{Text}
 use Rattle.report_text.specs.Ascii.{ascii}
+use Rattle.report_text.specs.Decimal.{decimal}
 use Rattle.report_text.specs.Text.{feedback_line}
 use Rattle.report_text.specs.Grown.{Room}
 use Rattle.report_text.proofs.Due.{Due, due_all, due_room, due_next, due_none}
@@ -16,11 +17,11 @@ use Rattle.report_text.proofs.line.append_feedback.Goals as goal
 
 -- n is the number of the coefficients behind the factors x, less one
 start : (d : List ℕ) (text : Text) (n k : ℕ) → k ≡ delay d → n ≡ length d - k - 1 → Room (feedback_line (feedback d) (delay d)) text
-    → Due (feedback_line (feedback d) (delay d)) text (parts_three (ascii "feedback") n (ascii "delay") k) text
+    → Due (feedback_line (feedback d) (delay d)) text (parts_three (ascii "feedback") (decimal n) (ascii "delay") (decimal k)) text
 unfolding feedback_line feedback
 start d text n k e f room =
     let same : n ≡ feedback d = omega (arith, e, f, length_undelayed d) in
-    due_all _ (rw (e, same) (line_three (ascii "feedback") (feedback d) (ascii "delay") (delay d))) room
+    due_all _ (rw (e, same) (line_three (ascii "feedback") (decimal (feedback d)) (ascii "delay") (decimal (delay d)))) room
 
 -- there are no more factors x than coefficients
 pub overflow_sub-d : goal.overflow_sub-d
