@@ -3,6 +3,7 @@ ghost use Rattle.std.specs.Prelude.{◌≡◌, ◌+◌, ◌%◌, ◌≤◌, leng
 ghost use Rattle.vector.specs.Bound.{Reducible};
 ghost use Rattle.vector.specs.Stored.{stored};
 
+use crate::each::store_each;
 use residue::modulus::Modulus;
 
 // Reduces h[j] modulo p for j below n.
@@ -29,7 +30,8 @@ pub fn copy(h: &mut [u64], d: usize, s: &[u64], a: usize, n: usize)
     requires { (d + n ≤ length h.old) × (a + n ≤ length s.now) }
     ensures { h.new ≡ stored (λ j. get_or s.now (a + j) 0) h.old d n }
 {
-    h[d..d + n].copy_from_slice(&s[a..a + n]);
+    // not by copy_from_slice, for which an archive for C needs `memmove`
+    store_each(h, d, n, |j| s[a + j]);
 }
 
 // Exchanges h[j] and s[a + j] for j below n; reduces what goes into s.
