@@ -13,10 +13,10 @@ use Rattle.residue.specs.Barrett.{BarrettStep}
 use Rattle.residue.proofs.Remainder.{sub_mul_mod}
 
 -- the most that shift, s and x / s are
-abbrev most_shift : ℕ
+abbrev pub most_shift : ℕ
 most_shift = 14
 
-abbrev most_scale : ℕ
+abbrev pub most_scale : ℕ
 most_scale = 16384
 
 abbrev most_shifted : ℕ
