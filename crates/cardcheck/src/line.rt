@@ -12,7 +12,7 @@ use streams::bytes_seen;
 use verifier::file::check_files;
 
 // Writes the line of the verdict on two files, of which the starts and the lengths are given, for right side `side`. Returns its
-// length. Stays a call: in `main` its areas would take stack while files are read too.
+// length. Not inlined: in `main` the arrays of the check would take stack while the files are read, too.
 #[inline(never)]
 pub fn judge(
     line: &mut [u8],

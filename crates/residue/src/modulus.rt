@@ -27,7 +27,7 @@ impl Modulus {
         ensures { result.p ≡ p }
     {
         let shift = p.ilog2() - 1;
-        let scale = 1 << shift;
+        let scale: u64 = 1 << shift;
         Modulus {
             p,
             shift,
